@@ -1,0 +1,3 @@
+pub mod Known
+mod Reading
+mod Written

@@ -1,0 +1,5 @@
+pub mod Texts
+pub mod Serving
+pub mod Writing
+pub mod Headline
+pub mod Books

@@ -1,0 +1,22 @@
+-- Text that is written in pieces through a buffer.
+use Rattle.std.specs.Prelude.{◌≡◌, ℕ, List, ◌++◌, Option}
+use Rattle.std.specs.Io.KnownBytes.{Appends}
+use Rattle.bureau_edge.specs.Streams.{AppendsPart}
+
+-- a text went through the buffer: what was in it and the text are what the sink took and what is in it now
+pub record Passes (held_old held_new : Option (List ℕ)) (old new text : List ℕ) : Type 0 where
+  pub taken : List ℕ
+  pub split : old ++ text ≡ taken ++ new
+  pub appended : Appends held_old held_new taken
+
+-- the status is the due one and the sink took its text, or it is 4 and the sink took some first bytes of the text
+pub data IsWritten (held_old held_new : Option (List ℕ)) (due : ℕ) (text : List ℕ) : ℕ → Type 0 where
+  whole : Appends held_old held_new text → IsWritten held_old held_new due text due
+  broken : AppendsPart held_old held_new text → IsWritten held_old held_new due text 4
+
+-- a status and a text were due for some reason, and were written
+pub record Wrote (IsDue : ℕ → List ℕ → Type 0) (held_old held_new : Option (List ℕ)) (status : ℕ) : Type 0 where
+  pub due : ℕ
+  pub text : List ℕ
+  pub is_due : IsDue due text
+  pub is_written : IsWritten held_old held_new due text status

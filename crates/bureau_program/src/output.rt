@@ -1,0 +1,156 @@
+//! Output in pieces: text goes through a buffer of 65,536 bytes to the sink.
+ghost use Rattle.std.specs.Prelude.{◌≡◌, ◌+◌, ◌≤◌, [], ◌++◌, true, All, IfOk, OnOk, OnErr, vec_len, vec_capacity, length};
+ghost use Rattle.std.specs.Io.KnownBytes.{Appends};
+ghost use Rattle.std.specs.List.{flat_map};
+ghost use Rattle.bureau_edge.specs.Causes.{HasCause};
+ghost use Rattle.bureau_edge.specs.Streams.{AppendsPart};
+ghost use Rattle.claim_history.specs.Acts.{is_valid};
+ghost use Rattle.bureau_program.specs.Texts.{entry_line};
+ghost use Rattle.bureau_program.specs.Serving.{unserved_line, unserved_text, printed_of};
+ghost use Rattle.bureau_program.specs.Writing.{Passes};
+
+use crate::entry_text::write_entry;
+use crate::fault_text::write_memory_line;
+use bureau_edge::{Failed, Sink, write_all};
+use claim_history::Entry;
+use request_text::Request;
+use std::alloc::{AllocError, Global};
+
+/// The bytes of the buffer.
+const OUTPUT_BYTES: usize = 65_536;
+
+/// The bytes that one line takes at most.
+const LINE_BYTES: usize = 200;
+
+/// An empty buffer.
+pub fn output_buffer(alloc: Global) -> Result<Vec<u8>, AllocError>
+    ensures empty { IfOk result (λ buffer. buffer.items ≡ []) }
+    ensures len { IfOk result (λ buffer. vec_len buffer ≡ 0) }
+    ensures room { IfOk result (λ buffer. 65536 ≤ vec_capacity buffer) }
+{
+    Vec::with_capacity(alloc, OUTPUT_BYTES)
+}
+
+/// Writes what is in the buffer, and empties it.
+pub fn flush<K: Sink>(sink: &mut K, buffer: &mut Vec<u8>) -> Result<(), Failed>
+    ensures ok { OnOk result (Passes (K.held sink.old) (K.held sink.new) buffer.old.items buffer.new.items []) }
+    ensures empty { OnOk result (vec_len buffer.new ≡ 0) }
+    ensures part { OnErr result (AppendsPart (K.held sink.old) (K.held sink.new) buffer.old.items) }
+    ensures cause { HasCause (K.faults sink.old) (K.faults sink.new) result }
+    ensures room { vec_capacity buffer.old ≤ vec_capacity buffer.new }
+{
+    write_all(sink, buffer.as_slice())?;
+    buffer.clear();
+    Ok(())
+}
+
+// Makes room for a line.
+fn make_room<K: Sink>(sink: &mut K, buffer: &mut Vec<u8>) -> Result<(), Failed>
+    requires { 65536 ≤ vec_capacity buffer.old }
+    ensures ok { OnOk result (Passes (K.held sink.old) (K.held sink.new) buffer.old.items buffer.new.items []) }
+    ensures spare { OnOk result (vec_len buffer.new + 200 ≤ vec_capacity buffer.new) }
+    ensures part { OnErr result (AppendsPart (K.held sink.old) (K.held sink.new) buffer.old.items) }
+    ensures cause { HasCause (K.faults sink.old) (K.faults sink.new) result }
+    ensures room { 65536 ≤ vec_capacity buffer.new }
+{
+    if buffer.len() <= OUTPUT_BYTES - LINE_BYTES {
+        return Ok(());
+    }
+    flush(sink, buffer)
+}
+
+// Prints the line of an entry.
+fn print_entry<K: Sink>(sink: &mut K, buffer: &mut Vec<u8>, entry: &Entry) -> Result<(), Failed>
+    requires valid { is_valid entry.now.act ≡ true }
+    requires spare { 65536 ≤ vec_capacity buffer.old }
+    ensures ok { OnOk result (Passes (K.held sink.old) (K.held sink.new) buffer.old.items buffer.new.items (entry_line entry.now)) }
+    ensures part { OnErr result (AppendsPart (K.held sink.old) (K.held sink.new) (buffer.old.items ++ entry_line entry.now)) }
+    ensures cause { HasCause (K.faults sink.old) (K.faults sink.new) result }
+    ensures room { 65536 ≤ vec_capacity buffer.new }
+{
+    make_room(sink, buffer)?;
+    write_entry(buffer, entry);
+    Ok(())
+}
+
+// Prints the lines of entries.
+fn print_entries<K: Sink>(
+    sink: &mut K,
+    buffer: &mut Vec<u8>,
+    history: &[Entry],
+) -> Result<(), Failed>
+    requires valid { All (λ e. is_valid e.act ≡ true) history.now }
+    requires spare { 65536 ≤ vec_capacity buffer.old }
+    ensures ok { OnOk result (Passes (K.held sink.old) (K.held sink.new) buffer.old.items buffer.new.items (flat_map entry_line history.now)) }
+    ensures part { OnErr result (AppendsPart (K.held sink.old) (K.held sink.new) (buffer.old.items ++ flat_map entry_line history.now)) }
+    ensures cause { HasCause (K.faults sink.old) (K.faults sink.new) result }
+    ensures room { 65536 ≤ vec_capacity buffer.new }
+{
+    for entry in history {
+        print_entry(sink, buffer, entry)?;
+    }
+    Ok(())
+}
+
+// Prints the line of a request that was not served, and nothing for one that was.
+fn print_unserved<K: Sink>(
+    sink: &mut K,
+    buffer: &mut Vec<u8>,
+    request: &Request,
+    mark: bool,
+) -> Result<(), Failed>
+    requires { 65536 ≤ vec_capacity buffer.old }
+    ensures ok { OnOk result (Passes (K.held sink.old) (K.held sink.new) buffer.old.items buffer.new.items (unserved_line request.now mark)) }
+    ensures part { OnErr result (AppendsPart (K.held sink.old) (K.held sink.new) (buffer.old.items ++ unserved_line request.now mark)) }
+    ensures cause { HasCause (K.faults sink.old) (K.faults sink.new) result }
+    ensures room { 65536 ≤ vec_capacity buffer.new }
+{
+    if mark {
+        return Ok(());
+    }
+    make_room(sink, buffer)?;
+    write_memory_line(buffer, request.line);
+    Ok(())
+}
+
+// Prints the lines of the requests that were not served.
+fn print_all_unserved<K: Sink>(
+    sink: &mut K,
+    buffer: &mut Vec<u8>,
+    requests: &[Request],
+    marks: &[bool],
+) -> Result<(), Failed>
+    requires marked { length requests.now ≡ length marks.now }
+    requires spare { 65536 ≤ vec_capacity buffer.old }
+    ensures ok { OnOk result (Passes (K.held sink.old) (K.held sink.new) buffer.old.items buffer.new.items (unserved_text requests.now marks.now)) }
+    ensures part { OnErr result (AppendsPart (K.held sink.old) (K.held sink.new) (buffer.old.items ++ unserved_text requests.now marks.now)) }
+    ensures cause { HasCause (K.faults sink.old) (K.faults sink.new) result }
+{
+    for i in 0..requests.len() {
+        print_unserved(sink, buffer, &requests[i], marks[i])?;
+    }
+    Ok(())
+}
+
+/// Prints the entries of a history, and then a line for each request that was not served.
+///
+/// The buffer is empty at first, and has room for 65,536 bytes. After a failure the sink has some first bytes of the text.
+pub fn print_run<K: Sink>(
+    sink: &mut K,
+    buffer: &mut Vec<u8>,
+    history: &[Entry],
+    requests: &[Request],
+    marks: &[bool],
+) -> Result<(), Failed>
+    requires valid { All (λ e. is_valid e.act ≡ true) history.now }
+    requires marked { length requests.now ≡ length marks.now }
+    requires empty { buffer.old.items ≡ [] }
+    requires spare { 65536 ≤ vec_capacity buffer.old }
+    ensures ok { OnOk result (Appends (K.held sink.old) (K.held sink.new) (printed_of requests.now marks.now history.now)) }
+    ensures part { OnErr result (AppendsPart (K.held sink.old) (K.held sink.new) (printed_of requests.now marks.now history.now)) }
+    ensures cause { HasCause (K.faults sink.old) (K.faults sink.new) result }
+{
+    print_entries(sink, buffer, history)?;
+    print_all_unserved(sink, buffer, requests, marks)?;
+    flush(sink, buffer)
+}

@@ -1,0 +1,92 @@
+use crate::top::bureau;
+use bureau_edge::{BytesSink, BytesSource, SureSource};
+use std::alloc::{AllocError, Global};
+use std::test::Fail;
+
+const FOUR_LINES: &[u8] =
+    b"1 FIRM A\n1 FIRM B\r\n1 FILE B I-1 A 10.00 2025-01-31\n1 CONFIRM B I-1 A";
+
+const FOUR_ENTRIES: &[u8] =
+    b"1 FIRM A = ok\n1 FIRM B = ok\n1 FILE B I-1 A 10.00 2025-01-31 = ok\n1 CONFIRM B I-1 A = ok\n";
+
+fn words_of(alloc: Global, texts: &[&str]) -> Result<Vec<String>, AllocError> {
+    let mut words = Vec::new(alloc);
+    for text in texts {
+        words.push(String::from_str(alloc, text)?)?;
+    }
+    Ok(words)
+}
+
+#[test]
+fn runs(rt: HostRuntime) -> Result<(), Fail> {
+    let cases: [(&[&str], &[u8], u8, &[u8]); 12] = [
+        (&["run"], FOUR_LINES, 0, FOUR_ENTRIES),
+        (&["run"], b"", 0, b""),
+        (&["run", "now"], b"1 FIRM A\n", 2, b"fault words\n"),
+        (&[], b"1 FIRM A\n", 2, b"fault words\n"),
+        (&["RUN"], b"", 2, b"fault words\n"),
+        (
+            &["run"],
+            b"1 FILE B I-1 A 0.00 2025-01-31",
+            6,
+            b"fault line 1 field 4\n",
+        ),
+        (
+            &["run"],
+            b"1 FILE B I-1 A 01.00 2025-01-31",
+            6,
+            b"fault line 1 field 4\n",
+        ),
+        (&["run"], b"1 FIRM A\n\n", 6, b"fault line 2 lane\n"),
+        (&["run"], b"1  FIRM A\n", 6, b"fault line 1 verb\n"),
+        (&["run"], b"1 FIRM A\r", 6, b"fault line 1 field 1\n"),
+        (
+            &["run"],
+            b"1 FIRM A\n1 FUND A 1.00\n",
+            6,
+            b"fault line 2 verb\n",
+        ),
+        (
+            &["run"],
+            b"1 FIRM A\n1 FIRM A\n1 FIRM B\n1 FILE B I A 1.00 2025-01-31\n1 FILE C I A 1.00 2025-01-31\n1 FILE A J A 1.00 2025-01-31\n1 FILE B I A 2.00 2025-01-31\n1 CONFIRM A I A\n1 CONFIRM B I B\n1 CONFIRM B I A\n1 CONFIRM B I A\n",
+            0,
+            b"1 FIRM A = ok\n1 FIRM A = refused 1 firm-exists\n1 FIRM B = ok\n1 FILE B I A 1.00 2025-01-31 = ok\n1 FILE C I A 1.00 2025-01-31 = refused 3 unknown-firm\n1 FILE A J A 1.00 2025-01-31 = refused 4 same-firm\n1 FILE B I A 2.00 2025-01-31 = refused 5 claim-exists\n1 CONFIRM A I A = refused 7 unknown-claim\n1 CONFIRM B I B = refused 8 not-debtor\n1 CONFIRM B I A = ok\n1 CONFIRM B I A = refused 9 wrong-state\n",
+        ),
+    ];
+    for (texts, input, status, output) in cases {
+        let source = SureSource::new(Vec::from_slice(rt.alloc(), input)?);
+        let sink = BytesSink::new(rt.alloc(), Vec::new(rt.alloc()));
+        let ended = bureau(&rt, rt.alloc(), words_of(rt.alloc(), texts)?, source, sink);
+        assert!(rt; ended.status == status);
+        assert!(rt; ended.sink.bytes() == output);
+    }
+    Ok(())
+}
+
+// The source is called twice, and the sink once: the output is shorter than its buffer.
+#[test]
+fn a_failing_call(rt: HostRuntime) -> Result<(), Fail> {
+    let cases: [(u64, u64, u8, &[u8]); 6] = [
+        (1, 0, 3, b"fault read\n"),
+        (2, 0, 3, b"fault read\n"),
+        (3, 0, 0, FOUR_ENTRIES),
+        (0, 1, 4, b""),
+        (0, 2, 0, FOUR_ENTRIES),
+        (1, 1, 4, b""),
+    ];
+    for (read, write, status, output) in cases {
+        let input = Vec::from_slice(rt.alloc(), FOUR_LINES)?;
+        let source = BytesSource::new(input, Vec::from_slice(rt.alloc(), &[read])?);
+        let sink = BytesSink::new(rt.alloc(), Vec::from_slice(rt.alloc(), &[write])?);
+        let ended = bureau(
+            &rt,
+            rt.alloc(),
+            words_of(rt.alloc(), &["run"])?,
+            source,
+            sink,
+        );
+        assert!(rt; ended.status == status);
+        assert!(rt; ended.sink.bytes() == output);
+    }
+    Ok(())
+}

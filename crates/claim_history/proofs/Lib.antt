@@ -1,0 +1,4 @@
+mod CivilDays
+pub mod Texts
+pub mod Growth
+pub mod Worked

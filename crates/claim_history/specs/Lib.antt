@@ -1,0 +1,6 @@
+pub mod Days
+pub mod Acts
+pub mod Facts
+pub mod History
+pub mod Laws
+pub mod Scans

@@ -1,0 +1,11 @@
+use Rattle.std.proofs.Common.{List, ℕ, Bor, map, ap, subst, sym, [], arith}
+use Rattle.std.specs.Prelude.{codes, OnErr}
+use Rattle.request_text.specs.Grammar.{AreNoArgs}
+use Rattle.request_text.proofs.Words.{five}
+use Rattle.request_text.proofs.fields.file_act.Goals as goal
+
+pub returns-clause-bad : goal.returns-clause-bad
+returns-clause-bad c =
+    let none : Bor (List ℕ) = record { ref_ptr = (0, 0); now = [] } in
+    let all = ap (map (λ (f : Bor (List ℕ)). f.now)) (five none c.args.args.now (omega (arith, c.in-len5.len_at_least)) (omega (arith, c.in-len5.len_below))) in
+    subst (λ (args : List (List ℕ)). OnErr c.filed.result (AreNoArgs (codes "FILE") args)) (sym all) c.filed.ensures.bad

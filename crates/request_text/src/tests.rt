@@ -1,0 +1,65 @@
+use crate::{LineCause, RequestError, read_requests};
+use claim_history::Act;
+use std::test::Fail;
+
+#[test]
+fn requests_are_read(rt: HostRuntime) -> Result<(), Fail> {
+    let input = b"1 FIRM A\r\n1 FILE B I-1 A 10.00 2025-01-31\n1 CONFIRM B I-1 A";
+    let batches = read_requests(rt.alloc(), input)?;
+    assert_eq!(rt; batches.len(), 1);
+    let requests = batches[0].requests();
+    assert_eq!(rt; requests.len(), 3);
+    let request = &requests[1];
+    assert!(rt; request.line == 2 && request.lane == 1);
+    match &request.act {
+        Act::File { amount, due, .. } => assert!(rt; *amount == 1000 && due.number() == 20_119),
+        _ => assert!(rt; false),
+    }
+    assert_eq!(rt; read_requests(rt.alloc(), b"")?.len(), 1);
+    Ok(())
+}
+
+#[test]
+fn bad_lines_have_causes(rt: HostRuntime) -> Result<(), Fail> {
+    let cases: [(&[u8], u64, LineCause); 24] = [
+        (b"\n", 1, LineCause::Lane),
+        (b"\r", 1, LineCause::Lane),
+        (b"1 FIRM A\n\n1 FIRM B\n", 2, LineCause::Lane),
+        (b"2 FIRM A", 1, LineCause::Lane),
+        (b"01 FIRM A", 1, LineCause::Lane),
+        (b"FENCE", 1, LineCause::Lane),
+        (b" 1 FIRM A", 1, LineCause::Lane),
+        (b"1", 1, LineCause::Verb),
+        (b"1  FIRM A", 1, LineCause::Verb),
+        (b"1 firm A", 1, LineCause::Verb),
+        (b"1 FUND A 1.00", 1, LineCause::Verb),
+        (b"1 PUBLISH 1", 1, LineCause::Verb),
+        (b"1 FIRM", 1, LineCause::Fields),
+        (b"1 FIRM A ", 1, LineCause::Fields),
+        (b"1 CONFIRM B I-1", 1, LineCause::Fields),
+        (b"1 FIRM A\r", 1, LineCause::Field(1)),
+        (b"1 FIRM 1A", 1, LineCause::Field(1)),
+        (b"1 FIRM ABCDEFGHIJKLMNOPQ", 1, LineCause::Field(1)),
+        (b"1 CONFIRM B i-1 A", 1, LineCause::Field(2)),
+        (b"1 FILE B I-1 a 10.00 2025-01-31", 1, LineCause::Field(3)),
+        (b"1 FILE B I-1 A 0.00 2025-01-31", 1, LineCause::Field(4)),
+        (b"1 FILE B I-1 A 01.00 2025-01-31", 1, LineCause::Field(4)),
+        (
+            b"1 FILE B I-1 A 10000000000.00 2025-02-30",
+            1,
+            LineCause::Field(4),
+        ),
+        (
+            b"1 FIRM A\n1 FILE B I-1 A 10.00 2025-02-30\n2 FIRM A",
+            2,
+            LineCause::Field(5),
+        ),
+    ];
+    for (input, line, cause) in cases {
+        match read_requests(rt.alloc(), input) {
+            Err(e) => assert!(rt; e == RequestError::BadLine { line, cause }),
+            Ok(_) => assert!(rt; false),
+        }
+    }
+    Ok(())
+}

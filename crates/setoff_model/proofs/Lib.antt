@@ -1,0 +1,10 @@
+pub mod Padded
+pub mod Fronts
+pub mod Widths
+pub mod Sizes
+pub mod Circulation
+pub mod AsWritten
+pub mod Pairs
+pub mod Columns
+pub mod Limits
+pub mod Spelling

@@ -1,0 +1,22 @@
+//! The words of the set-off bureau: names and keys, cuts and outcomes, the fields of its texts, and the law by which
+//! prices prove that a set-off is greatest.
+#![tactic(auto)]
+
+mod cut;
+mod duality;
+mod field;
+mod kind;
+mod name;
+mod outcome;
+mod text;
+
+pub use cut::{Cut, CutClaim, Party};
+pub use duality::weak_duality;
+pub use field::{read_amount, read_kind, read_number, read_price, read_sum};
+pub use kind::Kind;
+pub use name::{Key, Name};
+pub use outcome::{Outcome, total};
+pub use text::{each_text_has_one_value, put, write_cents, write_number, write_signed};
+
+#[cfg(test)]
+mod tests;
