@@ -3,7 +3,7 @@ use Rattle.std.proofs.Common.{◌≡◌, ℕ, ◌+◌, ◌<◌, Bool, true, fals
 use Rattle.std.specs.List.{flat_map}
 use Rattle.claim_history.specs.declared.entry.Entry.{Entry}
 use Rattle.request_text.specs.declared.request.Request.{Request}
-use Rattle.bureau_program.specs.Texts.{entry_line}
+use Rattle.statement_text.specs.Entries.{entry_line}
 use Rattle.bureau_program.specs.Serving.{IsServed, AddsOne, unserved_line, unserved_text}
 
 pub served_more : (requests : List Request) (marks : List Bool) (entries new : List Entry) (request : Request) (mark : Bool) → IsServed requests marks entries → AddsOne entries new request mark

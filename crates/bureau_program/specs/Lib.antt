@@ -3,3 +3,4 @@ pub mod Serving
 pub mod Writing
 pub mod Headline
 pub mod Books
+pub mod Commands

@@ -4,7 +4,8 @@ use Rattle.std.specs.List.{flat_map, list_all}
 use Rattle.claim_history.specs.declared.entry.Entry.{Entry}
 use Rattle.claim_history.specs.History.{IsLegal}
 use Rattle.request_text.specs.declared.request.Request.{Request}
-use Rattle.bureau_program.specs.Texts.{entry_line, memory_line}
+use Rattle.statement_text.specs.Entries.{entry_line}
+use Rattle.bureau_program.specs.Texts.{memory_line}
 
 -- each request is marked as served, and has one entry, or as not served for want of memory, and has none
 abbrev pub IsServed : List Request → List Bool → List Entry → Type 0

@@ -1,37 +1,21 @@
--- What the program writes, line by line.
-use Rattle.std.specs.Prelude.{ℕ, List, ◌++◌, codes, decimal}
-use Rattle.claim_history.specs.Acts.{act_text}
-use Rattle.claim_history.specs.declared.entry.Entry.{Entry}
-use Rattle.claim_history.specs.declared.entry.Why.{Why}
-use Rattle.claim_history.specs.declared.entry.Why.TheVariants as why
-use Rattle.claim_history.specs.declared.entry.Reply.{Reply}
-use Rattle.claim_history.specs.declared.entry.Reply.TheVariants as reply
+-- The lines of the program's own: faults, unserved requests, verdicts.
+use Rattle.std.specs.Prelude.{ℕ, ◌<◌, List, [], ◌++◌, length, codes, decimal, slice_index_or, unsigned_abs}
+use Rattle.setoff_model.specs.CutView.{CutView}
+use Rattle.setoff_model.specs.Texts.{cents_text}
 use Rattle.request_text.specs.declared.error.LineCause.{LineCause}
 use Rattle.request_text.specs.declared.error.LineCause.TheVariants as cause
-
--- the number and name of a refusal
-abbrev pub why_text : Why → List ℕ
-why_text why.FirmExists = codes "1 firm-exists"
-why_text why.FirmsFull = codes "2 firms-full"
-why_text why.UnknownFirm = codes "3 unknown-firm"
-why_text why.SameFirm = codes "4 same-firm"
-why_text why.ClaimExists = codes "5 claim-exists"
-why_text why.ClaimsFull = codes "6 claims-full"
-why_text why.UnknownClaim = codes "7 unknown-claim"
-why_text why.NotDebtor = codes "8 not-debtor"
-why_text why.WrongState = codes "9 wrong-state"
-
-abbrev pub reply_text : Reply → List ℕ
-reply_text reply.Done = codes "ok"
-reply_text (reply.Refused w) = codes "refused " ++ why_text w
-
--- one line for an entry
-abbrev pub entry_line : Entry → List ℕ
-entry_line entry = decimal entry.caller ++ codes " " ++ act_text entry.act ++ codes " = " ++ reply_text entry.reply ++ codes "\n"
+use Rattle.statement_text.specs.declared.error.StatementCause.{StatementCause}
+use Rattle.statement_text.specs.declared.error.StatementCause.TheVariants as statement
+use Rattle.setoff_checker.specs.declared.verdict.Verdict.{Verdict}
+use Rattle.setoff_checker.specs.declared.verdict.Verdict.TheVariants as verdict
 
 -- one line for a line of the input that was answered for want of memory
 abbrev pub memory_line : ℕ → List ℕ
 memory_line line = codes "! line " ++ decimal line ++ codes " memory\n"
+
+-- the fault line of an input whose line is not in the grammar
+abbrev pub fault_line_text : ℕ → List ℕ → List ℕ
+fault_line_text line why = codes "fault line " ++ decimal line ++ codes " " ++ why ++ codes "\n"
 
 abbrev pub cause_text : LineCause → List ℕ
 cause_text cause.Lane = codes "lane"
@@ -39,6 +23,54 @@ cause_text cause.Verb = codes "verb"
 cause_text cause.Fields = codes "fields"
 cause_text (cause.Field k) = codes "field " ++ decimal k
 
--- the fault line of an input that is not in the grammar
 abbrev pub bad_line_text : ℕ → LineCause → List ℕ
-bad_line_text line why = codes "fault line " ++ decimal line ++ codes " " ++ cause_text why ++ codes "\n"
+bad_line_text line why = fault_line_text line (cause_text why)
+
+abbrev pub statement_cause_text : StatementCause → List ℕ
+statement_cause_text statement.Round = codes "round"
+statement_cause_text statement.After = codes "after"
+statement_cause_text statement.Shape = codes "shape"
+statement_cause_text statement.Limit = codes "limit"
+statement_cause_text statement.Repeat = codes "repeat"
+statement_cause_text statement.NoParty = codes "party"
+statement_cause_text statement.SameFirm = codes "same-firm"
+statement_cause_text statement.Window = codes "window"
+statement_cause_text statement.NoEnd = codes "end"
+
+abbrev pub bad_statement_text : ℕ → StatementCause → List ℕ
+bad_statement_text line why = fault_line_text line (statement_cause_text why)
+
+-- the creditor and the invoice of the claim at a place, and the firm of the party at a place
+abbrev pub creditor_at : CutView → ℕ → List ℕ
+creditor_at cut c = (slice_index_or cut.claims c (record { key = record { creditor = []; invoice = [] }; debtor = 0; creditor = 0; amount = 0 })).key.creditor
+
+abbrev pub invoice_at : CutView → ℕ → List ℕ
+invoice_at cut c = (slice_index_or cut.claims c (record { key = record { creditor = []; invoice = [] }; debtor = 0; creditor = 0; amount = 0 })).key.invoice
+
+abbrev pub firm_at : CutView → ℕ → List ℕ
+firm_at cut f = (slice_index_or cut.parties f (record { firm = []; spend = 0; room = 0 })).firm
+
+-- yes with the total, or no with the first claim or firm, or with total and bound
+abbrev pub verdict_words : CutView → Verdict → List ℕ
+verdict_words cut (verdict.Greatest total) = codes "yes " ++ cents_text total
+verdict_words cut verdict.Lengths = codes "no lengths"
+verdict_words cut (verdict.OverAmount claim) = codes "no over-amount " ++ creditor_at cut claim ++ codes " " ++ invoice_at cut claim
+verdict_words cut (verdict.OutsideWindow party) = codes "no outside-window " ++ firm_at cut party
+verdict_words cut (verdict.PriceRange party) = codes "no price-range " ++ firm_at cut party
+verdict_words cut (verdict.NotProved total limit) = codes "no not-proved " ++ cents_text total ++ codes " " ++ cents_text (unsigned_abs limit)
+
+-- the verdict line
+abbrev pub verdict_text : CutView → Verdict → List ℕ
+verdict_text cut v = verdict_words cut v ++ codes "\n"
+
+-- 0 where the set-off was found greatest, else 1
+abbrev pub verdict_status : Verdict → ℕ
+verdict_status (verdict.Greatest total) = 0
+verdict_status _ = 1
+
+-- the verdict's claim or party is one of the cut's
+abbrev pub IsPlaced : CutView → Verdict → Type 0
+IsPlaced cut (verdict.OverAmount claim) = claim < length cut.claims
+IsPlaced cut (verdict.OutsideWindow party) = party < length cut.parties
+IsPlaced cut (verdict.PriceRange party) = party < length cut.parties
+IsPlaced cut _ = Unit {0}

@@ -2,7 +2,8 @@
 #![tactic(auto)]
 
 mod book;
-mod entry_text;
+mod check;
+mod command;
 mod fault_text;
 mod output;
 mod run;
@@ -11,6 +12,7 @@ mod serve;
 mod tests;
 mod told;
 mod top;
+mod verdict_text;
 
 use bureau_edge::{StandardIn, StandardOut};
 use std::env;

@@ -5,15 +5,15 @@ ghost use Rattle.std.specs.List.{flat_map};
 ghost use Rattle.bureau_edge.specs.Causes.{HasCause};
 ghost use Rattle.bureau_edge.specs.Streams.{AppendsPart};
 ghost use Rattle.claim_history.specs.Acts.{is_valid};
-ghost use Rattle.bureau_program.specs.Texts.{entry_line};
+ghost use Rattle.statement_text.specs.Entries.{entry_line};
 ghost use Rattle.bureau_program.specs.Serving.{unserved_line, unserved_text, printed_of};
 ghost use Rattle.bureau_program.specs.Writing.{Passes};
 
-use crate::entry_text::write_entry;
 use crate::fault_text::write_memory_line;
 use bureau_edge::{Failed, Sink, write_all};
 use claim_history::Entry;
 use request_text::Request;
+use statement_text::write_entry;
 use std::alloc::{AllocError, Global};
 
 /// The bytes of the buffer.

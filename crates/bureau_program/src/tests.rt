@@ -90,3 +90,115 @@ fn a_failing_call(rt: HostRuntime) -> Result<(), Fail> {
     }
     Ok(())
 }
+
+#[test]
+fn checks(rt: HostRuntime) -> Result<(), Fail> {
+    let cases: [(&[u8], u8, &[u8]); 20] = [
+        (
+            b"ROUND 1 PLAIN\nPARTY A 0.00 0.00 1\nPARTY B 0.00 0.00 2\nPARTY C 0.00 0.00 0\nCLAIM B I-1 A 10.00 7.00\nCLAIM C I-2 B 7.00 7.00\nCLAIM A I-3 C 12.00 7.00\nEND\n",
+            0,
+            b"yes 21.00\n",
+        ),
+        (
+            b"ROUND 1 PLAIN\nPARTY A 0.00 0.00 1\nPARTY B 0.00 0.00 2\nPARTY C 0.00 0.00 0\nCLAIM B I-1 A 10.00 7.00\nCLAIM C I-2 B 7.00 7.00\nCLAIM A I-3 C 12.00 7.00\nEND",
+            0,
+            b"yes 21.00\n",
+        ),
+        (
+            b"ROUND 1 PLAIN\nPARTY A 0.00 0.00 2\nPARTY B 0.00 0.00 3\nPARTY C 0.00 0.00 1\nCLAIM B I-1 A 10.00 7.00\nCLAIM C I-2 B 7.00 7.00\nCLAIM A I-3 C 12.00 7.00\nEND\n",
+            0,
+            b"yes 21.00\n",
+        ),
+        (
+            b"ROUND 1 PLAIN\nPARTY A 0.00 0.00 3\nPARTY B 0.00 0.00 4\nPARTY C 0.00 0.00 2\nCLAIM B I-1 A 10.00 7.00\nCLAIM C I-2 B 7.00 7.00\nCLAIM A I-3 C 12.00 7.00\nEND\n",
+            1,
+            b"no price-range B\n",
+        ),
+        (
+            b"ROUND 1 PLAIN\nPARTY A 0.00 0.00 1\nPARTY B 0.00 0.00 2\nPARTY C 0.00 0.00 0\nCLAIM B I-1 A 10.00 6.00\nCLAIM C I-2 B 7.00 6.00\nCLAIM A I-3 C 12.00 6.00\nEND\n",
+            1,
+            b"no not-proved 18.00 21.00\n",
+        ),
+        (
+            b"ROUND 1 PLAIN\nPARTY A 0.00 0.00 0\nPARTY B 0.00 0.00 0\nPARTY C 0.00 0.00 0\nCLAIM B I-1 A 10.00 0.00\nCLAIM C I-2 B 7.00 0.00\nCLAIM A I-3 C 12.00 0.00\nEND\n",
+            1,
+            b"no not-proved 0.00 29.00\n",
+        ),
+        (
+            b"ROUND 1 PLAIN\nPARTY A 0.00 0.00 1\nPARTY B 0.00 0.00 2\nPARTY C 0.00 0.00 0\nCLAIM B I-1 A 10.00 7.00\nCLAIM C I-2 B 7.00 7.01\nCLAIM A I-3 C 12.00 7.00\nEND\n",
+            1,
+            b"no over-amount C I-2\n",
+        ),
+        (
+            b"ROUND 1 PLAIN\nPARTY A 0.00 0.00 1\nPARTY B 0.00 0.00 2\nPARTY C 0.00 0.00 0\nCLAIM B I-1 A 10.00 7.00\nCLAIM C I-2 B 7.00 6.00\nCLAIM A I-3 C 12.00 7.00\nEND\n",
+            1,
+            b"no outside-window B\n",
+        ),
+        (
+            b"ROUND 1 PLAIN\nPARTY A 0.00 0.00 0\nPARTY B 0.00 0.00 1\nPARTY C 0.00 0.00 2\nCLAIM B I-1 A 100.00 0.00\nCLAIM C I-2 B 100.00 0.00\nEND\n",
+            0,
+            b"yes 0.00\n",
+        ),
+        (
+            b"ROUND 1 FUNDED\nPARTY A 60.00 9999999999940.00 -2\nPARTY B 0.00 10000000000000.00 -1\nPARTY C 0.00 10000000000000.00 0\nCLAIM B I-1 A 100.00 60.00\nCLAIM C I-2 B 100.00 60.00\nEND\n",
+            0,
+            b"yes 120.00\n",
+        ),
+        (
+            b"ROUND 1 FUNDED\nPARTY A 60.00 9999999999940.00 -2\nPARTY B 0.00 10000000000000.00 -1\nPARTY C 0.00 50.00 0\nCLAIM B I-1 A 100.00 60.00\nCLAIM C I-2 B 100.00 60.00\nEND\n",
+            1,
+            b"no outside-window C\n",
+        ),
+        (b"ROUND 1 PLAIN\nEND\n", 0, b"yes 0.00\n"),
+        (b"", 6, b"fault line 1 round\n"),
+        (
+            b"ROUND 1 PLAIN\nPARTY A 0.00 0.00 1\nPARTY B 0.00 0.00 2\nPARTY C 0.00 0.00 0\nCLAIM B I-1 A 10.00 7.00\nCLAIM C I-2 B 7.00 7.00\nCLAIM A I-3 C 12.00 7.00\nEND\nEND\n",
+            6,
+            b"fault line 9 after\n",
+        ),
+        (
+            b"ROUND 1 PLAIN\nPARTY A 0.00 0.00 1\nPARTY B 0.00 0.00 2\nPARTY C 0.00 0.00 0\nCLAIM B I-1 A 10.00 7.00\nCLAIM C I-2 B 7.00 7.0\nCLAIM A I-3 C 12.00 7.00\nEND\n",
+            6,
+            b"fault line 6 shape\n",
+        ),
+        (
+            b"ROUND 1 PLAIN\nPARTY A 0.00 0.00 0\nPARTY A 0.00 0.00 0\nEND\n",
+            6,
+            b"fault line 3 repeat\n",
+        ),
+        (
+            b"ROUND 1 PLAIN\nPARTY A 0.00 0.00 0\nCLAIM A I-1 B 1.00 0.00\nEND\n",
+            6,
+            b"fault line 3 party\n",
+        ),
+        (
+            b"ROUND 1 PLAIN\nPARTY A 0.00 0.00 0\nCLAIM A I-1 A 1.00 0.00\nEND\n",
+            6,
+            b"fault line 3 same-firm\n",
+        ),
+        (
+            b"ROUND 1 PLAIN\nPARTY A 0.00 0.01 0\nEND\n",
+            6,
+            b"fault line 2 window\n",
+        ),
+        (
+            b"ROUND 1 PLAIN\nPARTY A 0.00 0.00 0\n",
+            6,
+            b"fault line 3 end\n",
+        ),
+    ];
+    for (input, status, output) in cases {
+        let source = SureSource::new(Vec::from_slice(rt.alloc(), input)?);
+        let sink = BytesSink::new(rt.alloc(), Vec::new(rt.alloc()));
+        let ended = bureau(
+            &rt,
+            rt.alloc(),
+            words_of(rt.alloc(), &["check"])?,
+            source,
+            sink,
+        );
+        assert!(rt; ended.status == status);
+        assert!(rt; ended.sink.bytes() == output);
+    }
+    Ok(())
+}

@@ -1,9 +1,12 @@
 //! The top call: words, source and sink.
-ghost use Rattle.std.specs.Prelude.{◌≡◌, ◌↔◌, ◌∷◌, [], map, codes, string_bytes, IsTrue};
+ghost use Rattle.std.specs.Prelude.{◌≡◌, ◌≢◌, map, string_bytes};
 ghost use Rattle.bureau_edge.specs.Causes.{Rose};
 ghost use Rattle.bureau_program.specs.Writing.{Wrote};
-ghost use Rattle.bureau_program.specs.Headline.{AreRun, IsReadDue, IsRunDue, Ran};
+ghost use Rattle.bureau_program.specs.Headline.{IsReadDue, Ran};
+ghost use Rattle.bureau_program.specs.Commands.{AreNoWords, IsInputDue};
 
+use crate::check::check_input;
+use crate::command::{Command, command_of};
 use crate::run::run_input;
 use crate::told::told;
 use bureau_edge::{ReadEnd, Sink, Source, read_whole};
@@ -20,37 +23,39 @@ pub struct Ended<S, K> {
     pub sink: K,
 }
 
-fn is_word(word: &String, text: &str) -> bool
-    ensures { IsTrue result ↔ (string_bytes word.now ≡ text.now) }
+// What an input comes to for a command.
+fn answer_input<K: Sink>(alloc: Global, command: Command, input: &[u8], sink: &mut K) -> u8
+    ensures wrote { Wrote (IsInputDue command input.now) (K.held sink.old) (K.held sink.new) result }
+    ensures write_fault { result ≡ 4 → Rose (K.faults sink.old) (K.faults sink.new) }
+    ensures no_read_fault { result ≢ 3 }
 {
-    word.as_str() == text
-}
-
-fn are_run(words: &[String]) -> bool
-    ensures { IsTrue result ↔ AreRun (map (λ w. string_bytes w) words.now) }
-{
-    match words {
-        [word] => is_word(word, "run"),
-        _ => false,
+    match command {
+        Command::Run => run_input(alloc, input, sink),
+        Command::Check => check_input(alloc, input, sink),
     }
 }
 
-// Reads the source whole, and runs what was read.
-fn run<S: Source, K: Sink>(alloc: Global, source: &mut S, sink: &mut K) -> u8
-    ensures wrote { Wrote (IsReadDue IsRunDue (S.left source.old) (S.left source.new)) (K.held sink.old) (K.held sink.new) result }
+// Reads the source whole, and answers what was read.
+fn answer_source<S: Source, K: Sink>(
+    alloc: Global,
+    command: Command,
+    source: &mut S,
+    sink: &mut K,
+) -> u8
+    ensures wrote { Wrote (IsReadDue (IsInputDue command) (S.left source.old) (S.left source.new)) (K.held sink.old) (K.held sink.new) result }
     ensures read_fault { result ≡ 3 → Rose (S.faults source.old) (S.faults source.new) }
     ensures write_fault { result ≡ 4 → Rose (K.faults sink.old) (K.faults sink.new) }
 {
     match read_whole(alloc, source, MOST_BYTES) {
-        Ok(input) => run_input(alloc, input.as_slice(), sink),
+        Ok(input) => answer_input(alloc, command, input.as_slice(), sink),
         Err(ReadEnd::Memory) => told(sink, 9, b"fault memory\n"),
         Err(ReadEnd::Failed) => told(sink, 3, b"fault read\n"),
         Err(ReadEnd::TooLong) => told(sink, 7, b"fault input too long\n"),
     }
 }
 
-// Runs the words.
-fn run_words<S: Source, K: Sink>(
+// Answers the words.
+fn answer_words<S: Source, K: Sink>(
     alloc: Global,
     words: &[String],
     source: &mut S,
@@ -59,21 +64,23 @@ fn run_words<S: Source, K: Sink>(
     ensures ran { Ran (map (λ w. string_bytes w) words.now) (S.left source.old) (S.left source.new) (K.held sink.old) (K.held sink.new) result }
     ensures read_fault { result ≡ 3 → Rose (S.faults source.old) (S.faults source.new) }
     ensures write_fault { result ≡ 4 → Rose (K.faults sink.old) (K.faults sink.new) }
-    ensures unread { (AreRun (map (λ w. string_bytes w) words.now) → ⊥) → source.new ≡ source.old }
+    ensures unread { AreNoWords (map (λ w. string_bytes w) words.now) → source.new ≡ source.old }
 {
-    if !are_run(words) {
-        return told(sink, 2, b"fault words\n");
+    match command_of(words) {
+        Some(command) => answer_source(alloc, command, source, sink),
+        None => told(sink, 2, b"fault words\n"),
     }
-    run(alloc, source, sink)
 }
 
 /// Runs the words after the program's name over a source and a sink, and ends with a status.
 ///
-/// The only words are `run`: the source is read whole, its requests are served in order, and the sink takes a line for each
-/// entry and for each request that was not served for want of memory. The status is
+/// The words are `run` or `check`. Both read the source whole. For `run` its requests are served in order, and the sink takes a
+/// line for each entry and for each request that was not served for want of memory. For `check` its statement is judged, and
+/// the sink takes the line of the verdict. The status is
 ///
 /// - 0 where none of the others comes;
-/// - 2 exactly where the words are not `run`; the source is then not read;
+/// - 1 exactly where `check` read a statement and its verdict is not that the set-off is greatest;
+/// - 2 exactly where the words are neither list; the source is then not read;
 /// - 3 only where the source counted a fault;
 /// - 4 only where the sink counted a fault; it has then taken some first bytes of what was due;
 /// - 6 exactly where the input is not in the grammar, with the first bad line;
@@ -89,9 +96,9 @@ pub fn bureau<R, S: Source, K: Sink>(
     ensures ran { Ran (map (λ w. string_bytes w) words.items) (S.left source) (S.left result.source) (K.held sink) (K.held result.sink) result.status }
     ensures read_fault { result.status ≡ 3 → Rose (S.faults source) (S.faults result.source) }
     ensures write_fault { result.status ≡ 4 → Rose (K.faults sink) (K.faults result.sink) }
-    ensures unread { (AreRun (map (λ w. string_bytes w) words.items) → ⊥) → result.source ≡ source }
+    ensures unread { AreNoWords (map (λ w. string_bytes w) words.items) → result.source ≡ source }
 {
-    let status = run_words(alloc, words.as_slice(), &mut source, &mut sink);
+    let status = answer_words(alloc, words.as_slice(), &mut source, &mut sink);
     Ended {
         status,
         source,

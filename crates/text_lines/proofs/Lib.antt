@@ -1,3 +1,4 @@
 pub mod Cutting
 pub mod Joining
 pub mod Spaces
+pub mod Visible

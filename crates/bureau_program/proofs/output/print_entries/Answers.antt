@@ -1,7 +1,7 @@
 use Rattle.std.proofs.Common.{◌+◌, ◌++◌, List, ℕ, subst, sym, ap, ◌∙◌, drop, arith}
 use Rattle.std.specs.List.{flat_map}
 use Rattle.claim_history.specs.declared.entry.Entry.{Entry}
-use Rattle.bureau_program.specs.Texts.{entry_line}
+use Rattle.statement_text.specs.Entries.{entry_line}
 use Rattle.bureau_program.proofs.Passing.{PassesUpTo, on_err, up_more, up_breaks}
 use Rattle.bureau_program.proofs.Marks.{lines_from}
 use Rattle.bureau_program.proofs.output.print_entries.Goals as goal

@@ -1,6 +1,6 @@
 use Rattle.std.proofs.Common.{◌≤◌, drop, vec_capacity}
 use Rattle.std.specs.List.{flat_map}
-use Rattle.bureau_program.specs.Texts.{entry_line}
+use Rattle.statement_text.specs.Entries.{entry_line}
 use Rattle.bureau_program.proofs.Passing.{PassesUpTo}
 use Rattle.bureau_program.proofs.output.print_entries.Given as goal
 

@@ -1,6 +1,6 @@
 use Rattle.std.proofs.Common.{◌++◌}
 use Rattle.std.specs.List.{flat_map}
-use Rattle.bureau_program.specs.Texts.{entry_line}
+use Rattle.statement_text.specs.Entries.{entry_line}
 use Rattle.bureau_program.specs.Serving.{unserved_text}
 use Rattle.bureau_program.proofs.Passing.{on_err, on_err_if, part_of_text, part_left, part_more, part_then, pass_then}
 use Rattle.bureau_program.proofs.output.print_run.Goals as goal

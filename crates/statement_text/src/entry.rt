@@ -1,7 +1,7 @@
 //! The line of an entry.
 ghost use Rattle.std.specs.Prelude.{◌≡◌, ◌+◌, ◌≤◌, ◌++◌, length, codes, true, vec_len, vec_capacity};
 ghost use Rattle.claim_history.specs.Acts.{is_valid};
-ghost use Rattle.bureau_program.specs.Texts.{why_text, reply_text, entry_line};
+ghost use Rattle.statement_text.specs.Entries.{why_text, reply_text, entry_line};
 
 use claim_history::{Entry, Reply, Why, write_act};
 use setoff_model::{put, write_number};

@@ -1,0 +1,9 @@
+pub mod Words
+pub mod Same
+pub mod Places
+pub mod Drafts
+pub mod Lines
+pub mod Structure
+pub mod Next
+pub mod Texts
+pub mod OneReading

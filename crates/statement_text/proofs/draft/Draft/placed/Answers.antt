@@ -1,0 +1,32 @@
+use Rattle.std.proofs.Common.{List, ℕ, subst, sym, ◌∙◌, arith}
+use Rattle.std.proofs.lemmas.Bool.{false≢true}
+use Rattle.setoff_model.specs.declared.cut.CutClaim.{CutClaim}
+use Rattle.setoff_model.specs.declared.name.Key.{Key}
+use Rattle.statement_text.specs.Drafts.{Drafted, MayBeClaim, IsClaimOf}
+use Rattle.statement_text.proofs.Drafts.{may_be_claim, key_refused, creditor_refused, same_refused}
+use Rattle.statement_text.proofs.draft.Draft.placed.Goals as goal
+
+abbrev Refused : Drafted → Key → List ℕ → ℕ → Type 0
+Refused d key debtor amount = (c : CutClaim) → MayBeClaim d c → IsClaimOf d.cut.parties key debtor amount c → ⊥
+
+pub returns-then-not-is_new_key-clause-refused : goal.returns-then-not-is_new_key-clause-refused
+returns-then-not-is_new_key-clause-refused c =
+    subst (λ (d : Drafted). Refused d c.args.key.now c.args.debtor.now c.args.amount) c.self.view_is
+    (key_refused c.self.inside.firms.keys c.self.inside.keys.keys _ c.args.key.now c.args.debtor.now c.args.amount c.self.invariant (λ new. false≢true (sym c.if-not-is_new_key.true ∙ c.is_new_key.ensures.1 new)))
+
+pub returns-in_default-clause-refused : goal.returns-in_default-clause-refused
+returns-in_default-clause-refused c =
+    subst (λ (d : Drafted). Refused d c.args.key.now c.args.debtor.now c.args.amount) c.self.view_is
+    (creditor_refused c.self.inside.firms.keys c.self.inside.keys.keys _ c.args.key.now c.args.debtor.now c.args.amount c.self.invariant c.in_default.ensures)
+
+pub returns-then-debtor-creditor-clause-refused : goal.returns-then-debtor-creditor-clause-refused
+returns-then-debtor-creditor-clause-refused c =
+    subst (λ (d : Drafted). Refused d c.args.key.now c.args.debtor.now c.args.amount) c.self.view_is
+    (same_refused c.self.inside.firms.keys c.self.inside.keys.keys _ c.args.key.now c.args.debtor.now c.args.amount c.in-Some-place_of.debtor c.in-Some.creditor c.self.invariant c.in-Some.ensures.1 c.in-Some-place_of.ensures.1 c.if-debtor-creditor.true)
+
+pub returns-clause-found : goal.returns-clause-found
+returns-clause-found c =
+    let claim : CutClaim = record { key = c.args.key.now; debtor = c.in-Some-place_of.debtor; creditor = c.in-Some.creditor; amount = c.args.amount } in
+    subst (λ (d : Drafted). MayBeClaim d claim × IsClaimOf d.cut.parties c.args.key.now c.args.debtor.now c.args.amount claim) c.self.view_is
+    (may_be_claim c.self.inside.firms.keys c.self.inside.keys.keys _ c.args.key.now c.args.debtor.now c.args.amount c.in-Some-place_of.debtor c.in-Some.creditor c.self.invariant (omega arith)
+    (c.is_new_key.ensures.0 c.if-not-is_new_key.false) c.in-Some.ensures c.in-Some-place_of.ensures c.if-debtor-creditor.false c.requires.some c.requires.amount)

@@ -1,0 +1,5 @@
+pub mod Entries
+pub mod Lines
+pub mod Statements
+pub mod Drafts
+pub mod Steps

@@ -1,0 +1,169 @@
+//! A statement as far as it is read.
+ghost use Rattle.std.specs.Prelude.{◌≡◌, ◌↔◌, ◌<◌, ◌≤◌, ◌^◌, true, IfOk, OnErr, IsNone, IsTrue, unsigned_abs};
+ghost use Rattle.setoff_model.specs.CutView.{IsWindowOf};
+
+use crate::error::StatementCause;
+use crate::index::{add_firm, add_key, is_new_key, place_of};
+use indexmap::IndexSet;
+use setoff_model::{Cut, CutClaim, Key, Kind, Name, Outcome, Party};
+use std::alloc::{AllocError, Global};
+use std::marker::Model;
+
+const MOST_PARTIES: usize = 16_384;
+
+const MOST_CLAIMS: usize = 262_144;
+
+/// The parties and the claims of the lines so far, with an index of their firms and keys.
+#[derive(Drop)]
+pub(crate) struct Draft {
+    round: u32,
+    kind: Kind,
+    firms: IndexSet<Name>,
+    parties: Vec<Party>,
+    prices: Vec<i64>,
+    keys: IndexSet<Key>,
+    claims: Vec<CutClaim>,
+    discharges: Vec<u64>,
+}
+
+impl Model for Draft {
+    ghost use Rattle.statement_text.specs.Drafts.{Drafted, IsDraft};
+
+    ghost Value = { Drafted };
+
+    ghost view = { λ d. record { cut = record { round = d.round; kind = d.kind; parties = d.parties.items; claims = d.claims.items }; outcome = record { discharges = d.discharges.items; prices = d.prices.items } } };
+
+    ghost invariant = { λ d. IsDraft d.firms.keys d.keys.keys (record { round = d.round; kind = d.kind; parties = d.parties.items; claims = d.claims.items }) (record { discharges = d.discharges.items; prices = d.prices.items }) };
+}
+
+// Whether a party's window, of at most 2 * 10^15 cents either way, is one of the kind.
+fn has_window_of(kind: Kind, party: &Party) -> bool
+    requires spend { party.now.spend ≤ 2000000000000000 }
+    requires room { party.now.room ≤ 2000000000000000 }
+    ensures { IsTrue result ↔ IsWindowOf kind party.now }
+{
+    match kind {
+        Kind::Plain => party.spend == 0 && party.room == 0,
+        Kind::Funded => true,
+    }
+}
+
+impl Draft {
+    ghost use Rattle.setoff_model.specs.declared.cut.CutClaim.{CutClaim};
+    ghost use Rattle.setoff_model.specs.Names.{is_name};
+    ghost use Rattle.statement_text.specs.Statements.{CanBeStated};
+    ghost use Rattle.statement_text.specs.Drafts.{begun, with_party, with_claim, MayBeParty, MayBeClaim, IsClaimOf};
+
+    /// A round with no party and no claim.
+    pub(crate) fn new(alloc: Global, round: u32, kind: Kind) -> Draft
+        requires { 1 ≤ round }
+        ensures begun { result ≡ begun round kind }
+        ensures stated { CanBeStated result.cut result.outcome }
+    {
+        Draft {
+            round,
+            kind,
+            firms: IndexSet::new(alloc),
+            parties: Vec::new(alloc),
+            prices: Vec::new(alloc),
+            keys: IndexSet::new(alloc),
+            claims: Vec::new(alloc),
+            discharges: Vec::new(alloc),
+        }
+    }
+
+    /// Why a party may not stand next; None exactly where it may. Its spend and room are at most 2 * 10^15 cents.
+    pub(crate) fn party_refusal(&self, party: &Party) -> Option<StatementCause>
+        requires spend { party.now.spend ≤ 2000000000000000 }
+        requires room { party.now.room ≤ 2000000000000000 }
+        ensures refused { IsNone result ↔ MayBeParty self.now party.now }
+        ensures stated { CanBeStated self.now.cut self.now.outcome }
+    {
+        if !self.claims.is_empty() {
+            Some(StatementCause::Shape)
+        } else if self.parties.len() >= MOST_PARTIES {
+            Some(StatementCause::Limit)
+        } else if place_of(&self.firms, &party.firm).is_some() {
+            Some(StatementCause::Repeat)
+        } else if !has_window_of(self.kind, party) {
+            Some(StatementCause::Window)
+        } else {
+            None
+        }
+    }
+
+    /// The draft with one more party, and its price.
+    pub(crate) fn with_party(mut self, party: Party, price: i64) -> Result<Draft, AllocError>
+        requires next { MayBeParty self party }
+        requires named { is_name party.firm ≡ true }
+        requires price { unsigned_abs price < 10 ^ 9 }
+        ensures more { IfOk result (λ d. d ≡ with_party self party price) }
+        ensures stated { IfOk result (λ d. CanBeStated d.cut d.outcome) }
+    {
+        add_firm(&mut self.firms, party.firm)?;
+        self.parties.push(party)?;
+        self.prices.push(price)?;
+        Ok(self)
+    }
+
+    /// The claim of this key, debtor and amount, with its firms by their places, or why it may not stand next.
+    pub(crate) fn placed(
+        &self,
+        key: &Key,
+        debtor: &Name,
+        amount: u64,
+    ) -> Result<CutClaim, StatementCause>
+        requires some { 1 ≤ amount }
+        requires amount { amount < 10 ^ 12 }
+        ensures found { IfOk result (λ c. MayBeClaim self.now c × IsClaimOf self.now.cut.parties key.now debtor.now amount c) }
+        ensures refused { OnErr result ((c : CutClaim) → MayBeClaim self.now c → IsClaimOf self.now.cut.parties key.now debtor.now amount c → ⊥) }
+        ensures stated { CanBeStated self.now.cut self.now.outcome }
+    {
+        if self.claims.len() >= MOST_CLAIMS {
+            return Err(StatementCause::Limit);
+        }
+        if !is_new_key(&self.keys, key) {
+            return Err(StatementCause::Repeat);
+        }
+        let Some(creditor) = place_of(&self.firms, &key.creditor) else {
+            return Err(StatementCause::NoParty);
+        };
+        let Some(debtor) = place_of(&self.firms, debtor) else {
+            return Err(StatementCause::NoParty);
+        };
+        if debtor == creditor {
+            return Err(StatementCause::SameFirm);
+        }
+        Ok(CutClaim {
+            key: *key,
+            debtor: debtor as u32,
+            creditor: creditor as u32,
+            amount,
+        })
+    }
+
+    /// The draft with one more claim, and its discharge.
+    pub(crate) fn with_claim(mut self, claim: CutClaim, discharge: u64) -> Result<Draft, AllocError>
+        requires next { MayBeClaim self claim }
+        requires named { is_name claim.key.invoice ≡ true }
+        requires discharge { discharge < 10 ^ 18 }
+        ensures more { IfOk result (λ d. d ≡ with_claim self claim discharge) }
+        ensures stated { IfOk result (λ d. CanBeStated d.cut d.outcome) }
+    {
+        add_key(&mut self.keys, claim.key)?;
+        self.claims.push(claim)?;
+        self.discharges.push(discharge)?;
+        Ok(self)
+    }
+
+    /// The cut and the outcome of the lines so far.
+    pub(crate) fn finish(self) -> (Cut, Outcome)
+        ensures cut { result.0 ≡ self.cut }
+        ensures outcome { result.1 ≡ self.outcome }
+        ensures stated { CanBeStated self.cut self.outcome }
+    {
+        let cut = Cut::new(self.round, self.kind, self.parties, self.claims);
+        let outcome = Outcome::new(self.discharges, self.prices);
+        (cut, outcome)
+    }
+}

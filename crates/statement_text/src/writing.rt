@@ -1,0 +1,117 @@
+//! Writing statements.
+ghost use Rattle.std.specs.Prelude.{◌≡◌, ◌+◌, ◌^◌, ◌<◌, ◌≤◌, ◌++◌, ◌∷◌, [], length, codes, slice_index_or, unsigned_abs, vec_len, vec_capacity};
+ghost use Rattle.text_lines.specs.Fields.{line_of};
+ghost use Rattle.setoff_model.specs.declared.cut.CutClaim.{CutClaim};
+ghost use Rattle.setoff_model.specs.CutView.{WellFormed};
+ghost use Rattle.setoff_model.specs.Texts.{cents_text};
+ghost use Rattle.statement_text.specs.Lines.{head_fields, party_fields, claim_fields};
+ghost use Rattle.statement_text.specs.Statements.{firm_at};
+
+use setoff_model::{Cut, Key, Kind, Name, Party, put, write_cents, write_number};
+
+/// Writes the line `ROUND r KIND`, with its line feed, into a buffer that has 200 bytes spare. Rounds are numbered from 1.
+pub fn write_head(buffer: &mut Vec<u8>, round: u32, kind: Kind)
+    requires round { 1 ≤ round }
+    requires spare { vec_len buffer.old + 200 ≤ vec_capacity buffer.old }
+    ensures text { buffer.new.items ≡ buffer.old.items ++ line_of (head_fields round kind) ++ codes "\n" }
+    ensures len { vec_len buffer.new ≤ vec_len buffer.old + 200 }
+    ensures room { vec_capacity buffer.old ≤ vec_capacity buffer.new }
+{
+    put(buffer, b"ROUND ");
+    write_number(buffer, i128::from(round));
+    put(buffer, b" ");
+    match kind {
+        Kind::Plain => put(buffer, b"PLAIN\n"),
+        Kind::Funded => put(buffer, b"FUNDED\n"),
+    }
+}
+
+/// Writes the line `PARTY firm spend room price`, with its line feed, into a buffer that has 200 bytes spare.
+///
+/// Spend and room are at most 2 * 10^15 cents, and the price has at most 9 digits.
+pub fn write_party(buffer: &mut Vec<u8>, party: &Party, price: i64)
+    requires spend { party.now.spend ≤ 2000000000000000 }
+    requires room { party.now.room ≤ 2000000000000000 }
+    requires price { unsigned_abs price < 10 ^ 9 }
+    requires spare { vec_len buffer.old + 200 ≤ vec_capacity buffer.old }
+    ensures text { buffer.new.items ≡ buffer.old.items ++ line_of (party_fields party.now price) ++ codes "\n" }
+    ensures len { vec_len buffer.new ≤ vec_len buffer.old + 200 }
+    ensures room { vec_capacity buffer.old ≤ vec_capacity buffer.new }
+{
+    put(buffer, b"PARTY ");
+    put(buffer, party.firm.bytes());
+    put(buffer, b" ");
+    put_sums(buffer, party.spend, party.room);
+    put(buffer, b" ");
+    write_number(buffer, i128::from(price));
+    put(buffer, b"\n");
+}
+
+/// Writes the line `CLAIM creditor invoice debtor amount discharged` of the claim at a place of a well-formed cut, with its
+/// line feed, into a buffer that has 200 bytes spare. The discharge is below 10^18 cents.
+pub fn write_claim(buffer: &mut Vec<u8>, cut: &Cut, place: u32, discharge: u64)
+    requires cut { WellFormed cut.now }
+    requires place { place < length cut.now.claims }
+    requires discharge { discharge < 10 ^ 18 }
+    requires spare { vec_len buffer.old + 200 ≤ vec_capacity buffer.old }
+    ensures text { (none : CutClaim) → let c = slice_index_or cut.now.claims place none in buffer.new.items ≡ buffer.old.items ++ line_of (claim_fields c.key (firm_at cut.now.parties c.debtor) c.amount discharge) ++ codes "\n" }
+    ensures len { vec_len buffer.new ≤ vec_len buffer.old + 200 }
+    ensures room { vec_capacity buffer.old ≤ vec_capacity buffer.new }
+{
+    let claim = cut.claims()[place as usize];
+    let debtor = cut.parties()[claim.debtor as usize].firm;
+    put_claim(buffer, &claim.key, &debtor, claim.amount, discharge);
+}
+
+/// Writes the line `END`, with its line feed, into a buffer that has 200 bytes spare.
+pub fn write_end(buffer: &mut Vec<u8>)
+    requires { vec_len buffer.old + 200 ≤ vec_capacity buffer.old }
+    ensures text { buffer.new.items ≡ buffer.old.items ++ codes "END\n" }
+    ensures len { vec_len buffer.new ≤ vec_len buffer.old + 200 }
+    ensures room { vec_capacity buffer.old ≤ vec_capacity buffer.new }
+{
+    put(buffer, b"END\n");
+}
+
+fn put_claim(buffer: &mut Vec<u8>, key: &Key, debtor: &Name, amount: u64, discharge: u64)
+    requires amount { amount < 10 ^ 18 }
+    requires discharge { discharge < 10 ^ 18 }
+    requires spare { vec_len buffer.old + 200 ≤ vec_capacity buffer.old }
+    ensures text { buffer.new.items ≡ buffer.old.items ++ line_of (claim_fields key.now debtor.now amount discharge) ++ codes "\n" }
+    ensures len { vec_len buffer.new ≤ vec_len buffer.old + 200 }
+    ensures room { vec_capacity buffer.old ≤ vec_capacity buffer.new }
+{
+    put(buffer, b"CLAIM ");
+    put_names(buffer, key, debtor);
+    put(buffer, b" ");
+    put_sums(buffer, amount, discharge);
+    put(buffer, b"\n");
+}
+
+// Creditor, invoice and debtor.
+fn put_names(buffer: &mut Vec<u8>, key: &Key, debtor: &Name)
+    requires spare { vec_len buffer.old + 50 ≤ vec_capacity buffer.old }
+    ensures text { buffer.new.items ≡ buffer.old.items ++ line_of (key.now.creditor ∷ key.now.invoice ∷ debtor.now ∷ []) }
+    ensures len { vec_len buffer.new ≤ vec_len buffer.old + 50 }
+    ensures room { vec_capacity buffer.old ≤ vec_capacity buffer.new }
+{
+    put(buffer, key.creditor.bytes());
+    put(buffer, b" ");
+    put(buffer, key.invoice.bytes());
+    put(buffer, b" ");
+    put(buffer, debtor.bytes());
+}
+
+// Two sums.
+fn put_sums(buffer: &mut Vec<u8>, first: u64, second: u64)
+    requires first { first < 10 ^ 18 }
+    requires second { second < 10 ^ 18 }
+    requires spare { vec_len buffer.old + 80 ≤ vec_capacity buffer.old }
+    ensures text { buffer.new.items ≡ buffer.old.items ++ line_of (cents_text first ∷ cents_text second ∷ []) }
+    ensures len { vec_len buffer.new ≤ vec_len buffer.old + 39 }
+    ensures room { vec_capacity buffer.old ≤ vec_capacity buffer.new }
+{
+    write_cents(buffer, u128::from(first));
+    put(buffer, b" ");
+    write_cents(buffer, u128::from(second));
+}
