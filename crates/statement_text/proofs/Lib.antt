@@ -7,3 +7,4 @@ pub mod Structure
 pub mod Next
 pub mod Texts
 pub mod OneReading
+pub mod Written

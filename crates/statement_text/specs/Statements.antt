@@ -1,5 +1,6 @@
 -- Statements: a cut and its outcome as lines of text.
-use Rattle.std.specs.Prelude.{◌≡◌, ℕ, ◌+◌, ◌<◌, ◌≤◌, ◌^◌, ◌⊎◌, true, List, [], ◌∷◌, ◌++◌, length, map, slice_index_or, All, ℤ, unsigned_abs}
+use Rattle.std.specs.Prelude.{◌≡◌, ℕ, ◌+◌, ◌<◌, ◌≤◌, ◌^◌, ◌⊎◌, true, List, [], ◌∷◌, ◌++◌, length, map, slice_index_or, flat_map, codes, All, ℤ, unsigned_abs}
+use Rattle.std.specs.Str.Lines.{lines}
 use Rattle.setoff_model.specs.declared.cut.Party.{Party}
 use Rattle.setoff_model.specs.declared.cut.CutClaim.{CutClaim}
 use Rattle.setoff_model.specs.Names.{is_name}
@@ -37,6 +38,10 @@ front_of cut outcome = line.Head cut.round cut.kind ∷ party_lines cut.parties 
 -- the lines of a statement, of which END is the last
 abbrev pub statement_lines : CutView → OutcomeView → List (List ℕ)
 statement_lines cut outcome = map line_text (front_of cut outcome ++ line.End ∷ [])
+
+-- the bytes of a statement: each line with its line feed
+abbrev pub statement_bytes : CutView → OutcomeView → List ℕ
+statement_bytes cut outcome = flat_map (λ text. text ++ codes "\n") (statement_lines cut outcome)
 
 -- what a statement may say: a well-formed cut of a numbered round, a price for each party and a discharge for each claim
 pub record CanBeStated (cut : CutView) (outcome : OutcomeView) : Type 0 where
@@ -99,3 +104,7 @@ OnBadLine P (errors.BadLine line cause) = P line
 pub record OneReadingLaw : Type 0 where
   pub cuts : (lines : List (List ℕ)) (a b : CutView) (p q : OutcomeView) → IsStatement lines a p → IsStatement lines b q → a ≡ b
   pub outcomes : (lines : List (List ℕ)) (a b : CutView) (p q : OutcomeView) → IsStatement lines a p → IsStatement lines b q → p ≡ q
+
+-- the bytes of a cut and an outcome state them
+abbrev pub WrittenLaw : Type 0
+WrittenLaw = (cut : CutView) (outcome : OutcomeView) → CanBeStated cut outcome → IsStatement (lines (statement_bytes cut outcome)) cut outcome

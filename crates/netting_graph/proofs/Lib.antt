@@ -1,0 +1,10 @@
+pub mod Crossing
+pub mod Columns
+pub mod Kept
+pub mod Places
+pub mod OneMore
+pub mod Added
+pub mod Sound
+pub mod Filling
+pub mod Steps
+pub mod Bounded

@@ -1,0 +1,4 @@
+pub mod Pairs
+pub mod NetView
+pub mod Merging
+pub mod MergingLaw

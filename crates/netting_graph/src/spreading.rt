@@ -1,0 +1,53 @@
+//! How the flow of a net is spread over the claims of its cut.
+ghost use Rattle.std.specs.Prelude.{◌≡◌, ◌<◌, ◌≤◌, ◌-◌, ℕ, IfOk, length, min, slice_index, slice_set};
+ghost use Rattle.setoff_model.specs.Setoff.{IsLawful, IsGreatest, total_of};
+ghost use Rattle.setoff_model.specs.CutView.{obligations};
+ghost use Rattle.netting_graph.specs.Pairs.{IsPairAt};
+ghost use Rattle.netting_graph.specs.NetView.{obligations_of_net, arc_amounts};
+ghost use Rattle.netting_graph.specs.Merging.{IsNetOf, IsSpread};
+
+use crate::index::ArcIndex;
+use crate::net::Net;
+use setoff_model::{Cut, CutClaim};
+use std::alloc::{AllocError, Global};
+
+/// One discharge for each claim of the cut, in cents: those of one debtor and one creditor sum to the flow of their arc,
+/// and earlier claims are filled first.
+///
+/// The net is that of the cut. There is one flow for each arc, in cents, at most the arc's amount.
+/// An error is want of memory.
+pub fn spread(alloc: Global, cut: &Cut, net: &Net, flows: &[u64]) -> Result<Vec<u64>, AllocError>
+    requires net { IsNetOf cut.now net.now }
+    requires one_each { length flows.now ≡ length net.now.arcs }
+    requires within { (a : ℕ) → a < length net.now.arcs → slice_index flows.now a ≤ slice_index (arc_amounts net.now.arcs) a }
+    ensures spread { IfOk result (λ d. IsSpread cut.now net.now flows.now d.items) }
+    ensures total { IfOk result (λ d. total_of d.items ≡ total_of flows.now) }
+    ensures lawful { IfOk result (λ d. IsLawful (obligations_of_net net.now) flows.now → IsLawful (obligations cut.now) d.items) }
+    ensures greatest { IfOk result (λ d. IsGreatest (obligations_of_net net.now) flows.now → IsGreatest (obligations cut.now) d.items) }
+{
+    let claims = cut.claims();
+    let index = ArcIndex::of(alloc, net.arcs())?;
+    let mut left = Vec::from_slice(alloc, flows)?;
+    let mut discharges = Vec::new(alloc);
+    for claim in claims {
+        let discharge = fill(&index, &mut left, claim);
+        discharges.push(discharge)?;
+    }
+    Ok(discharges)
+}
+
+// Takes what is left of the flow on the claim's arc, up to the claim's amount.
+fn fill(index: &ArcIndex, left: &mut [u64], claim: &CutClaim) -> u64
+    requires long { length left.old ≡ length index.now.debtors }
+    requires known { (a : ℕ) × IsPairAt index.now claim.now.debtor claim.now.creditor a }
+    ensures { (a : ℕ) × IsPairAt index.now claim.now.debtor claim.now.creditor a × (result ≡ min (slice_index left.old a) claim.now.amount) × (left.new ≡ slice_set left.old a (slice_index left.old a - result)) }
+{
+    match index.find(claim.debtor, claim.creditor) {
+        Some(place) => {
+            let discharge = left[place].min(claim.amount);
+            left[place] -= discharge;
+            discharge
+        }
+        None => unreachable!(),
+    }
+}

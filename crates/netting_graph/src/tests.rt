@@ -1,0 +1,193 @@
+ghost use Rattle.std.specs.Prelude.{◌≡◌, ◌<◌, ◌≤◌, ℕ, IsTrue, length, slice_index};
+ghost use Rattle.netting_graph.specs.NetView.{arc_amounts};
+
+use crate::{Arc, Net, merging_keeps_setoffs, spread};
+use setoff_model::{Cut, CutClaim, Key, Kind, Name, Party};
+use std::alloc::{AllocError, Global};
+
+// Whether each flow is at most its arc's amount.
+fn flows_fit(arcs: &[Arc], flows: &[u64]) -> bool
+    requires { length flows.now ≡ length arcs.now }
+    ensures { IsTrue result → (a : ℕ) → a < length arcs.now → slice_index flows.now a ≤ slice_index (arc_amounts arcs.now) a }
+{
+    for (place, arc) in arcs.iter().enumerate() {
+        if flows[place] > arc.amount {
+            return false;
+        }
+    }
+    true
+}
+
+// Spreads flows of the net of a cut. None where the cut is not well formed or the flows do not fit.
+fn discharges_of(alloc: Global, cut: &Cut, flows: &[u64]) -> Result<Option<Vec<u64>>, AllocError> {
+    if !cut.well_formed() {
+        return Ok(None);
+    }
+    let net = Net::of(alloc, cut)?;
+    if flows.len() != net.arcs().len() || !flows_fit(net.arcs(), flows) {
+        return Ok(None);
+    }
+    Ok(Some(spread(alloc, cut, &net, flows)?))
+}
+
+// The arcs of the net of a cut. None where the cut is not well formed.
+fn arcs_of(alloc: Global, cut: &Cut) -> Result<Option<Vec<Arc>>, AllocError> {
+    if !cut.well_formed() {
+        return Ok(None);
+    }
+    let net = Net::of(alloc, cut)?;
+    if net.parties().len() != cut.parties().len() {
+        return Ok(None);
+    }
+    Ok(Some(net.arcs().to_vec(alloc)?))
+}
+
+fn party(firm: Name) -> Party {
+    Party {
+        firm,
+        spend: 0,
+        room: 0,
+    }
+}
+
+fn claim(creditor: Name, invoice: Name, debtor: u32, place: u32, amount: u64) -> CutClaim {
+    CutClaim {
+        key: Key { creditor, invoice },
+        debtor,
+        creditor: place,
+        amount,
+    }
+}
+
+// A owes B 4.00 and then 9.00, and B owes A 6.00.
+fn both_ways(alloc: Global, firms: [Name; 2]) -> Result<Cut, AllocError> {
+    let [a, b] = firms;
+    let parties = vec![in alloc; party(a), party(b)]?;
+    let claims = vec![in alloc;
+        claim(b, a, 0, 1, 400),
+        claim(b, b, 0, 1, 900),
+        claim(a, a, 1, 0, 600),
+    ]?;
+    Ok(Cut::new(1, Kind::Plain, parties, claims))
+}
+
+#[test]
+fn merges_and_spreads_both_ways(rt: HostRuntime) {
+    merging_keeps_setoffs();
+    let a = Name::of(b"A").expect(&rt, "a name");
+    let b = Name::of(b"B").expect(&rt, "a name");
+    let cut = both_ways(rt.alloc(), [a, b]).expect(&rt, "memory");
+    let arcs = arcs_of(rt.alloc(), &cut)
+        .expect(&rt, "memory")
+        .expect(&rt, "a cut");
+    let want = [
+        Arc {
+            debtor: 0,
+            creditor: 1,
+            amount: 1300,
+        },
+        Arc {
+            debtor: 1,
+            creditor: 0,
+            amount: 600,
+        },
+    ];
+    assert!(rt; arcs.as_slice() == want.as_slice());
+    let discharges = discharges_of(rt.alloc(), &cut, &[600, 600]).expect(&rt, "memory");
+    let discharges = discharges.expect(&rt, "flows that fit");
+    assert!(rt; discharges.as_slice() == [400, 200, 600].as_slice());
+}
+
+#[test]
+fn the_empty_cut(rt: HostRuntime) {
+    let cut = Cut::new(1, Kind::Funded, Vec::new(rt.alloc()), Vec::new(rt.alloc()));
+    let arcs = arcs_of(rt.alloc(), &cut)
+        .expect(&rt, "memory")
+        .expect(&rt, "a cut");
+    assert!(rt; arcs.is_empty());
+    let discharges = discharges_of(rt.alloc(), &cut, &[]).expect(&rt, "memory");
+    assert!(rt; discharges.expect(&rt, "flows that fit").is_empty());
+}
+
+// The name of this letter and three digits of the number.
+fn numbered(letter: u8, number: u32) -> Option<Name> {
+    let digit = |unit: u32| b'0' + (number / unit % 10) as u8;
+    Name::of(&[letter, digit(100), digit(10), digit(1)])
+}
+
+// A claim by a fixed rule, between two of seven firms.
+fn ruled_claim(number: u32) -> Option<CutClaim> {
+    let debtor = number / 3 % 7;
+    let creditor = (debtor + 1 + number % 6) % 7;
+    let amount = 1 + u64::from(number % 101 * 37 % 101);
+    let firm = numbered(b'F', creditor)?;
+    let invoice = numbered(b'I', number)?;
+    Some(claim(firm, invoice, debtor, creditor, amount))
+}
+
+fn ruled_cut(alloc: Global) -> Result<Option<Cut>, AllocError> {
+    let mut parties = Vec::new(alloc);
+    for number in 0..7 {
+        match numbered(b'F', number) {
+            Some(firm) => parties.push(party(firm))?,
+            None => return Ok(None),
+        }
+    }
+    let mut claims = Vec::new(alloc);
+    for number in 0..400 {
+        match ruled_claim(number) {
+            Some(claim) => claims.push(claim)?,
+            None => return Ok(None),
+        }
+    }
+    Ok(Some(Cut::new(1, Kind::Plain, parties, claims)))
+}
+
+// Whether the claim goes from the debtor to the creditor of the arc.
+fn is_on(claim: &CutClaim, arc: &Arc) -> bool {
+    claim.debtor == arc.debtor && claim.creditor == arc.creditor
+}
+
+// What the claims of an arc owe, by a look at each claim.
+fn sum_on(claims: &[CutClaim], arc: &Arc) -> u64 {
+    let mut sum: u64 = 0;
+    for claim in claims {
+        if is_on(claim, arc) {
+            sum = sum.saturating_add(claim.amount);
+        }
+    }
+    sum
+}
+
+// The flow of an arc: three fifths of its amount, or all of it.
+fn flow_of(arc: &Arc) -> u64 {
+    if arc.debtor % 2 == 0 {
+        arc.amount / 5 * 3
+    } else {
+        arc.amount
+    }
+}
+
+#[test]
+fn a_table_of_claims(rt: HostRuntime) {
+    let cut = ruled_cut(rt.alloc()).expect(&rt, "memory");
+    let cut = cut.expect(&rt, "names");
+    let claims = cut.claims();
+    let arcs = arcs_of(rt.alloc(), &cut).expect(&rt, "memory");
+    let arcs = arcs.expect(&rt, "a cut");
+    assert!(rt; arcs.iter().all(|arc| arc.amount == sum_on(claims, arc)));
+    let mut flows = Vec::new(rt.alloc());
+    for arc in &arcs {
+        flows.push(flow_of(arc)).expect(&rt, "memory");
+    }
+    let discharges = discharges_of(rt.alloc(), &cut, &flows).expect(&rt, "memory");
+    let discharges = discharges.expect(&rt, "flows that fit");
+    assert!(rt; discharges.len() == claims.len());
+    for (place, claim) in claims.iter().enumerate() {
+        let arc = arcs.iter().find(|arc| is_on(claim, arc));
+        let arc = arc.expect(&rt, "an arc");
+        let earlier = sum_on(&claims[..place], arc);
+        let part = flow_of(arc).saturating_sub(earlier).min(claim.amount);
+        assert!(rt; discharges[place] == part);
+    }
+}
