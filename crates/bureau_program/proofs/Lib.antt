@@ -1,5 +1,4 @@
 pub mod Passing
-pub mod Books
 pub mod Marks
 pub mod Dues
 pub mod Commands

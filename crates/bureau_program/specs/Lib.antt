@@ -2,5 +2,4 @@ pub mod Texts
 pub mod Serving
 pub mod Writing
 pub mod Headline
-pub mod Books
 pub mod Commands

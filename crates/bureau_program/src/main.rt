@@ -1,7 +1,6 @@
 //! A bureau for the multilateral set-off of trade credit.
 #![tactic(auto)]
 
-mod book;
 mod check;
 mod command;
 mod fault_text;

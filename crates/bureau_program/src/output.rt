@@ -5,6 +5,8 @@ ghost use Rattle.std.specs.List.{flat_map};
 ghost use Rattle.bureau_edge.specs.Causes.{HasCause};
 ghost use Rattle.bureau_edge.specs.Streams.{AppendsPart};
 ghost use Rattle.claim_history.specs.Acts.{is_valid};
+ghost use Rattle.claim_history.specs.History.{AreValid};
+ghost use Rattle.claim_history.specs.Laws.{IsReplyInRange};
 ghost use Rattle.statement_text.specs.Entries.{entry_line};
 ghost use Rattle.bureau_program.specs.Serving.{unserved_line, unserved_text, printed_of};
 ghost use Rattle.bureau_program.specs.Writing.{Passes};
@@ -62,6 +64,7 @@ fn make_room<K: Sink>(sink: &mut K, buffer: &mut Vec<u8>) -> Result<(), Failed>
 // Prints the line of an entry.
 fn print_entry<K: Sink>(sink: &mut K, buffer: &mut Vec<u8>, entry: &Entry) -> Result<(), Failed>
     requires valid { is_valid entry.now.act ≡ true }
+    requires range { IsReplyInRange entry.now.reply }
     requires spare { 65536 ≤ vec_capacity buffer.old }
     ensures ok { OnOk result (Passes (K.held sink.old) (K.held sink.new) buffer.old.items buffer.new.items (entry_line entry.now)) }
     ensures part { OnErr result (AppendsPart (K.held sink.old) (K.held sink.new) (buffer.old.items ++ entry_line entry.now)) }
@@ -79,7 +82,8 @@ fn print_entries<K: Sink>(
     buffer: &mut Vec<u8>,
     history: &[Entry],
 ) -> Result<(), Failed>
-    requires valid { All (λ e. is_valid e.act ≡ true) history.now }
+    requires valid { AreValid history.now }
+    requires range { All (λ e. IsReplyInRange e.reply) history.now }
     requires spare { 65536 ≤ vec_capacity buffer.old }
     ensures ok { OnOk result (Passes (K.held sink.old) (K.held sink.new) buffer.old.items buffer.new.items (flat_map entry_line history.now)) }
     ensures part { OnErr result (AppendsPart (K.held sink.old) (K.held sink.new) (buffer.old.items ++ flat_map entry_line history.now)) }
@@ -142,7 +146,8 @@ pub fn print_run<K: Sink>(
     requests: &[Request],
     marks: &[bool],
 ) -> Result<(), Failed>
-    requires valid { All (λ e. is_valid e.act ≡ true) history.now }
+    requires valid { AreValid history.now }
+    requires range { All (λ e. IsReplyInRange e.reply) history.now }
     requires marked { length requests.now ≡ length marks.now }
     requires empty { buffer.old.items ≡ [] }
     requires spare { 65536 ≤ vec_capacity buffer.old }

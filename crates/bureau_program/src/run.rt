@@ -7,12 +7,13 @@ ghost use Rattle.bureau_program.specs.Serving.{IsServed, IsServedRun};
 ghost use Rattle.bureau_program.specs.Writing.{Wrote};
 ghost use Rattle.bureau_program.specs.Headline.{IsBatchDue, IsRunDue};
 
-use crate::book::Book;
 use crate::fault_text::write_bad_line;
 use crate::output::{output_buffer, print_run};
 use crate::serve::{serve_all, status_of};
 use crate::told::told;
 use bureau_edge::Sink;
+use claim_book::Book;
+use claim_history::limits_hold;
 use request_text::{LineCause, Request, RequestError, read_requests};
 use std::alloc::Global;
 
@@ -24,7 +25,7 @@ fn print_served<K: Sink>(
     book: &Book,
     marks: &[bool],
 ) -> u8
-    requires served { IsServed requests.now marks.now book.now }
+    requires served { IsServed requests.now marks.now book.now.history }
     requires marked { length requests.now ≡ length marks.now }
     requires empty { buffer.old.items ≡ [] }
     requires spare { 65536 ≤ vec_capacity buffer.old }
@@ -32,6 +33,7 @@ fn print_served<K: Sink>(
     ensures write_fault { result ≡ 4 → Rose (K.faults sink.old) (K.faults sink.new) }
     ensures no_read_fault { result ≢ 3 }
 {
+    limits_hold();
     match print_run(sink, buffer, book.history(), requests, marks) {
         Ok(()) => status_of(marks),
         Err(_) => 4,

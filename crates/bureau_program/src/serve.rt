@@ -2,31 +2,34 @@
 ghost use Rattle.std.specs.Prelude.{◌≡◌, true, All, IfOk, length, vec_len};
 ghost use Rattle.std.specs.List.{list_all};
 ghost use Rattle.claim_history.specs.Acts.{is_valid};
-ghost use Rattle.bureau_program.specs.Books.{IsBook};
 ghost use Rattle.bureau_program.specs.Serving.{IsServed, AddsOne, end_status};
 
-use crate::book::Book;
+use claim_book::Book;
+use claim_history::Entry;
 use request_text::Request;
 use std::alloc::{AllocError, Global};
 
 // Serves one request, and says whether there was the memory for it.
 fn serve_one(book: &mut Book, request: &Request) -> bool
     requires { is_valid request.now.act ≡ true }
-    ensures { AddsOne book.old book.new request.now result }
+    ensures { AddsOne book.old.history book.new.history request.now result }
 {
-    match request.act.clone() {
-        Ok(act) => match book.ask(request.lane, act) {
-            Ok(()) => true,
-            Err(_) => false,
-        },
-        Err(_) => false,
+    let Ok(act) = request.act.clone() else {
+        return false;
+    };
+    if book.reserve(&act).is_err() {
+        return false;
     }
+    let caller = request.lane;
+    let reply = book.answer(caller, &act);
+    book.apply(Entry { caller, act, reply });
+    true
 }
 
 /// Serves requests in order from an empty book on, and marks those for which there was the memory.
 pub fn serve_all(alloc: Global, requests: &[Request]) -> Result<(Book, Vec<bool>), AllocError>
     requires { All (λ r. is_valid r.act ≡ true) requests.now }
-    ensures served { IfOk result (λ x. IsServed requests.now x.1.items x.0) }
+    ensures served { IfOk result (λ x. IsServed requests.now x.1.items x.0.history) }
     ensures marked { IfOk result (λ x. length requests.now ≡ vec_len x.1) }
 {
     let mut book = Book::new(alloc);

@@ -9,6 +9,20 @@ const FOUR_LINES: &[u8] =
 const FOUR_ENTRIES: &[u8] =
     b"1 FIRM A = ok\n1 FIRM B = ok\n1 FILE B I-1 A 10.00 2025-01-31 = ok\n1 CONFIRM B I-1 A = ok\n";
 
+// An account between its limits: drawn to the floor, and funded to the ceiling.
+const ACCOUNT_LINES: &[u8] =
+    b"1 FIRM A\n1 LIMIT A 50.00 100.00\n1 DRAW A 50.00\n1 DRAW A 0.01\n1 POSITION A\n1 FUND A 150.01\n1 FUND A 150.00\n1 LIMIT A 0.00 99.99\n1 OFFER A 90.00\n1 POSITION A\n1 OFFER B 1.00\n";
+
+const ACCOUNT_ENTRIES: &[u8] =
+    b"1 FIRM A = ok\n1 LIMIT A 50.00 100.00 = ok\n1 DRAW A 50.00 = ok\n1 DRAW A 0.01 = refused 13 below-floor\n1 POSITION A = balance -50.00 receivable 0.00 payable 0.00\n1 FUND A 150.01 = refused 12 over-ceiling\n1 FUND A 150.00 = ok\n1 LIMIT A 0.00 99.99 = refused 14 limits-exclude-balance\n1 OFFER A 90.00 = ok\n1 POSITION A = balance 100.00 receivable 0.00 payable 0.00\n1 OFFER B 1.00 = refused 3 unknown-firm\n";
+
+// The life of a claim: confirmed, received on, disputed and withdrawn.
+const CLAIM_LINES: &[u8] =
+    b"1 FIRM A\n1 FIRM B\n1 FILE B I-1 A 10.00 2025-01-31\n1 RECEIVE B I-1 10.01\n1 CONFIRM B I-1 A\n1 RECEIVE B I-1 4.00\n1 POSITION A\n1 POSITION B\n1 DISPUTE B I-1 B\n1 DISPUTE B I-1 A\n1 POSITION A\n1 DISPUTE B I-1 A\n1 WITHDRAW B I-1\n1 RECEIVE B I-1 1.00\n1 WITHDRAW B I-2\n";
+
+const CLAIM_ENTRIES: &[u8] =
+    b"1 FIRM A = ok\n1 FIRM B = ok\n1 FILE B I-1 A 10.00 2025-01-31 = ok\n1 RECEIVE B I-1 10.01 = refused 11 over-open\n1 CONFIRM B I-1 A = ok\n1 RECEIVE B I-1 4.00 = ok\n1 POSITION A = balance 0.00 receivable 0.00 payable 6.00\n1 POSITION B = balance 0.00 receivable 6.00 payable 0.00\n1 DISPUTE B I-1 B = refused 8 not-debtor\n1 DISPUTE B I-1 A = ok\n1 POSITION A = balance 0.00 receivable 0.00 payable 0.00\n1 DISPUTE B I-1 A = refused 9 wrong-state\n1 WITHDRAW B I-1 = ok\n1 RECEIVE B I-1 1.00 = refused 9 wrong-state\n1 WITHDRAW B I-2 = refused 7 unknown-claim\n";
+
 fn words_of(alloc: Global, texts: &[&str]) -> Result<Vec<String>, AllocError> {
     let mut words = Vec::new(alloc);
     for text in texts {
@@ -19,7 +33,7 @@ fn words_of(alloc: Global, texts: &[&str]) -> Result<Vec<String>, AllocError> {
 
 #[test]
 fn runs(rt: HostRuntime) -> Result<(), Fail> {
-    let cases: [(&[&str], &[u8], u8, &[u8]); 12] = [
+    let cases: [(&[&str], &[u8], u8, &[u8]); 14] = [
         (&["run"], FOUR_LINES, 0, FOUR_ENTRIES),
         (&["run"], b"", 0, b""),
         (&["run", "now"], b"1 FIRM A\n", 2, b"fault words\n"),
@@ -42,7 +56,7 @@ fn runs(rt: HostRuntime) -> Result<(), Fail> {
         (&["run"], b"1 FIRM A\r", 6, b"fault line 1 field 1\n"),
         (
             &["run"],
-            b"1 FIRM A\n1 FUND A 1.00\n",
+            b"1 FIRM A\n1 CLOSE PLAIN 2025-12-31\n",
             6,
             b"fault line 2 verb\n",
         ),
@@ -52,6 +66,8 @@ fn runs(rt: HostRuntime) -> Result<(), Fail> {
             0,
             b"1 FIRM A = ok\n1 FIRM A = refused 1 firm-exists\n1 FIRM B = ok\n1 FILE B I A 1.00 2025-01-31 = ok\n1 FILE C I A 1.00 2025-01-31 = refused 3 unknown-firm\n1 FILE A J A 1.00 2025-01-31 = refused 4 same-firm\n1 FILE B I A 2.00 2025-01-31 = refused 5 claim-exists\n1 CONFIRM A I A = refused 7 unknown-claim\n1 CONFIRM B I B = refused 8 not-debtor\n1 CONFIRM B I A = ok\n1 CONFIRM B I A = refused 9 wrong-state\n",
         ),
+        (&["run"], ACCOUNT_LINES, 0, ACCOUNT_ENTRIES),
+        (&["run"], CLAIM_LINES, 0, CLAIM_ENTRIES),
     ];
     for (texts, input, status, output) in cases {
         let source = SureSource::new(Vec::from_slice(rt.alloc(), input)?);

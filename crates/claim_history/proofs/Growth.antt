@@ -15,8 +15,8 @@ abbrev entry_of : ℕ → Act → Reply → Entry
 entry_of caller a r = record { caller = caller; act = a; reply = r }
 
 acts_step : (caller : ℕ) (a : Act) (r : Reply) (past : List Entry) → (state past).ledger.acts ≡ accepted_acts past → (state (entry_of caller a r ∷ past)).ledger.acts ≡ accepted_acts (entry_of caller a r ∷ past)
-acts_step caller a reply.Done past h = ap (λ (acts : List Act). a ∷ acts) h
 acts_step caller a (reply.Refused w) past h = h
+acts_step caller a r past h = ap (λ (acts : List Act). a ∷ acts) h
 
 past_acts : (past : List Entry) → (state past).ledger.acts ≡ accepted_acts past
 past_acts [] = refl
@@ -24,8 +24,8 @@ past_acts (e ∷ past) = acts_step e.caller e.act e.reply past (past_acts past)
 
 append_step : (caller : ℕ) (a : Act) (r : Reply) (later : List Entry) (es : List Entry) → accepted_acts (es ++ later) ≡ accepted_acts es ++ accepted_acts later
     → accepted_acts (entry_of caller a r ∷ es ++ later) ≡ accepted_acts (entry_of caller a r ∷ es) ++ accepted_acts later
-append_step caller a reply.Done later es h = ap (λ (acts : List Act). a ∷ acts) h
 append_step caller a (reply.Refused w) later es h = h
+append_step caller a r later es h = ap (λ (acts : List Act). a ∷ acts) h
 
 -- the accepted acts of two parts
 accepted_append : (es later : List Entry) → accepted_acts (es ++ later) ≡ accepted_acts es ++ accepted_acts later
@@ -34,8 +34,8 @@ accepted_append (e ∷ es) later = append_step e.caller e.act e.reply later es (
 
 reverse_step : (caller : ℕ) (a : Act) (r : Reply) (es : List Entry) → accepted_acts (reverse es) ≡ reverse (accepted_acts es)
     → accepted_acts (reverse es) ++ accepted_acts (entry_of caller a r ∷ []) ≡ reverse (accepted_acts (entry_of caller a r ∷ es))
-reverse_step caller a reply.Done es h = ap (λ (acts : List Act). acts ++ a ∷ []) h ∙ sym (reverse-append (a ∷ []) (accepted_acts es))
 reverse_step caller a (reply.Refused w) es h = append-nil (accepted_acts (reverse es)) ∙ h
+reverse_step caller a r es h = ap (λ (acts : List Act). acts ++ a ∷ []) h ∙ sym (reverse-append (a ∷ []) (accepted_acts es))
 
 accepted_reverse : (es : List Entry) → accepted_acts (reverse es) ≡ reverse (accepted_acts es)
 accepted_reverse [] = refl

@@ -1,5 +1,5 @@
 -- What may be asked, and its text.
-use Rattle.std.specs.Prelude.{ℕ, Bool, ◌&&◌, nat_le, nat_lt, List, [], ◌∷◌, ◌^◌, codes}
+use Rattle.std.specs.Prelude.{ℕ, Bool, ◌&&◌, nat_le, nat_lt, List, [], ◌∷◌, ◌^◌, codes, ◌≡◌, true}
 use Rattle.std.specs.List.{join_with_byte}
 use Rattle.setoff_model.specs.declared.name.Key.{Key}
 use Rattle.setoff_model.specs.Names.{is_name}
@@ -12,9 +12,13 @@ use Rattle.claim_history.specs.declared.act.Act.TheVariants as act
 abbrev pub is_key : Key → Bool
 is_key key = is_name key.creditor && is_name key.invoice
 
+-- 0.00 to 9999999999.99
+abbrev pub is_amount : ℕ → Bool
+is_amount cents = nat_lt cents (10 ^ 12)
+
 -- 0.01 to 9999999999.99
 abbrev pub is_claim_amount : ℕ → Bool
-is_claim_amount cents = nat_le 1 cents && nat_lt cents (10 ^ 12)
+is_claim_amount cents = nat_le 1 cents && is_amount cents
 
 abbrev pub is_day : ℕ → Bool
 is_day number = nat_le number last_day
@@ -24,13 +28,33 @@ abbrev pub is_valid : Act → Bool
 is_valid (act.Firm firm) = is_name firm
 is_valid (act.File key debtor amount due) = is_key key && is_name debtor && is_claim_amount amount && is_day due
 is_valid (act.Confirm key debtor) = is_key key && is_name debtor
+is_valid (act.Dispute key debtor) = is_key key && is_name debtor
+is_valid (act.Withdraw key) = is_key key
+is_valid (act.Receive key amount) = is_key key && is_claim_amount amount
+is_valid (act.Fund firm amount) = is_name firm && is_claim_amount amount
+is_valid (act.Draw firm amount) = is_name firm && is_claim_amount amount
+is_valid (act.Limit firm credit ceiling) = is_name firm && is_amount credit && is_amount ceiling
+is_valid (act.Offer firm amount) = is_name firm && is_amount amount
+is_valid (act.Position firm) = is_name firm
 
 -- the verb and its fields
 abbrev pub act_fields : Act → List (List ℕ)
 act_fields (act.Firm firm) = codes "FIRM" ∷ firm ∷ []
 act_fields (act.File key debtor amount due) = codes "FILE" ∷ key.creditor ∷ key.invoice ∷ debtor ∷ cents_text amount ∷ day_text due ∷ []
 act_fields (act.Confirm key debtor) = codes "CONFIRM" ∷ key.creditor ∷ key.invoice ∷ debtor ∷ []
+act_fields (act.Dispute key debtor) = codes "DISPUTE" ∷ key.creditor ∷ key.invoice ∷ debtor ∷ []
+act_fields (act.Withdraw key) = codes "WITHDRAW" ∷ key.creditor ∷ key.invoice ∷ []
+act_fields (act.Receive key amount) = codes "RECEIVE" ∷ key.creditor ∷ key.invoice ∷ cents_text amount ∷ []
+act_fields (act.Fund firm amount) = codes "FUND" ∷ firm ∷ cents_text amount ∷ []
+act_fields (act.Draw firm amount) = codes "DRAW" ∷ firm ∷ cents_text amount ∷ []
+act_fields (act.Limit firm credit ceiling) = codes "LIMIT" ∷ firm ∷ cents_text credit ∷ cents_text ceiling ∷ []
+act_fields (act.Offer firm amount) = codes "OFFER" ∷ firm ∷ cents_text amount ∷ []
+act_fields (act.Position firm) = codes "POSITION" ∷ firm ∷ []
 
 -- with single spaces between them
 abbrev pub act_text : Act → List ℕ
 act_text a = join_with_byte 32 (act_fields a)
+
+-- two valid acts have two texts
+abbrev pub ActTextsLaw : Type 0
+ActTextsLaw = (a b : Act) → is_valid a ≡ true → is_valid b ≡ true → act_fields a ≡ act_fields b → a ≡ b

@@ -1,13 +1,10 @@
 //! What is asked of the bureau.
-ghost use Rattle.std.specs.Prelude.{◌≡◌, ◌&&◌, ◌+◌, ◌≤◌, ◌<◌, ◌^◌, ◌++◌, ◌∷◌, [], codes, vec_len, vec_capacity, true};
-ghost use Rattle.std.specs.List.{join_with_byte};
+ghost use Rattle.std.specs.Prelude.{◌≡◌, ◌&&◌};
 ghost use Rattle.setoff_model.specs.Names.{is_name};
-ghost use Rattle.setoff_model.specs.Texts.{cents_text};
-ghost use Rattle.claim_history.specs.Days.{day_text};
-ghost use Rattle.claim_history.specs.Acts.{is_key, is_claim_amount, is_day, is_valid, act_text};
+ghost use Rattle.claim_history.specs.Acts.{is_key, is_amount, is_claim_amount, is_day, is_valid, ActTextsLaw};
 
 use crate::day::Day;
-use setoff_model::{Key, Name, put, write_cents};
+use setoff_model::{Key, Name};
 
 /// What a caller asks. Amounts are cents.
 #[derive(Clone, Debug, PartialEq, Eq, Drop)]
@@ -29,26 +26,96 @@ pub enum Act {
         key: Key,
         debtor: Name,
     },
+    /// Disputes a claim; the act names the claim's debtor.
+    Dispute {
+        key: Key,
+        debtor: Name,
+    },
+    /// Withdraws a claim.
+    Withdraw {
+        key: Key,
+    },
+    /// Tells what was received on a claim: from 0.01 to 9,999,999,999.99.
+    Receive {
+        key: Key,
+        amount: u64,
+    },
+    /// Puts funds into a firm's account: from 0.01 to 9,999,999,999.99.
+    Fund {
+        firm: Name,
+        amount: u64,
+    },
+    /// Draws on a firm's account: from 0.01 to 9,999,999,999.99.
+    Draw {
+        firm: Name,
+        amount: u64,
+    },
+    /// Sets how far a firm's balance may fall below zero, and how high it may be: each from 0.00 to 9,999,999,999.99.
+    Limit {
+        firm: Name,
+        credit: u64,
+        ceiling: u64,
+    },
+    /// Offers an amount to be spent in a set-off: from 0.00 to 9,999,999,999.99.
+    Offer {
+        firm: Name,
+        amount: u64,
+    },
+    /// Asks for a firm's position.
+    Position {
+        firm: Name,
+    },
 }
 
 impl Act {
-    /// Whether every field is in its range: the amount of a File is 1 to 999,999,999,999 cents. Names and days are in
-    /// their ranges by their types.
+    /// Whether every field is in its range. The amounts of a File, a Receive, a Fund and a Draw are 1 to 999,999,999,999
+    /// cents, those of a Limit and an Offer 0 to 999,999,999,999 cents. Names and days are in their ranges by their types.
     pub fn valid(&self) -> bool
         ensures { result ≡ is_valid self.now }
     {
         match self {
-            Act::Firm { firm } => firm_is_valid(firm),
+            Act::Firm { firm } | Act::Position { firm } => firm_is_valid(firm),
             Act::File {
                 key,
                 debtor,
                 amount,
                 due,
             } => file_is_valid(key, debtor, *amount, due),
-            Act::Confirm { key, debtor } => confirm_is_valid(key, debtor),
+            Act::Confirm { key, debtor } | Act::Dispute { key, debtor } => {
+                confirm_is_valid(key, debtor)
+            }
+            Act::Withdraw { key } => key_is_valid(key),
+            Act::Receive { key, amount } => key_is_valid(key) && is_payment(*amount),
+            Act::Fund { firm, amount } | Act::Draw { firm, amount } => {
+                firm_is_valid(firm) && is_payment(*amount)
+            }
+            Act::Limit {
+                firm,
+                credit,
+                ceiling,
+            } => firm_is_valid(firm) && is_cents(*credit) && is_cents(*ceiling),
+            Act::Offer { firm, amount } => firm_is_valid(firm) && is_cents(*amount),
         }
     }
 }
+
+fn is_cents(amount: u64) -> bool
+    ensures { result ≡ is_amount amount }
+{
+    amount < 1_000_000_000_000
+}
+
+fn is_payment(amount: u64) -> bool
+    ensures { result ≡ is_claim_amount amount }
+{
+    1 <= amount && is_cents(amount)
+}
+
+/// Two valid acts have two texts, so an act that is written is read back to the same act. A law, which does nothing when it is
+/// called.
+pub fn each_act_has_its_own_text()
+    ensures law { ActTextsLaw }
+{}
 
 fn firm_is_valid(firm: &Name) -> bool
     ensures { result ≡ is_name firm.now }
@@ -61,92 +128,17 @@ fn file_is_valid(key: &Key, debtor: &Name, amount: u64, due: &Day) -> bool
     ensures { result ≡ (is_key key.now && is_name debtor.now && is_claim_amount amount && is_day due.now) }
 {
     let _ = due.number();
-    confirm_is_valid(key, debtor) && 1 <= amount && amount < 1_000_000_000_000
+    confirm_is_valid(key, debtor) && is_payment(amount)
 }
 
 fn confirm_is_valid(key: &Key, debtor: &Name) -> bool
     ensures { result ≡ (is_key key.now && is_name debtor.now) }
 {
-    firm_is_valid(&key.creditor) && firm_is_valid(&key.invoice) && firm_is_valid(debtor)
+    key_is_valid(key) && firm_is_valid(debtor)
 }
 
-/// Writes the verb and its fields with single spaces between them, and no line's end: at most 80 bytes, into a buffer
-/// that has room. It takes no memory.
-pub fn write_act(buffer: &mut Vec<u8>, act: &Act)
-    requires valid { is_valid act.now ≡ true }
-    requires spare { vec_len buffer.old + 160 ≤ vec_capacity buffer.old }
-    ensures text { buffer.new.items ≡ buffer.old.items ++ act_text act.now }
-    ensures len { vec_len buffer.new ≤ vec_len buffer.old + 80 }
-    ensures room { vec_capacity buffer.old ≤ vec_capacity buffer.new }
+fn key_is_valid(key: &Key) -> bool
+    ensures { result ≡ is_key key.now }
 {
-    match act {
-        Act::Firm { firm } => write_firm(buffer, firm),
-        Act::File {
-            key,
-            debtor,
-            amount,
-            due,
-        } => write_file(buffer, key, debtor, *amount, due),
-        Act::Confirm { key, debtor } => write_confirm(buffer, key, debtor),
-    }
-}
-
-fn write_firm(buffer: &mut Vec<u8>, firm: &Name)
-    requires spare { vec_len buffer.old + 160 ≤ vec_capacity buffer.old }
-    ensures text { buffer.new.items ≡ buffer.old.items ++ join_with_byte 32 (codes "FIRM" ∷ firm.now ∷ []) }
-    ensures len { vec_len buffer.new ≤ vec_len buffer.old + 80 }
-    ensures room { vec_capacity buffer.old ≤ vec_capacity buffer.new }
-{
-    put(buffer, b"FIRM ");
-    put(buffer, firm.bytes());
-}
-
-fn write_file(buffer: &mut Vec<u8>, key: &Key, debtor: &Name, amount: u64, due: &Day)
-    requires spare { vec_len buffer.old + 160 ≤ vec_capacity buffer.old }
-    requires amount { amount < 10 ^ 12 }
-    ensures text { buffer.new.items ≡ buffer.old.items ++ join_with_byte 32 (codes "FILE" ∷ key.now.creditor ∷ key.now.invoice ∷ debtor.now ∷ cents_text amount ∷ day_text due.now ∷ []) }
-    ensures len { vec_len buffer.new ≤ vec_len buffer.old + 80 }
-    ensures room { vec_capacity buffer.old ≤ vec_capacity buffer.new }
-{
-    put(buffer, b"FILE ");
-    write_claim(buffer, key, debtor);
-    put(buffer, b" ");
-    write_terms(buffer, amount, due);
-}
-
-fn write_confirm(buffer: &mut Vec<u8>, key: &Key, debtor: &Name)
-    requires spare { vec_len buffer.old + 160 ≤ vec_capacity buffer.old }
-    ensures text { buffer.new.items ≡ buffer.old.items ++ join_with_byte 32 (codes "CONFIRM" ∷ key.now.creditor ∷ key.now.invoice ∷ debtor.now ∷ []) }
-    ensures len { vec_len buffer.new ≤ vec_len buffer.old + 80 }
-    ensures room { vec_capacity buffer.old ≤ vec_capacity buffer.new }
-{
-    put(buffer, b"CONFIRM ");
-    write_claim(buffer, key, debtor);
-}
-
-// Creditor, invoice and debtor.
-fn write_claim(buffer: &mut Vec<u8>, key: &Key, debtor: &Name)
-    requires spare { vec_len buffer.old + 50 ≤ vec_capacity buffer.old }
-    ensures text { buffer.new.items ≡ buffer.old.items ++ join_with_byte 32 (key.now.creditor ∷ key.now.invoice ∷ debtor.now ∷ []) }
-    ensures len { vec_len buffer.new ≤ vec_len buffer.old + 50 }
-    ensures room { vec_capacity buffer.old ≤ vec_capacity buffer.new }
-{
-    put(buffer, key.creditor.bytes());
-    put(buffer, b" ");
-    put(buffer, key.invoice.bytes());
-    put(buffer, b" ");
-    put(buffer, debtor.bytes());
-}
-
-// Amount and due day.
-fn write_terms(buffer: &mut Vec<u8>, amount: u64, due: &Day)
-    requires spare { vec_len buffer.old + 80 ≤ vec_capacity buffer.old }
-    requires amount { amount < 10 ^ 12 }
-    ensures text { buffer.new.items ≡ buffer.old.items ++ join_with_byte 32 (cents_text amount ∷ day_text due.now ∷ []) }
-    ensures len { vec_len buffer.new ≤ vec_len buffer.old + 24 }
-    ensures room { vec_capacity buffer.old ≤ vec_capacity buffer.new }
-{
-    write_cents(buffer, u128::from(amount));
-    put(buffer, b" ");
-    due.write(buffer);
+    firm_is_valid(&key.creditor) && firm_is_valid(&key.invoice)
 }

@@ -3,8 +3,9 @@ ghost use Rattle.std.specs.Prelude.{◌≡◌};
 ghost use Rattle.claim_history.specs.History.{is_accepted};
 
 use crate::act::Act;
+use crate::fact::Position;
 
-/// Why an act is refused. The refusals have the numbers 1, 2, 3 and so on in this order.
+/// Why an act is refused. The refusals have the numbers 1 to 9 and 11 to 14 in this order.
 #[derive(Clone, Copy, PartialEq, Eq, Debug)]
 pub enum Why {
     /// The firm is registered.
@@ -25,6 +26,14 @@ pub enum Why {
     NotDebtor,
     /// The claim's status is one in which the act has no place.
     WrongState,
+    /// The amount is above the claim's open amount.
+    OverOpen,
+    /// The balance and the amount together are above the ceiling.
+    OverCeiling,
+    /// The balance less the amount is below zero by more than the credit.
+    BelowFloor,
+    /// The balance is not within the new limits.
+    LimitsExcludeBalance,
 }
 
 /// What the bureau replies to an act.
@@ -32,6 +41,8 @@ pub enum Why {
 pub enum Reply {
     /// The act is accepted.
     Done,
+    /// The act is accepted, and this is the firm's position.
+    Position(Position),
     /// The act is refused and changes nothing.
     Refused(Why),
 }

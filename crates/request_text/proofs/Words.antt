@@ -3,17 +3,19 @@ use Rattle.std.proofs.Common.{◌≡◌, ℕ, ◌<◌, ◌≤◌, ◌^◌, ◌+�
 use Rattle.std.specs.Prelude.{◌&&◌, nat_le, nat_lt, codes, get_or, Result, Ok, Err, IfOk, OnErr}
 use Rattle.std.specs.List.{AllByRecursion}
 use Rattle.std.proofs.lemmas.Bool.{leb-true, ltb-true}
+use Rattle.setoff_model.specs.declared.name.Key.{Key}
 use Rattle.setoff_model.specs.Names.{is_name}
 use Rattle.setoff_model.specs.Texts.{cents_text}
 use Rattle.setoff_model.proofs.Spelling.{spelling_law}
-use Rattle.text_lines.specs.Fields.{fields, line_of, HasNoSpace, JoinLaw, NoSpaceLaw}
-use Rattle.text_lines.proofs.Spaces.{known_no_space, two_no_space, append_no_space}
+use Rattle.text_lines.specs.Fields.{fields, line_of, HasNoSpace, JoinLaw, IsVisible, VisibleLaw}
+use Rattle.text_lines.proofs.Spaces.{known_no_space, no_space_of}
+use Rattle.text_lines.proofs.Visible.{known, join, two}
 use Rattle.claim_history.specs.declared.act.Act.{Act}
 use Rattle.claim_history.specs.declared.act.Act.TheVariants as act
 use Rattle.claim_history.specs.Days.{day_text, date_of, two_digits}
-use Rattle.claim_history.specs.Acts.{is_valid, is_key, is_claim_amount, act_fields}
+use Rattle.claim_history.specs.Acts.{is_valid, is_key, is_amount, is_claim_amount, is_day, act_fields}
 use Rattle.request_text.specs.declared.error.LineCause.{LineCause}
-use Rattle.request_text.specs.Grammar.{AreFields, AreNoFields, IsLine, IsNoLine}
+use Rattle.request_text.specs.Grammar.{AreNoArgs, AreFields, AreNoFields, IsLine, IsNoLine, line_fields}
 
 pub both : (a b : Bool) → (a && b) ≡ true → (a ≡ true) × (b ≡ true)
 both true b h = (refl, h)
@@ -41,47 +43,110 @@ five d (a ∷ b ∷ c ∷ e ∷ []) low high = absurd (omega arith)
 five d (a ∷ b ∷ c ∷ e ∷ f ∷ []) low high = refl
 five d (a ∷ b ∷ c ∷ e ∷ f ∷ g ∷ xs) low high = absurd (omega arith)
 
--- the fields of an act have no space
+-- the limits of an account, of which the second is no amount
+pub no_ceiling : (firm credit ceiling : List ℕ) → ((cents : ℕ) → is_amount cents ≡ true → ceiling ≡ cents_text cents → ⊥) → AreNoArgs (codes "LIMIT") (firm ∷ credit ∷ ceiling ∷ [])
+no_ceiling firm credit ceiling h (act.Firm firm₂) valid e = absurd cc
+no_ceiling firm credit ceiling h (act.File key₂ debtor₂ amount₂ due₂) valid e = absurd cc
+no_ceiling firm credit ceiling h (act.Confirm key₂ debtor₂) valid e = absurd cc
+no_ceiling firm credit ceiling h (act.Dispute key₂ debtor₂) valid e = absurd cc
+no_ceiling firm credit ceiling h (act.Withdraw key₂) valid e = absurd cc
+no_ceiling firm credit ceiling h (act.Receive key₂ amount₂) valid e = absurd cc
+no_ceiling firm credit ceiling h (act.Fund firm₂ amount₂) valid e = absurd cc
+no_ceiling firm credit ceiling h (act.Draw firm₂ amount₂) valid e = absurd cc
+no_ceiling firm credit ceiling h (act.Limit f c d) valid e = h d (both (is_name f && is_amount c) (is_amount d) valid).1 (ap (λ (fs : List (List ℕ)). get_or fs 3 []) e)
+no_ceiling firm credit ceiling h (act.Offer firm₂ amount₂) valid e = absurd cc
+no_ceiling firm credit ceiling h (act.Position firm₂) valid e = absurd cc
 
-digits_no_space : (n : ℕ) → HasNoSpace (two_digits n)
-digits_no_space n = two_no_space (48 + n / 10 % 10) (48 + n % 10) (omega arith) (omega arith)
+-- the fields of an act are visible
 
-day_no_space : (n : ℕ) → HasNoSpace (day_text n)
-day_no_space n =
+digits_visible : (n : ℕ) → IsVisible (two_digits n)
+digits_visible n = two (48 + n / 10 % 10) (48 + n % 10) (omega arith) (omega arith)
+
+dash_visible : IsVisible (codes "-")
+dash_visible = known (codes "-") refl
+
+day_visible : (n : ℕ) → IsVisible (day_text n)
+day_visible n =
     let c = date_of n in
-    append_no_space (two_digits (c.year / 100) ++ two_digits c.year ++ codes "-" ++ two_digits c.month ++ codes "-") (two_digits c.day)
-    (append_no_space (two_digits (c.year / 100) ++ two_digits c.year ++ codes "-" ++ two_digits c.month) (codes "-")
-    (append_no_space (two_digits (c.year / 100) ++ two_digits c.year ++ codes "-") (two_digits c.month)
-    (append_no_space (two_digits (c.year / 100) ++ two_digits c.year) (codes "-") (append_no_space (two_digits (c.year / 100)) (two_digits c.year) (digits_no_space (c.year / 100)) (digits_no_space c.year)) (known_no_space (codes "-") refl))
-    (digits_no_space c.month))
-    (known_no_space (codes "-") refl))
-    (digits_no_space c.day)
+    let year = join (two_digits (c.year / 100)) (two_digits c.year) (digits_visible (c.year / 100)) (digits_visible c.year) in
+    let month = join (two_digits (c.year / 100) ++ two_digits c.year ++ codes "-") (two_digits c.month) (join (two_digits (c.year / 100) ++ two_digits c.year) (codes "-") year dash_visible) (digits_visible c.month) in
+    join (two_digits (c.year / 100) ++ two_digits c.year ++ codes "-" ++ two_digits c.month ++ codes "-") (two_digits c.day)
+    (join (two_digits (c.year / 100) ++ two_digits c.year ++ codes "-" ++ two_digits c.month) (codes "-") month dash_visible)
+    (digits_visible c.day)
 
-pub fields_no_space : NoSpaceLaw → (a : Act) → is_valid a ≡ true → AllByRecursion HasNoSpace (act_fields a)
-fields_no_space law (act.Firm firm) h = (known_no_space (codes "FIRM") refl, (law.names firm h, tt))
-fields_no_space law (act.File key debtor amount due) h =
-    let p = both _ _ h in
+key_visible : VisibleLaw → (key : Key) → is_key key ≡ true → IsVisible key.creditor × IsVisible key.invoice
+key_visible law key h =
+    let k = both (is_name key.creditor) (is_name key.invoice) h in
+    (law.names key.creditor k.0, law.names key.invoice k.1)
+
+amount_visible : VisibleLaw → (cents : ℕ) → is_amount cents ≡ true → IsVisible (cents_text cents)
+amount_visible law cents h = law.cents cents (omega (arith, ltb-true cents (10 ^ 12) h))
+
+claim_amount_visible : VisibleLaw → (cents : ℕ) → is_claim_amount cents ≡ true → IsVisible (cents_text cents)
+claim_amount_visible law cents h = amount_visible law cents (both (nat_le 1 cents) (is_amount cents) h).1
+
+pub fields_visible : VisibleLaw → (a : Act) → is_valid a ≡ true → AllByRecursion IsVisible (act_fields a)
+fields_visible law (act.Firm firm) h = (known (codes "FIRM") refl, (law.names firm h, tt))
+fields_visible law (act.File key debtor amount due) h =
+    let p = both (is_key key && is_name debtor && is_claim_amount amount) (is_day due) h in
     let q = both (is_key key && is_name debtor) (is_claim_amount amount) p.0 in
     let r = both (is_key key) (is_name debtor) q.0 in
-    let k = both (is_name key.creditor) (is_name key.invoice) r.0 in
-    (known_no_space (codes "FILE") refl, (law.names key.creditor k.0, (law.names key.invoice k.1, (law.names debtor r.1, (law.cents amount (omega (arith, (amount_within amount q.1).1)), (day_no_space due, tt))))))
-fields_no_space law (act.Confirm key debtor) h =
+    let k = r.0 in
+    (known (codes "FILE") refl, ((key_visible law key k).0, ((key_visible law key k).1, (law.names debtor r.1, (claim_amount_visible law amount q.1, (day_visible due, tt))))))
+fields_visible law (act.Confirm key debtor) h =
     let r = both (is_key key) (is_name debtor) h in
-    let k = both (is_name key.creditor) (is_name key.invoice) r.0 in
-    (known_no_space (codes "CONFIRM") refl, (law.names key.creditor k.0, (law.names key.invoice k.1, (law.names debtor r.1, tt))))
+    let k = r.0 in
+    (known (codes "CONFIRM") refl, ((key_visible law key k).0, ((key_visible law key k).1, (law.names debtor r.1, tt))))
+fields_visible law (act.Dispute key debtor) h =
+    let r = both (is_key key) (is_name debtor) h in
+    let k = r.0 in
+    (known (codes "DISPUTE") refl, ((key_visible law key k).0, ((key_visible law key k).1, (law.names debtor r.1, tt))))
+fields_visible law (act.Withdraw key) h =
+    let k = h in
+    (known (codes "WITHDRAW") refl, ((key_visible law key k).0, ((key_visible law key k).1, tt)))
+fields_visible law (act.Receive key amount) h =
+    let r = both (is_key key) (is_claim_amount amount) h in
+    let k = r.0 in
+    (known (codes "RECEIVE") refl, ((key_visible law key k).0, ((key_visible law key k).1, (claim_amount_visible law amount r.1, tt))))
+fields_visible law (act.Fund firm amount) h =
+    let r = both (is_name firm) (is_claim_amount amount) h in
+    (known (codes "FUND") refl, (law.names firm r.0, (claim_amount_visible law amount r.1, tt)))
+fields_visible law (act.Draw firm amount) h =
+    let r = both (is_name firm) (is_claim_amount amount) h in
+    (known (codes "DRAW") refl, (law.names firm r.0, (claim_amount_visible law amount r.1, tt)))
+fields_visible law (act.Limit firm credit ceiling) h =
+    let r = both (is_name firm && is_amount credit) (is_amount ceiling) h in
+    let q = both (is_name firm) (is_amount credit) r.0 in
+    (known (codes "LIMIT") refl, (law.names firm q.0, (amount_visible law credit q.1, (amount_visible law ceiling r.1, tt))))
+fields_visible law (act.Offer firm amount) h =
+    let r = both (is_name firm) (is_amount amount) h in
+    (known (codes "OFFER") refl, (law.names firm r.0, (amount_visible law amount r.1, tt)))
+fields_visible law (act.Position firm) h = (known (codes "POSITION") refl, (law.names firm h, tt))
+
+no_spaces : (fs : List (List ℕ)) → AllByRecursion IsVisible fs → AllByRecursion HasNoSpace fs
+no_spaces [] h = tt
+no_spaces (f ∷ fs) h = (no_space_of f h.0, no_spaces fs h.1)
+
+-- the fields of a line are cut out of it again
+pub cut_fields : JoinLaw → VisibleLaw → (a : Act) → is_valid a ≡ true → fields (line_of (line_fields a)) ≡ line_fields a
+cut_fields law visible a valid = law.cut (codes "1") (act_fields a) (known_no_space (codes "1") refl) (no_spaces (act_fields a) (fields_visible visible a valid))
 
 -- a line is read by its fields
 
 is_line : JoinLaw → (line : List ℕ) (a : Act) → AreFields (fields line) a → IsLine line a
 is_line law line a h = (h.0, sym (law.joined line) ∙ ap line_of h.1)
 
-is_no_line : JoinLaw → NoSpaceLaw → (line : List ℕ) → AreNoFields (fields line) → IsNoLine line
-is_no_line law spaces line h a valid e = h a valid (ap fields e ∙ law.cut (codes "1") (act_fields a) (known_no_space (codes "1") refl) (fields_no_space spaces a valid))
+is_no_line : JoinLaw → VisibleLaw → (line : List ℕ) → AreNoFields (fields line) → IsNoLine line
+is_no_line law visible line h a valid e = h a valid (ap fields e ∙ cut_fields law visible a valid)
 
 pub found_line : JoinLaw → (line : List ℕ) (parts : List (List ℕ)) (r : Result Act LineCause) → parts ≡ fields line → IfOk r (AreFields parts) → IfOk r (IsLine line)
 found_line law line parts (Ok a) e h = is_line law line a (h.0, sym e ∙ h.1)
 found_line law line parts (Err cause) e h = tt
 
-pub bad_line : JoinLaw → NoSpaceLaw → (line : List ℕ) (parts : List (List ℕ)) (r : Result Act LineCause) → parts ≡ fields line → OnErr r (AreNoFields parts) → OnErr r (IsNoLine line)
-bad_line law spaces line parts (Ok a) e h = tt
-bad_line law spaces line parts (Err cause) e h = is_no_line law spaces line (λ a valid same. h a valid (e ∙ same))
+pub bad_line : JoinLaw → VisibleLaw → (line : List ℕ) (parts : List (List ℕ)) (r : Result Act LineCause) → parts ≡ fields line → OnErr r (AreNoFields parts) → OnErr r (IsNoLine line)
+bad_line law visible line parts (Ok a) e h = tt
+bad_line law visible line parts (Err cause) e h = is_no_line law visible line (λ a valid same. h a valid (e ∙ same))
+
+pub on_err : {T E : Type 0} (r : Result T E) (P : Type 0) → P → OnErr r P
+on_err (Ok t) P h = tt
+on_err (Err e) P h = h

@@ -1,5 +1,5 @@
 -- The text of requests: one line for each, `lane VERB fields`.
-use Rattle.std.specs.Prelude.{◌≡◌, ℕ, ◌+◌, true, List, [], ◌∷◌, ◌++◌, length, codes}
+use Rattle.std.specs.Prelude.{◌≡◌, ℕ, ◌+◌, true, List, [], ◌∷◌, ◌++◌, length, codes, All, flat_map}
 use Rattle.std.specs.Str.Lines.{lines}
 use Rattle.text_lines.specs.Fields.{line_of}
 use Rattle.claim_history.specs.declared.act.Act.{Act}
@@ -65,3 +65,17 @@ pub record IsFirstBadLine (bytes : List ℕ) (number : ℕ) : Type 0 where
 abbrev pub OnBadLine : (ℕ → Type 0) → RequestError → Type 0
 OnBadLine P errors.Memory = Unit {0}
 OnBadLine P (errors.BadLine line cause) = P line
+
+-- the line of an act, with its end
+abbrev pub request_line : Act → List ℕ
+request_line act = line_of (line_fields act) ++ codes "\n"
+
+-- requests of these acts, one on each line
+abbrev pub numbered : ℕ → List Act → List Request
+numbered number [] = []
+numbered number (act ∷ acts) = record { line = number; lane = 1; act = act } ∷ numbered (number + 1) acts
+
+-- what is written is read back: the lines of valid acts are their requests, and no bytes are the text of two lists of requests
+pub record ReadBackLaw : Type 0 where
+  pub written : (acts : List Act) → All (λ a. is_valid a ≡ true) acts → IsRequestText (flat_map request_line acts) (numbered 1 acts)
+  pub only : (bytes : List ℕ) (a b : List Request) → IsRequestText bytes a → IsRequestText bytes b → a ≡ b

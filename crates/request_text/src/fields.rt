@@ -3,14 +3,14 @@ ghost use Rattle.std.specs.Prelude.{◌≡◌, ◌↔◌, ℕ, ◌∷◌, [], co
 ghost use Rattle.setoff_model.specs.Names.{is_name};
 ghost use Rattle.setoff_model.specs.Texts.{cents_text};
 ghost use Rattle.claim_history.specs.Days.{day_text};
-ghost use Rattle.claim_history.specs.Acts.{is_key, is_claim_amount, is_day};
+ghost use Rattle.claim_history.specs.Acts.{is_key, is_amount, is_claim_amount, is_day};
 ghost use Rattle.request_text.specs.Grammar.{AreArgs, AreNoArgs, AreFields, AreNoFields, IsLine, IsNoLine};
 
 use crate::error::LineCause;
 use claim_history::{Act, Day};
 use setoff_model::{Key, Name, read_amount};
 use std::alloc::{AllocError, Global};
-use text_lines::{fields_of, joined_fields_are_cut_again};
+use text_lines::{ended_lines_are_lines, fields_of, joined_fields_are_cut_again};
 
 fn is_text(a: &[u8], b: &[u8]) -> bool
     ensures { IsTrue result ↔ (a.now ≡ b.now) }
@@ -41,6 +41,17 @@ fn amount_at(field: &[u8], k: u32) -> Result<u64, LineCause>
     match read_amount(field) {
         None | Some(0) => Err(LineCause::Field(k)),
         Some(cents) => Ok(cents),
+    }
+}
+
+// The amount from 0.00 on that a field is, the k-th after the verb.
+fn any_amount_at(field: &[u8], k: u32) -> Result<u64, LineCause>
+    ensures found { IfOk result (λ cents. (field.now ≡ cents_text cents) × (is_amount cents ≡ true)) }
+    ensures bad { OnErr result ((cents : ℕ) → is_amount cents ≡ true → field.now ≡ cents_text cents → ⊥) }
+{
+    match read_amount(field) {
+        Some(cents) => Ok(cents),
+        None => Err(LineCause::Field(k)),
     }
 }
 
@@ -133,16 +144,191 @@ fn confirmed(creditor: &[u8], invoice: &[u8], debtor: &[u8]) -> Result<Act, Line
     Ok(Act::Confirm { key, debtor })
 }
 
+// The act of a DISPUTE's fields.
+fn dispute_act(args: &[&[u8]]) -> Result<Act, LineCause>
+    ensures found { IfOk result (AreArgs (codes "DISPUTE") (map (λ f. f.now) args.now)) }
+    ensures bad { OnErr result (AreNoArgs (codes "DISPUTE") (map (λ f. f.now) args.now)) }
+{
+    let [creditor, invoice, debtor] = args else {
+        return Err(LineCause::Fields);
+    };
+    disputed(creditor, invoice, debtor)
+}
+
+fn disputed(creditor: &[u8], invoice: &[u8], debtor: &[u8]) -> Result<Act, LineCause>
+    ensures found { IfOk result (AreArgs (codes "DISPUTE") (creditor.now ∷ invoice.now ∷ debtor.now ∷ [])) }
+    ensures bad { OnErr result (AreNoArgs (codes "DISPUTE") (creditor.now ∷ invoice.now ∷ debtor.now ∷ [])) }
+{
+    let key = key_at(creditor, invoice)?;
+    let debtor = name_at(debtor, 3)?;
+    Ok(Act::Dispute { key, debtor })
+}
+
+// The act of a WITHDRAW's fields.
+fn withdraw_act(args: &[&[u8]]) -> Result<Act, LineCause>
+    ensures found { IfOk result (AreArgs (codes "WITHDRAW") (map (λ f. f.now) args.now)) }
+    ensures bad { OnErr result (AreNoArgs (codes "WITHDRAW") (map (λ f. f.now) args.now)) }
+{
+    let [creditor, invoice] = args else {
+        return Err(LineCause::Fields);
+    };
+    withdrawn(creditor, invoice)
+}
+
+fn withdrawn(creditor: &[u8], invoice: &[u8]) -> Result<Act, LineCause>
+    ensures found { IfOk result (AreArgs (codes "WITHDRAW") (creditor.now ∷ invoice.now ∷ [])) }
+    ensures bad { OnErr result (AreNoArgs (codes "WITHDRAW") (creditor.now ∷ invoice.now ∷ [])) }
+{
+    let key = key_at(creditor, invoice)?;
+    Ok(Act::Withdraw { key })
+}
+
+// The act of a RECEIVE's fields.
+fn receive_act(args: &[&[u8]]) -> Result<Act, LineCause>
+    ensures found { IfOk result (AreArgs (codes "RECEIVE") (map (λ f. f.now) args.now)) }
+    ensures bad { OnErr result (AreNoArgs (codes "RECEIVE") (map (λ f. f.now) args.now)) }
+{
+    let [creditor, invoice, amount] = args else {
+        return Err(LineCause::Fields);
+    };
+    received(creditor, invoice, amount)
+}
+
+fn received(creditor: &[u8], invoice: &[u8], amount: &[u8]) -> Result<Act, LineCause>
+    ensures found { IfOk result (AreArgs (codes "RECEIVE") (creditor.now ∷ invoice.now ∷ amount.now ∷ [])) }
+    ensures bad { OnErr result (AreNoArgs (codes "RECEIVE") (creditor.now ∷ invoice.now ∷ amount.now ∷ [])) }
+{
+    let key = key_at(creditor, invoice)?;
+    let amount = amount_at(amount, 3)?;
+    Ok(Act::Receive { key, amount })
+}
+
+// The act of a FUND's fields.
+fn fund_act(args: &[&[u8]]) -> Result<Act, LineCause>
+    ensures found { IfOk result (AreArgs (codes "FUND") (map (λ f. f.now) args.now)) }
+    ensures bad { OnErr result (AreNoArgs (codes "FUND") (map (λ f. f.now) args.now)) }
+{
+    let [firm, amount] = args else {
+        return Err(LineCause::Fields);
+    };
+    funded(firm, amount)
+}
+
+fn funded(firm: &[u8], amount: &[u8]) -> Result<Act, LineCause>
+    ensures found { IfOk result (AreArgs (codes "FUND") (firm.now ∷ amount.now ∷ [])) }
+    ensures bad { OnErr result (AreNoArgs (codes "FUND") (firm.now ∷ amount.now ∷ [])) }
+{
+    let firm = name_at(firm, 1)?;
+    let amount = amount_at(amount, 2)?;
+    Ok(Act::Fund { firm, amount })
+}
+
+// The act of a DRAW's fields.
+fn draw_act(args: &[&[u8]]) -> Result<Act, LineCause>
+    ensures found { IfOk result (AreArgs (codes "DRAW") (map (λ f. f.now) args.now)) }
+    ensures bad { OnErr result (AreNoArgs (codes "DRAW") (map (λ f. f.now) args.now)) }
+{
+    let [firm, amount] = args else {
+        return Err(LineCause::Fields);
+    };
+    drawn(firm, amount)
+}
+
+fn drawn(firm: &[u8], amount: &[u8]) -> Result<Act, LineCause>
+    ensures found { IfOk result (AreArgs (codes "DRAW") (firm.now ∷ amount.now ∷ [])) }
+    ensures bad { OnErr result (AreNoArgs (codes "DRAW") (firm.now ∷ amount.now ∷ [])) }
+{
+    let firm = name_at(firm, 1)?;
+    let amount = amount_at(amount, 2)?;
+    Ok(Act::Draw { firm, amount })
+}
+
+// The act of a LIMIT's fields.
+fn limit_act(args: &[&[u8]]) -> Result<Act, LineCause>
+    ensures found { IfOk result (AreArgs (codes "LIMIT") (map (λ f. f.now) args.now)) }
+    ensures bad { OnErr result (AreNoArgs (codes "LIMIT") (map (λ f. f.now) args.now)) }
+{
+    let [firm, credit, ceiling] = args else {
+        return Err(LineCause::Fields);
+    };
+    limited(firm, credit, ceiling)
+}
+
+fn limited(firm: &[u8], credit: &[u8], ceiling: &[u8]) -> Result<Act, LineCause>
+    ensures found { IfOk result (AreArgs (codes "LIMIT") (firm.now ∷ credit.now ∷ ceiling.now ∷ [])) }
+    ensures bad { OnErr result (AreNoArgs (codes "LIMIT") (firm.now ∷ credit.now ∷ ceiling.now ∷ [])) }
+{
+    let firm = name_at(firm, 1)?;
+    let credit = any_amount_at(credit, 2)?;
+    let ceiling = any_amount_at(ceiling, 3)?;
+    Ok(Act::Limit {
+        firm,
+        credit,
+        ceiling,
+    })
+}
+
+// The act of an OFFER's fields.
+fn offer_act(args: &[&[u8]]) -> Result<Act, LineCause>
+    ensures found { IfOk result (AreArgs (codes "OFFER") (map (λ f. f.now) args.now)) }
+    ensures bad { OnErr result (AreNoArgs (codes "OFFER") (map (λ f. f.now) args.now)) }
+{
+    let [firm, amount] = args else {
+        return Err(LineCause::Fields);
+    };
+    offered(firm, amount)
+}
+
+fn offered(firm: &[u8], amount: &[u8]) -> Result<Act, LineCause>
+    ensures found { IfOk result (AreArgs (codes "OFFER") (firm.now ∷ amount.now ∷ [])) }
+    ensures bad { OnErr result (AreNoArgs (codes "OFFER") (firm.now ∷ amount.now ∷ [])) }
+{
+    let firm = name_at(firm, 1)?;
+    let amount = any_amount_at(amount, 2)?;
+    Ok(Act::Offer { firm, amount })
+}
+
+// The act of a POSITION's fields.
+fn position_act(args: &[&[u8]]) -> Result<Act, LineCause>
+    ensures found { IfOk result (AreArgs (codes "POSITION") (map (λ f. f.now) args.now)) }
+    ensures bad { OnErr result (AreNoArgs (codes "POSITION") (map (λ f. f.now) args.now)) }
+{
+    let [firm] = args else {
+        return Err(LineCause::Fields);
+    };
+    let firm = name_at(firm, 1)?;
+    Ok(Act::Position { firm })
+}
+
 // The act of a verb and the fields after it.
 fn verb_act(verb: &[u8], args: &[&[u8]]) -> Result<Act, LineCause>
     ensures found { IfOk result (AreArgs verb.now (map (λ f. f.now) args.now)) }
     ensures bad { OnErr result (AreNoArgs verb.now (map (λ f. f.now) args.now)) }
 {
-    match verb {
-        b"FIRM" => firm_act(args),
-        b"FILE" => file_act(args),
-        b"CONFIRM" => confirm_act(args),
-        _ => Err(LineCause::Verb),
+    if is_text(verb, b"FIRM") {
+        firm_act(args)
+    } else if is_text(verb, b"FILE") {
+        file_act(args)
+    } else if is_text(verb, b"CONFIRM") {
+        confirm_act(args)
+    } else if is_text(verb, b"DISPUTE") {
+        dispute_act(args)
+    } else if is_text(verb, b"WITHDRAW") {
+        withdraw_act(args)
+    } else if is_text(verb, b"RECEIVE") {
+        receive_act(args)
+    } else if is_text(verb, b"FUND") {
+        fund_act(args)
+    } else if is_text(verb, b"DRAW") {
+        draw_act(args)
+    } else if is_text(verb, b"LIMIT") {
+        limit_act(args)
+    } else if is_text(verb, b"OFFER") {
+        offer_act(args)
+    } else if is_text(verb, b"POSITION") {
+        position_act(args)
+    } else {
+        Err(LineCause::Verb)
     }
 }
 
@@ -169,6 +355,7 @@ pub(crate) fn read_line(alloc: Global, line: &[u8]) -> Result<Result<Act, LineCa
     ensures bad { IfOk result (λ read. OnErr read (IsNoLine line.now)) }
 {
     joined_fields_are_cut_again();
+    ended_lines_are_lines();
     let fields = fields_of(alloc, line)?;
     Ok(act_of(fields.as_slice()))
 }

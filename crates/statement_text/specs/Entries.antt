@@ -1,6 +1,8 @@
 -- The line of an entry.
 use Rattle.std.specs.Prelude.{ℕ, List, ◌++◌, codes, decimal}
+use Rattle.setoff_model.specs.Texts.{cents_text, signed_cents_text}
 use Rattle.claim_history.specs.Acts.{act_text}
+use Rattle.claim_history.specs.declared.fact.Position.{Position}
 use Rattle.claim_history.specs.declared.entry.Entry.{Entry}
 use Rattle.claim_history.specs.declared.entry.Why.{Why}
 use Rattle.claim_history.specs.declared.entry.Why.TheVariants as why
@@ -18,10 +20,19 @@ why_text why.ClaimsFull = codes "6 claims-full"
 why_text why.UnknownClaim = codes "7 unknown-claim"
 why_text why.NotDebtor = codes "8 not-debtor"
 why_text why.WrongState = codes "9 wrong-state"
+why_text why.OverOpen = codes "11 over-open"
+why_text why.OverCeiling = codes "12 over-ceiling"
+why_text why.BelowFloor = codes "13 below-floor"
+why_text why.LimitsExcludeBalance = codes "14 limits-exclude-balance"
+
+-- the balance, and what is owed to the firm and by it
+abbrev pub position_text : Position → List ℕ
+position_text p = codes "balance " ++ signed_cents_text p.balance ++ codes " receivable " ++ cents_text p.receivable ++ codes " payable " ++ cents_text p.payable
 
 -- the text of a reply
 abbrev pub reply_text : Reply → List ℕ
 reply_text reply.Done = codes "ok"
+reply_text (reply.Position position) = position_text position
 reply_text (reply.Refused w) = codes "refused " ++ why_text w
 
 -- one line for an entry: `caller REQUEST = REPLY`

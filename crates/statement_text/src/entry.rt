@@ -1,15 +1,18 @@
 //! The line of an entry.
-ghost use Rattle.std.specs.Prelude.{◌≡◌, ◌+◌, ◌≤◌, ◌++◌, length, codes, true, vec_len, vec_capacity};
+ghost use Rattle.std.specs.Prelude.{◌≡◌, ◌+◌, ◌<◌, ◌≤◌, ◌^◌, ◌++◌, unsigned_abs, length, codes, true, vec_len, vec_capacity};
+ghost use Rattle.setoff_model.specs.Texts.{cents_text, signed_cents_text};
 ghost use Rattle.claim_history.specs.Acts.{is_valid};
-ghost use Rattle.statement_text.specs.Entries.{why_text, reply_text, entry_line};
+ghost use Rattle.claim_history.specs.Laws.{IsReplyInRange};
+ghost use Rattle.statement_text.specs.Entries.{why_text, position_text, reply_text, entry_line};
 
-use claim_history::{Entry, Reply, Why, write_act};
+use claim_history::{Entry, Position, Reply, Why, write_act};
+use itoa::Buffer;
 use setoff_model::{put, write_number};
 
 // The number and name of a refusal.
 fn why_name(why: Why) -> &'static [u8]
     ensures text { result.now ≡ why_text why }
-    ensures short { length result.now ≤ 20 }
+    ensures short { length result.now ≤ 25 }
 {
     match why {
         Why::FirmExists => b"1 firm-exists",
@@ -21,27 +24,101 @@ fn why_name(why: Why) -> &'static [u8]
         Why::UnknownClaim => b"7 unknown-claim",
         Why::NotDebtor => b"8 not-debtor",
         Why::WrongState => b"9 wrong-state",
+        Why::OverOpen => b"11 over-open",
+        Why::OverCeiling => b"12 over-ceiling",
+        Why::BelowFloor => b"13 below-floor",
+        Why::LimitsExcludeBalance => b"14 limits-exclude-balance",
     }
 }
 
-fn write_reply(buffer: &mut Vec<u8>, reply: Reply)
-    requires { vec_len buffer.old + 30 ≤ vec_capacity buffer.old }
-    ensures text { buffer.new.items ≡ buffer.old.items ++ reply_text reply }
-    ensures len { vec_len buffer.new ≤ vec_len buffer.old + 30 }
+// Writes cents as `write_cents` of `setoff_model` does, and asks for no more room than they take.
+fn write_sum(buffer: &mut Vec<u8>, cents: u64)
+    requires small { cents < 10 ^ 18 }
+    requires spare { vec_len buffer.old + 19 ≤ vec_capacity buffer.old }
+    ensures text { buffer.new.items ≡ buffer.old.items ++ cents_text cents }
+    ensures len { vec_len buffer.new ≤ vec_len buffer.old + 19 }
+    ensures room { vec_capacity buffer.old ≤ vec_capacity buffer.new }
+{
+    let mut digits = Buffer::new();
+    put(buffer, digits.format(cents / 100).as_bytes());
+    let tens = b'0' + (cents % 100 / 10) as u8;
+    let ones = b'0' + (cents % 10) as u8;
+    put(buffer, &[b'.', tens, ones]);
+}
+
+fn write_balance(buffer: &mut Vec<u8>, cents: i64)
+    requires small { unsigned_abs cents < 10 ^ 18 }
+    requires spare { vec_len buffer.old + 20 ≤ vec_capacity buffer.old }
+    ensures text { buffer.new.items ≡ buffer.old.items ++ signed_cents_text cents }
+    ensures len { vec_len buffer.new ≤ vec_len buffer.old + 20 }
+    ensures room { vec_capacity buffer.old ≤ vec_capacity buffer.new }
+{
+    let size = cents.unsigned_abs();
+    if cents < 0 {
+        put(buffer, b"-");
+        write_sum(buffer, size);
+    } else {
+        write_sum(buffer, size);
+    }
+}
+
+fn write_named_sum(buffer: &mut Vec<u8>, name: &[u8], cents: u64)
+    requires small { cents < 10 ^ 18 }
+    requires short { length name.now ≤ 12 }
+    requires spare { vec_len buffer.old + 31 ≤ vec_capacity buffer.old }
+    ensures text { buffer.new.items ≡ buffer.old.items ++ (name.now ++ cents_text cents) }
+    ensures len { vec_len buffer.new ≤ vec_len buffer.old + 31 }
+    ensures room { vec_capacity buffer.old ≤ vec_capacity buffer.new }
+{
+    put(buffer, name);
+    write_sum(buffer, cents);
+}
+
+fn write_position(buffer: &mut Vec<u8>, position: &Position)
+    requires balance { unsigned_abs position.now.balance < 10 ^ 18 }
+    requires receivable { position.now.receivable < 10 ^ 18 }
+    requires payable { position.now.payable < 10 ^ 18 }
+    requires spare { vec_len buffer.old + 90 ≤ vec_capacity buffer.old }
+    ensures text { buffer.new.items ≡ buffer.old.items ++ position_text position.now }
+    ensures len { vec_len buffer.new ≤ vec_len buffer.old + 90 }
+    ensures room { vec_capacity buffer.old ≤ vec_capacity buffer.new }
+{
+    put(buffer, b"balance ");
+    write_balance(buffer, position.balance);
+    write_named_sum(buffer, b" receivable ", position.receivable);
+    write_named_sum(buffer, b" payable ", position.payable);
+}
+
+fn write_refusal(buffer: &mut Vec<u8>, why: Why)
+    requires { vec_len buffer.old + 40 ≤ vec_capacity buffer.old }
+    ensures text { buffer.new.items ≡ buffer.old.items ++ (codes "refused " ++ why_text why) }
+    ensures len { vec_len buffer.new ≤ vec_len buffer.old + 40 }
+    ensures room { vec_capacity buffer.old ≤ vec_capacity buffer.new }
+{
+    put(buffer, b"refused ");
+    put(buffer, why_name(why));
+}
+
+fn write_reply(buffer: &mut Vec<u8>, reply: &Reply)
+    requires range { IsReplyInRange reply.now }
+    requires spare { vec_len buffer.old + 90 ≤ vec_capacity buffer.old }
+    ensures text { buffer.new.items ≡ buffer.old.items ++ reply_text reply.now }
+    ensures len { vec_len buffer.new ≤ vec_len buffer.old + 90 }
     ensures room { vec_capacity buffer.old ≤ vec_capacity buffer.new }
 {
     match reply {
         Reply::Done => put(buffer, b"ok"),
-        Reply::Refused(why) => {
-            put(buffer, b"refused ");
-            put(buffer, why_name(why));
-        }
+        Reply::Position(position) => write_position(buffer, position),
+        Reply::Refused(why) => write_refusal(buffer, *why),
     }
 }
 
 /// Writes the line `caller REQUEST = REPLY` of an entry, with its line feed, into a buffer that has room.
+///
+/// The amounts of a position are below 10^18 cents in size. The line takes at most 200 bytes.
 pub fn write_entry(buffer: &mut Vec<u8>, entry: &Entry)
     requires valid { is_valid entry.now.act ≡ true }
+    requires range { IsReplyInRange entry.now.reply }
     requires spare { vec_len buffer.old + 200 ≤ vec_capacity buffer.old }
     ensures text { buffer.new.items ≡ buffer.old.items ++ entry_line entry.now }
     ensures len { vec_len buffer.new ≤ vec_len buffer.old + 200 }
@@ -51,6 +128,6 @@ pub fn write_entry(buffer: &mut Vec<u8>, entry: &Entry)
     put(buffer, b" ");
     write_act(buffer, &entry.act);
     put(buffer, b" = ");
-    write_reply(buffer, entry.reply);
+    write_reply(buffer, &entry.reply);
     put(buffer, b"\n");
 }

@@ -3,7 +3,7 @@ use crate::{
     StatementCause, StatementError, each_statement_has_one_reading, read_statement, write_claim,
     write_end, write_entry, write_head, write_party,
 };
-use claim_history::{Act, Entry, Reply, Why};
+use claim_history::{Act, Entry, Position, Reply, Why};
 use setoff_model::{Cut, Kind, Name, Party};
 use std::alloc::{AllocError, Global};
 
@@ -187,4 +187,26 @@ fn an_entry_is_written(rt: HostRuntime) {
         write_entry(&mut buffer, &entry);
     }
     assert!(rt; buffer.as_slice() == b"12 FIRM A = refused 1 firm-exists\n".as_slice());
+}
+
+#[test]
+fn a_position_is_written(rt: HostRuntime) {
+    let firm = Name::of(b"A").expect(&rt, "a name");
+    let entry = Entry {
+        caller: 1,
+        act: Act::Position { firm },
+        reply: Reply::Position(Position {
+            balance: -5_001,
+            receivable: 262_144_000_000_000_000,
+            payable: 7,
+        }),
+    };
+    let mut buffer = Vec::with_capacity(rt.alloc(), 200).expect(&rt, "memory");
+    if entry.act.valid() {
+        write_entry(&mut buffer, &entry);
+    }
+    assert!(rt;
+        buffer.as_slice()
+            == b"1 POSITION A = balance -50.01 receivable 2621440000000000.00 payable 0.07\n".as_slice()
+    );
 }

@@ -1,0 +1,27 @@
+use Rattle.std.proofs.Common.{◌≡◌, [], ◌∷◌, ◌++◌, sym, ◌∙◌, ap, subst, arith}
+use Rattle.std.proofs.lemmas.Grind.{common_steps}
+use Rattle.claim_history.specs.History.{answer_of}
+use Rattle.claim_book.specs.Book.{BookView}
+use Rattle.claim_book.specs.Tables.{FirmsOnce, KeysOnce, AreSmall}
+use Rattle.claim_book.proofs.Books.{accounts_once, claims_once, accounts_small, book_grows}
+use Rattle.claim_book.proofs.book.Book.apply.Goals as goal
+
+pub change_claims-requires-clause-once : goal.change_claims-requires-clause-once
+change_claims-requires-clause-once c =
+    subst KeysOnce (sym c.self.invariant.claims_are) (claims_once c.self.inside.entries.items c.self.invariant.legal)
+
+pub change_accounts-requires-clause-once : goal.change_accounts-requires-clause-once
+change_accounts-requires-clause-once c =
+    subst FirmsOnce (sym c.self.invariant.accounts_are) (accounts_once c.self.inside.entries.items c.self.invariant.legal)
+
+pub change_accounts-requires-clause-small : goal.change_accounts-requires-clause-small
+change_accounts-requires-clause-small c =
+    subst AreSmall (sym c.self.invariant.accounts_are) (accounts_small c.self.inside.entries.items c.self.invariant.legal c.self.invariant.valid)
+
+pub invariant_of-self : goal.invariant_of-self
+invariant_of-self c =
+    let pushed : c.push.new.self.items ≡ c.self.inside.entries.items ++ c.args.entry ∷ [] = grind (arith, common_steps) in
+    let due : c.args.entry.reply ≡ answer_of c.self.inside.entries.items c.args.entry.caller c.args.entry.act =
+    c.requires.due ∙ ap (λ (b : BookView). answer_of b.history c.args.entry.caller c.args.entry.act) (sym c.self.view_is) in
+    rw (pushed, c.change_claims.ensures.items, c.change_accounts.ensures.items)
+    (book_grows c.self.inside.entries.items c.self.inside.claims.items c.self.inside.accounts.items c.args.entry c.self.invariant c.requires.valid due)

@@ -1,0 +1,79 @@
+-- How an accepted act changes the rows of a book.
+use Rattle.std.specs.Prelude.{ℕ, ◌-◌, ◌≤◌, ◌^◌, count_by, All, ◌∷◌, ◌++◌, [], List, map, pos, ◌+ℤ◌, ◌-ℤ◌, if◌then◌else◌}
+use Rattle.setoff_model.specs.declared.name.Key.{Key}
+use Rattle.setoff_model.specs.Same.{same_name, same_key}
+use Rattle.claim_history.specs.declared.act.Act.{Act}
+use Rattle.claim_history.specs.declared.act.Act.TheVariants as act
+use Rattle.claim_history.specs.declared.fact.Status.{Status}
+use Rattle.claim_history.specs.declared.fact.Status.TheVariants as status
+use Rattle.claim_history.specs.declared.fact.ClaimFact.{ClaimFact}
+use Rattle.claim_history.specs.declared.fact.AccountFact.{AccountFact}
+use Rattle.claim_history.specs.Laws.{IsWithin}
+
+-- ---- accounts
+
+-- the account of a firm that was just registered
+abbrev pub new_account : List ℕ → AccountFact
+new_account firm = record { firm = firm; balance = pos 0; credit = 0; ceiling = 10 ^ 15; offer = 0 }
+
+-- the firm's row with the amount put in
+abbrev pub funded : List ℕ → ℕ → AccountFact → AccountFact
+funded firm amount a = if same_name firm a.firm then record a { balance = a.balance +ℤ pos amount } else a
+
+-- the firm's row with the amount taken out
+abbrev pub drawn : List ℕ → ℕ → AccountFact → AccountFact
+drawn firm amount a = if same_name firm a.firm then record a { balance = a.balance -ℤ pos amount } else a
+
+-- the firm's row with new limits
+abbrev pub limited : List ℕ → ℕ → ℕ → AccountFact → AccountFact
+limited firm credit ceiling a = if same_name firm a.firm then record a { credit = credit; ceiling = ceiling } else a
+
+-- the firm's row with a new offer
+abbrev pub offered : List ℕ → ℕ → AccountFact → AccountFact
+offered firm amount a = if same_name firm a.firm then record a { offer = amount } else a
+
+-- the accounts after an accepted act
+abbrev pub accounts_after : Act → List AccountFact → List AccountFact
+accounts_after (act.Firm firm) accounts = accounts ++ new_account firm ∷ []
+accounts_after (act.Fund firm amount) accounts = map (funded firm amount) accounts
+accounts_after (act.Draw firm amount) accounts = map (drawn firm amount) accounts
+accounts_after (act.Limit firm credit ceiling) accounts = map (limited firm credit ceiling) accounts
+accounts_after (act.Offer firm amount) accounts = map (offered firm amount) accounts
+accounts_after _ accounts = accounts
+
+-- ---- claims
+
+-- a claim that was just filed
+abbrev pub new_claim : Key → List ℕ → ℕ → ℕ → ClaimFact
+new_claim key debtor amount due = record { key = key; debtor = debtor; status = status.Filed; amount = amount; left = amount; due = due }
+
+-- the key's row with a new status
+abbrev pub with_status : Key → Status → ClaimFact → ClaimFact
+with_status key to c = if same_key key c.key then record c { status = to } else c
+
+-- the key's row with the amount received
+abbrev pub with_receipt : Key → ℕ → ClaimFact → ClaimFact
+with_receipt key amount c = if same_key key c.key then record c { left = c.left - amount } else c
+
+-- the claims after an accepted act
+abbrev pub claims_after : Act → List ClaimFact → List ClaimFact
+claims_after (act.File key debtor amount due) claims = claims ++ new_claim key debtor amount due ∷ []
+claims_after (act.Confirm key debtor) claims = map (with_status key status.Confirmed) claims
+claims_after (act.Dispute key debtor) claims = map (with_status key status.Disputed) claims
+claims_after (act.Withdraw key) claims = map (with_status key status.Withdrawn) claims
+claims_after (act.Receive key amount) claims = map (with_receipt key amount) claims
+claims_after _ claims = claims
+
+-- ---- what the changes rest on
+
+-- no firm has two rows
+abbrev pub FirmsOnce : List AccountFact → Type 0
+FirmsOnce accounts = (firm : List ℕ) → count_by (λ a. same_name firm a.firm) accounts ≤ 1
+
+-- no key has two rows
+abbrev pub KeysOnce : List ClaimFact → Type 0
+KeysOnce claims = (key : Key) → count_by (λ c. same_key key c.key) claims ≤ 1
+
+-- from -10^15 to 10^15 cents
+abbrev pub AreSmall : List AccountFact → Type 0
+AreSmall accounts = All (λ a. IsWithin (10 ^ 15) (10 ^ 15) a.balance) accounts

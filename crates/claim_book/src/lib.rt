@@ -1,0 +1,14 @@
+//! The book of the bureau: the history, with the claims and the accounts that it comes to.
+#![tactic(auto)]
+
+mod account_answer;
+mod account_rows;
+mod book;
+mod claim_answer;
+mod claim_rows;
+mod same;
+
+pub use book::Book;
+
+#[cfg(test)]
+mod tests;
