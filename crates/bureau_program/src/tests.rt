@@ -1,5 +1,5 @@
 use crate::top::bureau;
-use bureau_edge::{BytesSink, BytesSource, SureSource};
+use bureau_edge::{BytesSink, BytesSource, Failed, Source, SureSource};
 use std::alloc::{AllocError, Global};
 use std::test::Fail;
 
@@ -33,7 +33,7 @@ fn words_of(alloc: Global, texts: &[&str]) -> Result<Vec<String>, AllocError> {
 
 #[test]
 fn runs(rt: HostRuntime) -> Result<(), Fail> {
-    let cases: [(&[&str], &[u8], u8, &[u8]); 14] = [
+    let cases: [(&[&str], &[u8], u8, &[u8]); 15] = [
         (&["run"], FOUR_LINES, 0, FOUR_ENTRIES),
         (&["run"], b"", 0, b""),
         (&["run", "now"], b"1 FIRM A\n", 2, b"fault words\n"),
@@ -68,6 +68,12 @@ fn runs(rt: HostRuntime) -> Result<(), Fail> {
         ),
         (&["run"], ACCOUNT_LINES, 0, ACCOUNT_ENTRIES),
         (&["run"], CLAIM_LINES, 0, CLAIM_ENTRIES),
+        (
+            &["run"],
+            b"1 FIRM B\n1 FUND B 5.00\n1 POSITION B\n",
+            0,
+            b"1 FIRM B = ok\n1 FUND B 5.00 = ok\n1 POSITION B = balance 5.00 receivable 0.00 payable 0.00\n",
+        ),
     ];
     for (texts, input, status, output) in cases {
         let source = SureSource::new(Vec::from_slice(rt.alloc(), input)?);
@@ -216,5 +222,61 @@ fn checks(rt: HostRuntime) -> Result<(), Fail> {
         assert!(rt; ended.status == status);
         assert!(rt; ended.sink.bytes() == output);
     }
+    Ok(())
+}
+
+// A source that gives one byte a call.
+#[derive(Drop)]
+struct ByteByByte {
+    source: SureSource,
+}
+
+impl Source for ByteByByte {
+    ghost use Rattle.std.specs.Prelude.{None};
+
+    ghost left = { λ _. None };
+
+    ghost faults = { λ _. 0 };
+
+    fn read(&mut self, into: &mut [u8]) -> Result<usize, Failed> {
+        self.source.read(&mut into[..1])
+    }
+}
+
+#[test]
+fn an_input_in_pieces_of_one_byte(rt: HostRuntime) -> Result<(), Fail> {
+    let source = ByteByByte {
+        source: SureSource::new(Vec::from_slice(rt.alloc(), FOUR_LINES)?),
+    };
+    let sink = BytesSink::new(rt.alloc(), Vec::new(rt.alloc()));
+    let ended = bureau(
+        &rt,
+        rt.alloc(),
+        words_of(rt.alloc(), &["run"])?,
+        source,
+        sink,
+    );
+    assert!(rt; ended.status == 0);
+    assert!(rt; ended.sink.bytes() == FOUR_ENTRIES);
+    Ok(())
+}
+
+#[test]
+fn a_line_of_a_million_bytes(rt: HostRuntime) -> Result<(), Fail> {
+    let mut input = Vec::from_slice(rt.alloc(), b"1 FIRM ")?;
+    for _ in 0..1_000_000 {
+        input.push(b'A')?;
+    }
+    let source = SureSource::new(input);
+    let sink = BytesSink::new(rt.alloc(), Vec::new(rt.alloc()));
+    let ended = bureau(
+        &rt,
+        rt.alloc(),
+        words_of(rt.alloc(), &["run"])?,
+        source,
+        sink,
+    );
+    assert!(rt; ended.status == 6);
+    assert!(rt; ended.sink.bytes() == b"fault line 1 field 1\n".as_slice());
     Ok(())
 }
