@@ -1,0 +1,133 @@
+ghost use Rattle.std.specs.Prelude.{◌≡◌, ◌≤◌, ◌<◌, [], ◌++◌, ◌∷◌, length, false, true, All, slice_index_or};
+ghost use Rattle.turn_lock.specs.Seats.{lock, lock_of, holds};
+
+use crate::{Seat, Story, Turn};
+use std::alloc::Global;
+use std::sync::Wait;
+use std::test::Fail;
+use std::thread::{self, Threads};
+
+// A note of who called.
+#[derive(Clone, Copy)]
+struct Note {
+    caller: u32,
+}
+
+#[derive(Drop)]
+struct Notes {
+    list: Vec<Note>,
+    ghost short: { length list.items ≤ 1048576 },
+}
+
+impl Story for Notes {
+    type Entry = Note;
+
+    ghost entries = { λ n. n.list.items };
+
+    ghost base = { λ _. [] };
+
+    ghost caller = { λ n. n.caller };
+
+    fn length(&self) -> u64 {
+        self.list.len() as u64
+    }
+}
+
+// Adds a note, where there is room and memory for it.
+fn add_note(notes: &mut Notes, caller: u32) -> bool
+    ensures added { result ≡ true → notes.new.list.items ≡ notes.old.list.items ++ record { caller = caller } ∷ [] }
+    ensures same { result ≡ false → notes.new.list.items ≡ notes.old.list.items }
+{
+    if notes.list.len() >= 1_048_576 || notes.list.reserve(1).is_err() {
+        return false;
+    }
+    notes.list.push_reserved(Note { caller });
+    true
+}
+
+// Takes the turn, adds a note and leaves.
+fn act<R: Wait>(rt: &R, turn: &Turn<Notes>, seat: &mut Seat<Notes>)
+    requires made { lock seat.old ≡ lock_of turn.now }
+    requires free { holds seat.old ≡ false }
+    ensures same { lock seat.new ≡ lock seat.old }
+    ensures free { holds seat.new ≡ false }
+{
+    let mut held = turn.enter(rt, seat);
+    let number = seat.number();
+    let _ = add_note(held.value(), number);
+    turn.leave(seat, held);
+}
+
+// Three acts.
+fn act_thrice<R: Wait>(rt: &R, turn: &Turn<Notes>, seat: &mut Seat<Notes>)
+    requires made { lock seat.old ≡ lock_of turn.now }
+    requires free { holds seat.old ≡ false }
+    ensures same { lock seat.new ≡ lock seat.old }
+    ensures free { holds seat.new ≡ false }
+{
+    act(rt, turn, seat);
+    act(rt, turn, seat);
+    act(rt, turn, seat);
+}
+
+// Each seat acts three times, in a thread of its own.
+fn all_act<R: Threads + Wait + Sync>(rt: &R, turn: &Turn<Notes>, seats: &mut [Seat<Notes>])
+    requires { All (λ s. (lock s ≡ lock_of turn.now) × (holds s ≡ false)) seats.old }
+    ensures ready { All (λ s. (lock s ≡ lock_of turn.now) × (holds s ≡ false)) seats.new }
+    ensures length { length seats.new ≡ length seats.old }
+{
+    let threads = seats.len();
+    if threads == 0 {
+        return;
+    }
+    let each = |_at: usize, seat: &mut Seat<Notes>|
+        requires { (lock seat.now ≡ lock_of turn.now) × (holds seat.now ≡ false) }
+        ensures { (lock seat.exit.now ≡ lock_of turn.entry.now) × (holds seat.exit.now ≡ false) }
+    { act_thrice(rt, turn, seat) };
+    thread::for_each_mut(rt, seats, threads, &each);
+}
+
+fn empty(alloc: Global) -> Notes
+    ensures { result.list.items ≡ [] }
+{
+    Notes {
+        list: Vec::new(alloc),
+    }
+}
+
+#[test]
+fn sixteen_seats_in_threads(rt: HostRuntime) -> Result<(), Fail> {
+    let Ok((turn, registrar, mut seats)) = Turn::make(rt.alloc(), empty(rt.alloc()), 16) else {
+        return Err(Fail::from("memory"));
+    };
+    all_act(&rt, &turn, seats.as_mut_slice());
+    let notes = turn.finish(registrar, seats);
+    assert_eq!(rt; notes.list.len(), 48);
+    for caller in 1..17 {
+        assert_eq!(rt;
+            notes
+                .list
+                .iter()
+                .filter(|note| note.caller == caller)
+                .count(),
+            3
+        );
+    }
+    Ok(())
+}
+
+#[test]
+fn a_lock_without_seats(rt: HostRuntime) -> Result<(), Fail> {
+    let Ok((turn, mut registrar, mut seats)) = Turn::make(rt.alloc(), empty(rt.alloc()), 0) else {
+        return Err(Fail::from("memory"));
+    };
+    assert_eq!(rt; registrar.made(), 0);
+    let mut seat = turn.enrol(&mut registrar);
+    assert_eq!(rt; registrar.made(), 1);
+    assert_eq!(rt; seat.number(), 1);
+    act(&rt, &turn, &mut seat);
+    seats.push(seat)?;
+    let notes = turn.finish(registrar, seats);
+    assert_eq!(rt; notes.list.len(), 1);
+    Ok(())
+}
