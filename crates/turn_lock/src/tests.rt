@@ -7,10 +7,11 @@ use std::sync::Wait;
 use std::test::Fail;
 use std::thread::{self, Threads};
 
-// A note of who called.
+// A note of who called, and for which time.
 #[derive(Clone, Copy)]
 struct Note {
     caller: u32,
+    time: usize,
 }
 
 #[derive(Drop)]
@@ -34,19 +35,19 @@ impl Story for Notes {
 }
 
 // Adds a note, where there is room and memory for it.
-fn add_note(notes: &mut Notes, caller: u32) -> bool
-    ensures added { result ≡ true → notes.new.list.items ≡ notes.old.list.items ++ record { caller = caller } ∷ [] }
+fn add_note(notes: &mut Notes, caller: u32, time: usize) -> bool
+    ensures added { result ≡ true → notes.new.list.items ≡ notes.old.list.items ++ record { caller = caller; time = time } ∷ [] }
     ensures same { result ≡ false → notes.new.list.items ≡ notes.old.list.items }
 {
     if notes.list.len() >= 1_048_576 || notes.list.reserve(1).is_err() {
         return false;
     }
-    notes.list.push_reserved(Note { caller });
+    notes.list.push_reserved(Note { caller, time });
     true
 }
 
 // Takes the turn, adds a note and leaves.
-fn act<R: Wait>(rt: &R, turn: &Turn<Notes>, seat: &mut Seat<Notes>)
+fn act<R: Wait>(rt: &R, turn: &Turn<Notes>, seat: &mut Seat<Notes>, time: usize)
     requires made { lock seat.old ≡ lock_of turn.now }
     requires free { holds seat.old ≡ false }
     ensures same { lock seat.new ≡ lock seat.old }
@@ -54,7 +55,7 @@ fn act<R: Wait>(rt: &R, turn: &Turn<Notes>, seat: &mut Seat<Notes>)
 {
     let mut held = turn.enter(rt, seat);
     let number = seat.number();
-    let _ = add_note(held.value(), number);
+    let _ = add_note(held.value(), number, time);
     turn.leave(seat, held);
 }
 
@@ -65,9 +66,9 @@ fn act_thrice<R: Wait>(rt: &R, turn: &Turn<Notes>, seat: &mut Seat<Notes>)
     ensures same { lock seat.new ≡ lock seat.old }
     ensures free { holds seat.new ≡ false }
 {
-    act(rt, turn, seat);
-    act(rt, turn, seat);
-    act(rt, turn, seat);
+    act(rt, turn, seat, 0);
+    act(rt, turn, seat, 1);
+    act(rt, turn, seat, 2);
 }
 
 // Each seat acts three times, in a thread of its own.
@@ -95,6 +96,15 @@ fn empty(alloc: Global) -> Notes
     }
 }
 
+// Whether the notes of a caller are its first, second and so on, in order.
+fn in_order(notes: &[Note], caller: u32) -> bool {
+    notes
+        .iter()
+        .filter(|note| note.caller == caller)
+        .enumerate()
+        .all(|(time, note)| note.time == time)
+}
+
 #[test]
 fn sixteen_seats_in_threads(rt: HostRuntime) -> Result<(), Fail> {
     let Ok((turn, registrar, mut seats)) = Turn::make(rt.alloc(), empty(rt.alloc()), 16) else {
@@ -112,6 +122,7 @@ fn sixteen_seats_in_threads(rt: HostRuntime) -> Result<(), Fail> {
                 .count(),
             3
         );
+        assert!(rt; in_order(&notes.list, caller));
     }
     Ok(())
 }
@@ -125,7 +136,7 @@ fn a_lock_without_seats(rt: HostRuntime) -> Result<(), Fail> {
     let mut seat = turn.enrol(&mut registrar);
     assert_eq!(rt; registrar.made(), 1);
     assert_eq!(rt; seat.number(), 1);
-    act(&rt, &turn, &mut seat);
+    act(&rt, &turn, &mut seat, 0);
     seats.push(seat)?;
     let notes = turn.finish(registrar, seats);
     assert_eq!(rt; notes.list.len(), 1);

@@ -7,9 +7,9 @@ use Rattle.turn_lock.proofs.Views.{all_cons}
 use Rattle.turn_lock.proofs.tests.act.Goals as goal
 
 -- what one call adds: a note of its caller, or nothing
-added : (r : Bool) (k : ℕ) (xs ys : List Note) → (r ≡ true → ys ≡ xs ++ record { caller = k } ∷ []) → (r ≡ false → ys ≡ xs) → (more : List Note) × (ys ≡ xs ++ more) × All (λ (n : Note). n.caller ≡ k) more
-added true k xs ys put kept = (record { caller = k } ∷ [], put refl, all_cons (λ (n : Note). n.caller ≡ k) (record { caller = k }) [] refl (All-nil (λ (n : Note). n.caller ≡ k)))
-added false k xs ys put kept = ([], kept refl ∙ sym (append-nil xs), All-nil (λ (n : Note). n.caller ≡ k))
+added : (r : Bool) (k t : ℕ) (xs ys : List Note) → (r ≡ true → ys ≡ xs ++ record { caller = k; time = t } ∷ []) → (r ≡ false → ys ≡ xs) → (more : List Note) × (ys ≡ xs ++ more) × All (λ (n : Note). n.caller ≡ k) more
+added true k t xs ys put kept = (record { caller = k; time = t } ∷ [], put refl, all_cons (λ (n : Note). n.caller ≡ k) (record { caller = k; time = t }) [] refl (All-nil (λ (n : Note). n.caller ≡ k)))
+added false k t xs ys put kept = ([], kept refl ∙ sym (append-nil xs), All-nil (λ (n : Note). n.caller ≡ k))
 
 -- src/tests.rt:58:5
 pub leave-requires-clause-may : goal.leave-requires-clause-may
@@ -18,7 +18,7 @@ leave-requires-clause-may g c =
     let chair = c.enter-held.new.seat.chair in
     let found : chair.place.me.0.found ≡ c.enter-held.result.value.list.items = ap (λ (v : View Note). v.found) t.view in
     let k : c.number-number.result ≡ chair.place.me.0.hat.number = c.number-number.ensures ∙ chair.number_is in
-    let a = added c.add_note.result c.number-number.result c.value.result.now.list.items c.add_note.new.notes.list.items c.add_note.ensures.added c.add_note.ensures.same in
+    let a = added c.add_note.result c.number-number.result c.args.time c.value.result.now.list.items c.add_note.new.notes.list.items c.add_note.ensures.added c.add_note.ensures.same in
     record {
       base_is = t.base_is ∙ sym (ap (λ (v : View Note). v.base) t.view);
       added = (a.0, a.1 ∙ ap (λ (l : List Note). l ++ a.0) (ap (λ n. n.list.items) c.value.ensures.value ∙ sym found), subst (λ (n : ℕ). All (λ (e : Note). e.caller ≡ n) a.0) k a.2);
