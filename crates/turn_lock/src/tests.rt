@@ -128,17 +128,22 @@ fn sixteen_seats_in_threads(rt: HostRuntime) -> Result<(), Fail> {
 }
 
 #[test]
-fn a_lock_without_seats(rt: HostRuntime) -> Result<(), Fail> {
-    let Ok((turn, mut registrar, mut seats)) = Turn::make(rt.alloc(), empty(rt.alloc()), 0) else {
+fn seats_are_enrolled_while_others_act(rt: HostRuntime) -> Result<(), Fail> {
+    let Ok((turn, mut registrar, _)) = Turn::make(rt.alloc(), empty(rt.alloc()), 0) else {
         return Err(Fail::from("memory"));
     };
     assert_eq!(rt; registrar.made(), 0);
-    let mut seat = turn.enrol(&mut registrar);
-    assert_eq!(rt; registrar.made(), 1);
-    assert_eq!(rt; seat.number(), 1);
-    act(&rt, &turn, &mut seat, 0);
-    seats.push(seat)?;
+    let mut first = turn.enrol(&mut registrar);
+    act(&rt, &turn, &mut first, 0);
+    let mut second = turn.enrol(&mut registrar);
+    act(&rt, &turn, &mut second, 0);
+    act(&rt, &turn, &mut first, 1);
+    assert_eq!(rt; registrar.made(), 2);
+    assert!(rt; first.number() == 1 && second.number() == 2);
+    let seats = vec![in rt.alloc(); first, second]?;
     let notes = turn.finish(registrar, seats);
-    assert_eq!(rt; notes.list.len(), 1);
+    assert_eq!(rt; notes.list.len(), 3);
+    assert!(rt; in_order(&notes.list, 1) && in_order(&notes.list, 2));
+    assert!(rt; notes.list[1].caller == 2);
     Ok(())
 }
