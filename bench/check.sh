@@ -7,10 +7,7 @@
 set -eu
 
 [ $# -gt 0 ] || set -- 100 1000 10000 100000 262144
-here=$(cd "$(dirname "$0")" && pwd -P)
-program=$here/../crates/bureau_program/out/bureau_program
-"$here/../bureau" run </dev/null
-[ -x /usr/bin/time ] || { echo "bench/check.sh needs GNU time, /usr/bin/time" >&2; exit 1; }
+. "$(dirname "$0")/program.sh"
 
 whole=$(mktemp)
 longer=$(mktemp)

@@ -5,10 +5,7 @@
 set -eu
 
 [ $# -gt 0 ] || set -- 1000 10000 100000
-here=$(cd "$(dirname "$0")" && pwd -P)
-program=$here/../crates/bureau_program/out/bureau_program
-"$here/../bureau" run </dev/null
-[ -x /usr/bin/time ] || { echo "bench/run.sh needs GNU time, /usr/bin/time" >&2; exit 1; }
+. "$(dirname "$0")/program.sh"
 
 input=$(mktemp)
 figures=$(mktemp)
