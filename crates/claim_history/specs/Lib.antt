@@ -1,6 +1,7 @@
 pub mod Days
 pub mod Acts
 pub mod Facts
+pub mod Cut
 pub mod History
 pub mod Laws
 pub mod Scans
