@@ -1,11 +1,21 @@
 mod CivilDays
 pub mod Texts
-pub mod Growth
+pub mod Pasts
 pub mod Rows
 pub mod Steps
+pub mod Rounds
 pub mod Histories
+pub mod Filed
+pub mod Counting
+pub mod Publication
+pub mod Opening
+pub mod Net
+pub mod Owned
+pub mod Agreement
+pub mod Growth
 pub mod Sizes
 pub mod Formulas
-pub mod Worked
 pub mod Shapes
 pub mod Ranges
+pub mod Worked
+mod WorkedRounds

@@ -8,3 +8,4 @@ pub mod Pairs
 pub mod Columns
 pub mod Limits
 pub mod Spelling
+pub mod Deciding

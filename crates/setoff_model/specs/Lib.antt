@@ -6,3 +6,4 @@ pub mod Texts
 pub mod Sums
 pub mod Setoff
 pub mod CutView
+pub mod ProofTest

@@ -1,6 +1,7 @@
 //! Why prices prove that a set-off is greatest.
 ghost use Rattle.setoff_model.specs.Setoff.{WeakDuality, AsWritten};
 ghost use Rattle.setoff_model.specs.CutView.{LawfulFits, SumsAreBounded};
+ghost use Rattle.setoff_model.specs.ProofTest.{ProofTestLaw};
 
 /// The law behind every published round: weak duality of linear programming, for circulations.
 ///
@@ -13,4 +14,10 @@ pub fn weak_duality()
     ensures as_written { AsWritten }
     ensures fits { LawfulFits }
     ensures bounded { SumsAreBounded }
+{}
+
+/// The test `is_proved`, which computes, is true exactly where prices prove discharges. A law, which does nothing when it is
+/// called.
+pub fn proofs_are_decided()
+    ensures { ProofTestLaw }
 {}
