@@ -12,6 +12,7 @@ pub mod Opening
 pub mod Net
 pub mod Owned
 pub mod Agreement
+pub mod Greatest
 pub mod Growth
 pub mod Sizes
 pub mod Formulas

@@ -19,6 +19,7 @@ use Rattle.claim_history.specs.States.{OpenRound, State, state, state_of}
 use Rattle.claim_history.specs.History.{AreValid, IsLegal, IsLegalPast, IsReply, abandon_answer, abandon_refusals, answer, close_answer, close_refusals, confirm_refusals, dispute_refusals, draw_refusals, failed, file_refusals, firm_refusals, fund_refusals, limit_refusals, offer_refusals, position_refusals, publish_answer, publish_refusals, receive_refusals, replied, withdraw_refusals}
 use Rattle.claim_history.specs.Laws.{IsReplyInRange, IsWithin, RepliesLaw}
 use Rattle.claim_history.proofs.Rounds.{lawful_is}
+use Rattle.claim_history.proofs.Histories.{answer_cases}
 use Rattle.claim_history.proofs.Rows.{by_rows, and_true, not_false}
 use Rattle.claim_history.proofs.Pasts.{all_reverse}
 use Rattle.claim_history.proofs.Sizes.{sizes_law, published_small}
@@ -46,20 +47,10 @@ publish_in_range (Some round) caller number outcome totals =
     (λ h. totals round outcome.discharges refl (lawful_is (obligations round.cut) outcome.discharges (and_true (is_lawful (obligations round.cut) outcome.discharges) _ (not_false _ h.1.1.0)).0))
 
 answer_in_range : (s : State) (caller : ℕ) (a : Act) → ((firm : List ℕ) → IsReplyInRange (reply.Position (position_of s.ledger firm))) → AreSmallTotals s.open_round → IsReplyInRange (answer s caller a)
-answer_in_range s caller (act.Firm firm) h totals = by_rows IsReplyInRange (firm_refusals s firm) reply.Done (λ w. tt) (λ n. tt)
-answer_in_range s caller (act.File key debtor amount due) h totals = by_rows IsReplyInRange (file_refusals s key debtor) reply.Done (λ w. tt) (λ n. tt)
-answer_in_range s caller (act.Confirm key debtor) h totals = by_rows IsReplyInRange (confirm_refusals s key debtor) reply.Done (λ w. tt) (λ n. tt)
-answer_in_range s caller (act.Dispute key debtor) h totals = by_rows IsReplyInRange (dispute_refusals s key debtor) reply.Done (λ w. tt) (λ n. tt)
-answer_in_range s caller (act.Withdraw key) h totals = by_rows IsReplyInRange (withdraw_refusals s key) reply.Done (λ w. tt) (λ n. tt)
-answer_in_range s caller (act.Receive key amount) h totals = by_rows IsReplyInRange (receive_refusals s key amount) reply.Done (λ w. tt) (λ n. tt)
-answer_in_range s caller (act.Fund firm amount) h totals = by_rows IsReplyInRange (fund_refusals s firm amount) reply.Done (λ w. tt) (λ n. tt)
-answer_in_range s caller (act.Draw firm amount) h totals = by_rows IsReplyInRange (draw_refusals s firm amount) reply.Done (λ w. tt) (λ n. tt)
-answer_in_range s caller (act.Limit firm credit ceiling) h totals = by_rows IsReplyInRange (limit_refusals s firm credit ceiling) reply.Done (λ w. tt) (λ n. tt)
-answer_in_range s caller (act.Offer firm amount) h totals = by_rows IsReplyInRange (offer_refusals s firm) reply.Done (λ w. tt) (λ n. tt)
-answer_in_range s caller (act.Position firm) h totals = by_rows IsReplyInRange (position_refusals s firm) (reply.Position (position_of s.ledger firm)) (λ w. tt) (λ n. h firm)
-answer_in_range s caller (act.Close kind horizon) h totals = close_in_range s.openings s.open_round caller kind horizon
-answer_in_range s caller (act.Abandon) h totals = abandon_in_range s.open_round caller
-answer_in_range s caller (act.Publish number outcome) h totals = publish_in_range s.open_round caller number outcome totals
+answer_in_range s caller (act.Close kind horizon) positions totals = close_in_range s.openings s.open_round caller kind horizon
+answer_in_range s caller (act.Abandon) positions totals = abandon_in_range s.open_round caller
+answer_in_range s caller (act.Publish number outcome) positions totals = publish_in_range s.open_round caller number outcome totals
+answer_in_range s caller a positions totals = answer_cases IsReplyInRange s caller a refl (λ w. tt) tt positions
 
 reply_in_range : (counted : ℕ) (due got : Reply) → IsReply counted due got → IsReplyInRange due → IsReplyInRange got
 reply_in_range counted due got (replied e) h = subst IsReplyInRange (sym e) h

@@ -238,6 +238,11 @@ is_no_refusal _ = true
 abbrev pub is_accepted : Entry → Bool
 is_accepted e = is_no_refusal e.reply
 
+-- the reply opens a round
+abbrev pub is_opening : Reply → Bool
+is_opening (reply.Opened round) = true
+is_opening _ = false
+
 -- the acts that were accepted, in the order of the list
 abbrev pub accepted_acts : List Entry → List Act
 accepted_acts entries = map (λ e. e.act) (filter is_accepted entries)
@@ -272,6 +277,10 @@ pub data IsReply (counted : ℕ) (due got : Reply) : Type 0 where
 abbrev pub IsLegalPast : List Entry → Type 0
 IsLegalPast [] = Unit {0}
 IsLegalPast (e ∷ past) = IsReply (last_count past) (answer (state past) e.caller e.act) e.reply × IsLegalPast past
+
+-- the entry may stand next: its reply is the one that is due, or the device failed
+abbrev pub MayFollow : List Entry → Entry → Type 0
+MayFollow history e = IsReply (last_count (reverse history)) (answer_of history e.caller e.act) e.reply
 
 -- the same of a history in order of time
 abbrev pub IsLegal : List Entry → Type 0

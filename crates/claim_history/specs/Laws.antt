@@ -1,11 +1,12 @@
 -- What holds of every history.
-use Rattle.std.specs.Prelude.{◌<◌, All, unsigned_abs, ◌≡◌, ◌≢◌, ◌≤◌, ℕ, ◌+◌, ◌*◌, ◌^◌, true, List, [], ◌∷◌, ◌++◌, reverse, Some, ◌↔◌, ℤ, pos, neg_ℤ, ◌+ℤ◌, ◌-ℤ◌, ◌≤ℤ◌, ◌<ℤ◌}
+use Rattle.std.specs.Prelude.{◌<◌, All, count_by, unsigned_abs, ◌≡◌, ◌≢◌, ◌≤◌, ℕ, ◌+◌, ◌*◌, ◌^◌, true, List, [], ◌∷◌, ◌++◌, reverse, Some, ◌↔◌, ℤ, pos, neg_ℤ, ◌+ℤ◌, ◌-ℤ◌, ◌≤ℤ◌, ◌<ℤ◌}
 use Rattle.std.specs.Int.{int_min}
 use Rattle.setoff_model.specs.declared.name.Key.{Key}
 use Rattle.setoff_model.specs.declared.kind.Kind.{Kind}
 use Rattle.setoff_model.specs.declared.kind.Kind.TheVariants.{Funded}
 use Rattle.setoff_model.specs.declared.cut.CutClaim.{CutClaim}
-use Rattle.setoff_model.specs.CutView.{CutView, OutcomeView}
+use Rattle.setoff_model.specs.CutView.{CutView, OutcomeView, obligations}
+use Rattle.setoff_model.specs.Setoff.{Proves, IsGreatest, total_of}
 use Rattle.claim_history.specs.declared.act.Act.TheVariants as act
 use Rattle.claim_history.specs.declared.fact.Status.TheVariants as status
 use Rattle.claim_history.specs.declared.entry.Entry.{Entry}
@@ -14,7 +15,7 @@ use Rattle.claim_history.specs.declared.entry.Reply.TheVariants as reply
 use Rattle.claim_history.specs.Facts.{Ledger, filing_of, amount_of, received, discharged, status_of, left_of, gained, spent, balance_of, limits_of, offer_of, receivable, payable}
 use Rattle.claim_history.specs.Cut.{party_of, cut_of}
 use Rattle.claim_history.specs.States.{OpenRound, State, state_of, after}
-use Rattle.claim_history.specs.History.{accepted_acts, is_no_refusal, answer_of, IsReply, last_count, keeps_limits, is_over_ceiling, is_below_floor, IsLegal, AreValid, Call, replay_of}
+use Rattle.claim_history.specs.History.{accepted_acts, is_no_refusal, is_opening, answer_of, MayFollow, keeps_limits, is_over_ceiling, is_below_floor, IsLegal, AreValid, Call, replay_of}
 
 -- the acts of the state are the accepted acts of the history, newest first
 abbrev pub ActsLaw : Type 0
@@ -36,9 +37,13 @@ pub record IsCutOfOpening (history : List Entry) (round : OpenRound) : Type 0 wh
 abbrev pub CutLaw : Type 0
 CutLaw = (history : List Entry) → IsLegal history → (round : OpenRound) → (state_of history).open_round ≡ Some round → IsCutOfOpening history round
 
+-- as many rounds were opened as entries of a legal history open one
+abbrev pub OpeningsLaw : Type 0
+OpeningsLaw = (history : List Entry) → IsLegal history → (state_of history).openings ≡ count_by (λ e. is_opening e.reply) history
+
 -- a legal history with one more entry, whose reply is the history's or tells of a device, is legal
 abbrev pub GrowthLaw : Type 0
-GrowthLaw = (history : List Entry) (e : Entry) → IsLegal history → IsReply (last_count (reverse history)) (answer_of history e.caller e.act) e.reply → IsLegal (history ++ e ∷ [])
+GrowthLaw = (history : List Entry) (e : Entry) → IsLegal history → MayFollow history e → IsLegal (history ++ e ∷ [])
 
 -- a replayed history is legal
 abbrev pub ReplayLaw : Type 0
@@ -158,3 +163,21 @@ net_position l firm = (pos (receivable l firm) -ℤ pos (payable l firm)) +ℤ b
 abbrev pub PublicationLaw : Type 0
 PublicationLaw = (history : List Entry) → IsLegal history → (caller number total : ℕ) (outcome : OutcomeView) → answer_of history caller (act.Publish number outcome) ≡ reply.Published total
     → (firm : List ℕ) → net_position (after caller (act.Publish number outcome) (reply.Published total) (state_of history)).ledger firm ≡ net_position (state_of history).ledger firm
+
+-- ---- what is published is greatest
+
+-- a publication of the round that was open before it: its prices prove its discharges for the round's cut, so no lawful
+-- set-off of that cut discharges more
+pub record IsGreatestPublication (before : List Entry) (e : Entry) (total : ℕ) : Type 0 where
+  pub round : OpenRound
+  pub outcome : OutcomeView
+  pub was_open : (state_of before).open_round ≡ Some round
+  pub owner : round.owner ≡ e.caller
+  pub asks : e.act ≡ act.Publish round.cut.round outcome
+  pub total_is : total ≡ total_of outcome.discharges
+  pub proved : Proves (obligations round.cut) outcome.discharges outcome.prices
+  pub greatest : IsGreatest (obligations round.cut) outcome.discharges
+
+-- each published entry of a legal history is such a publication
+abbrev pub GreatestLaw : Type 0
+GreatestLaw = (before later : List Entry) (e : Entry) (total : ℕ) → IsLegal (before ++ e ∷ later) → e.reply ≡ reply.Published total → IsGreatestPublication before e total

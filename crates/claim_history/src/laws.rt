@@ -1,11 +1,12 @@
 //! What holds of every legal history. Each of these calls does nothing.
-ghost use Rattle.claim_history.specs.Laws.{ActsLaw, CutLaw, GrowthLaw, ReplayLaw, LimitsLaw, FormulasLaw, SizesLaw, RepliesLaw, FrozenLaw, OwnedLaw, PublicationLaw};
+ghost use Rattle.claim_history.specs.Laws.{ActsLaw, CutLaw, GrowthLaw, ReplayLaw, LimitsLaw, FormulasLaw, SizesLaw, RepliesLaw, FrozenLaw, OwnedLaw, PublicationLaw, GreatestLaw, OpeningsLaw};
 
 /// What a history comes to is that of its entries: its acts are the accepted ones, newest first, and its open round has the cut
-/// of the entries before its opening.
+/// of the entries before its opening. As many rounds were opened as entries open one.
 pub fn state_is_of_the_history()
     ensures acts { ActsLaw }
     ensures cut { CutLaw }
+    ensures openings { OpeningsLaw }
 {}
 
 /// A legal history stays legal with one more entry whose reply is the history's one reply or tells of a device, and each list
@@ -39,4 +40,10 @@ pub fn owned_round_stays_open()
 /// A publication keeps every firm's receivable less its payable plus its balance.
 pub fn publication_keeps_net_positions()
     ensures { PublicationLaw }
+{}
+
+/// The prices of each published entry prove its discharges for the cut of its round, and so no lawful set-off of that cut
+/// discharges more.
+pub fn publications_are_greatest()
+    ensures { GreatestLaw }
 {}

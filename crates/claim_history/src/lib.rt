@@ -15,7 +15,7 @@ pub use entry::{Entry, Reply, Why, accepted};
 pub use fact::{AccountFact, ClaimFact, Position, Status};
 pub use laws::{
     legal_history_grows, limits_hold, open_cut_is_frozen, owned_round_stays_open,
-    publication_keeps_net_positions, state_is_of_the_history,
+    publication_keeps_net_positions, publications_are_greatest, state_is_of_the_history,
 };
 
 #[cfg(test)]
