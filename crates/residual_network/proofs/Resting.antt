@@ -1,9 +1,8 @@
 -- At rest with the facts: lawful and tight.
 use Rattle.std.specs.Prelude.{ℤ, pos, slice_index, if◌then◌else◌, ◌==◌}
-use Rattle.std.proofs.Common.{◌≡◌, ◌≢◌, ℕ, zero, suc, ◌+◌, ◌<◌, List, length, refl, sym, ◌∙◌, ap, subst, arith}
+use Rattle.std.proofs.Common.{◌≡◌, ℕ, ◌+◌, ◌<◌, List, length, refl, sym, ◌∙◌, ap, subst, arith}
 use lib.Signed.{◌<ℤ◌}
 use Rattle.std.proofs.lemmas.Int.{ints}
-use Rattle.std.proofs.lemmas.Bool.Decides.{nat_tests}
 use Rattle.setoff_model.specs.Sums.{sum_below}
 use Rattle.setoff_model.specs.Setoff.{Obligations, IsLawful, inflow, outflow, price_at}
 use Rattle.setoff_model.specs.Slackness.{Slack, gain}
@@ -11,29 +10,11 @@ use Rattle.setoff_model.proofs.Circulation.{sum_below-same, sum_below-zero, pric
 use Rattle.setoff_model.proofs.Complementary.{tight_from_slack}
 use Rattle.residual_network.specs.Network.{Network, arc_gain, has, owes, IsFlow, ArcSlack, AtRest}
 use Rattle.residual_network.specs.NetworkOf.{IsNetworkOf}
-use Rattle.residual_network.specs.Laws.{RestProves}
-use Rattle.residual_network.proofs.Push.{sum_below-one}
+use Rattle.residual_network.specs.Laws.{RestLaw}
+use Rattle.residual_network.proofs.Sums.{sum_below-split, sum_below-only, choose_yes, choose_no}
 
-pub sum_below-split : (m n : ℕ) (g : ℕ → ℕ) → sum_below (m + n) g ≡ sum_below m g + sum_below n (λ k. g (m + k))
-sum_below-split m zero g = let e : m + 0 ≡ m = omega arith in ap (λ k. sum_below k g) e ∙ omega arith
-sum_below-split m (suc n) g =
-    let e : m + suc n ≡ suc (m + n) = omega arith in
-    let rest = sum_below-split m n g in
-    ap (λ k. sum_below k g) e ∙ omega (arith, rest)
-
-sum_below-only : (n a : ℕ) (h : ℕ → ℕ) → a < n → ((k : ℕ) → k < n → k ≢ a → h k ≡ 0) → sum_below n h ≡ h a
-sum_below-only n a h in' none =
-    let one = sum_below-one n a (λ _. 0) h 0 (h a) in' none (omega arith) in
-    let zeros = sum_below-zero n in
-    omega (arith, one, zeros)
-
-choose_yes : (a b x : ℕ) → a ≡ b → (if a == b then x else 0) ≡ x
-choose_yes a b x e = grind (arith, nat_tests)
-
-choose_no : (a b x : ℕ) → a ≢ b → (if a == b then x else 0) ≡ 0
-choose_no a b x e = grind (arith, nat_tests)
-
-in_at : (o : Obligations) (net : Network) (x d : List ℕ) (f : ℕ) → IsNetworkOf o net → ((c : ℕ) → c < length o.amounts → slice_index d c ≡ slice_index x c) → f < length o.spends → has net x f ≡ slice_index o.spends f + inflow o d f
+-- what a party has and owes
+pub in_at : (o : Obligations) (net : Network) (x d : List ℕ) (f : ℕ) → IsNetworkOf o net → ((c : ℕ) → c < length o.amounts → slice_index d c ≡ slice_index x c) → f < length o.spends → has net x f ≡ slice_index o.spends f + inflow o d f
 in_at o net x d f is same in' =
     let m = length o.amounts in
     let n = length o.spends in
@@ -44,7 +25,7 @@ in_at o net x d f is same in' =
     let none : sum_below n (λ k. g (m + k)) ≡ 0 = sum_below-same n (λ k. g (m + k)) (λ _. 0) (λ k lt. choose_no _ f _ (λ e. absurd (omega (arith, e, is.ground k lt)))) ∙ sum_below-zero n in
     omega (arith, whole, split, claims, none, is.supply f in')
 
-out_at : (o : Obligations) (net : Network) (x d : List ℕ) (f : ℕ) → IsNetworkOf o net → ((c : ℕ) → c < length o.amounts → slice_index d c ≡ slice_index x c) → f < length o.spends → owes net x f ≡ outflow o d f + slice_index x (length o.amounts + f)
+pub out_at : (o : Obligations) (net : Network) (x d : List ℕ) (f : ℕ) → IsNetworkOf o net → ((c : ℕ) → c < length o.amounts → slice_index d c ≡ slice_index x c) → f < length o.spends → owes net x f ≡ outflow o d f + slice_index x (length o.amounts + f)
 out_at o net x d f is same in' =
     let m = length o.amounts in
     let n = length o.spends in
@@ -56,6 +37,7 @@ out_at o net x d f is same in' =
     let own : g (m + f) ≡ slice_index x (m + f) = choose_yes _ f _ (is.party f in') in
     omega (arith, whole, split, claims, only, own, is.demand f in')
 
+-- at rest the flow over a window stands above the spend by what the party gains
 rest_at : (o : Obligations) (net : Network) (x d : List ℕ) (f : ℕ) → IsNetworkOf o net → AtRest net x → ((c : ℕ) → c < length o.amounts → slice_index d c ≡ slice_index x c) → f < length o.spends →
     slice_index o.spends f + inflow o d f ≡ outflow o d f + slice_index x (length o.amounts + f)
 rest_at o net x d f is rest same in' =
@@ -98,8 +80,8 @@ rest_slack o net x d p is flow rest facts each same = record {
         let z : price_at p (length o.spends) ≡ pos 0 = price_past p (length o.spends) (omega (arith, each)) in
         rw (t, h, r, z) (omega (arith, ints))
 
-pub rest_proves : RestProves
-rest_proves = record {
+pub rest_law : RestLaw
+rest_law = record {
   lawful = rest_lawful;
   tight = λ o net x d p is flow rest facts each one same. tight_from_slack o d p one each (rest_slack o net x d p is flow rest facts each same);
 }

@@ -21,10 +21,10 @@ pub record NoCandidate (net : Network) (x : List ℕ) (labelled : List Bool) : T
   pub out : (a : ℕ) → a < length net.capacities → mark labelled (slice_index net.tails a) ≡ 1 → mark labelled (slice_index net.heads a) ≡ 0 → slice_index x a ≡ slice_index net.capacities a
   pub into : (a : ℕ) → a < length net.capacities → mark labelled (slice_index net.tails a) ≡ 0 → mark labelled (slice_index net.heads a) ≡ 1 → slice_index x a ≡ 0
 
--- the prices of the labelled nodes are d higher against those of the others
+-- the prices of the labelled nodes are raised by d against those of the others; so the others may be lowered instead
 pub record IsRaised (p q : List ℤ) (labelled : List Bool) (d : ℕ) : Type 0 where
-  pub both : (f g : ℕ) → mark labelled f ≡ mark labelled g → price_at q f -ℤ price_at q g ≡ price_at p f -ℤ price_at p g
-  pub up : (f g : ℕ) → mark labelled f ≡ 1 → mark labelled g ≡ 0 → price_at q f -ℤ price_at q g ≡ (price_at p f -ℤ price_at p g) +ℤ pos d
+  pub both : (f g : ℕ) → f < length labelled → g < length labelled → mark labelled f ≡ mark labelled g → price_at q f -ℤ price_at q g ≡ price_at p f -ℤ price_at p g
+  pub up : (f g : ℕ) → f < length labelled → g < length labelled → mark labelled f ≡ 1 → mark labelled g ≡ 0 → price_at q f -ℤ price_at q g ≡ (price_at p f -ℤ price_at p g) +ℤ pos d
 
 -- of a search: node k stands at one end of arc k, and an earlier node, from which it was reached, at the other
 pub record IsReached (tails heads node arc back : ℕ → ℕ) (k : ℕ) : Type 0 where

@@ -54,3 +54,9 @@ pub record IsNetwork (net : Network) : Type 0 where
   pub head : (a : ℕ) → a < length net.capacities → slice_index net.heads a < length net.supplies
   pub apart : (a : ℕ) → a < length net.capacities → slice_index net.tails a ≢ slice_index net.heads a
   pub reward : (a : ℕ) → a < length net.capacities → (slice_index net.rewards a ≡ 0) ⊎ (slice_index net.rewards a ≡ 1)
+
+-- d is moved from s to t
+pub record IsMoved (old new : ℕ → ℤ) (s t d : ℕ) : Type 0 where
+  pub from : new s ≡ old s -ℤ pos d
+  pub to : new t ≡ old t +ℤ pos d
+  pub others : (v : ℕ) → v ≢ s → v ≢ t → new v ≡ old v

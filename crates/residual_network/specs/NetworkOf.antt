@@ -31,3 +31,7 @@ pub record IsAmongParties (o : Obligations) : Type 0 where
 -- the flow of the empty set-off: nothing is discharged, so no balance changes
 abbrev pub empty_flow : Obligations → List ℕ
 empty_flow o = replicate (length o.amounts) 0 ++ o.spends
+
+-- the flow at which a solver begins: each claim is discharged whole, and no balance changes
+abbrev pub full_flow : Obligations → List ℕ
+full_flow o = o.amounts ++ o.spends

@@ -7,8 +7,7 @@ use Rattle.setoff_model.specs.Setoff.{Obligations, price_at}
 use Rattle.setoff_model.specs.Slackness.{Slack}
 use Rattle.setoff_model.proofs.Circulation.{price_past}
 use Rattle.setoff_model.proofs.Complementary.{sign, tight_from_slack, slack_from_tight}
-use Rattle.setoff_model.specs.Squeezing.{IsSqueezed}
-use Rattle.setoff_model.specs.Squeezing.{SqueezingKeeps}
+use Rattle.setoff_model.specs.Squeezing.{IsSqueezed, SqueezingKeeps}
 
 pub trichotomy : (a b : ℤ) → (a <ℤ b) ⊎ ((a ≡ b) ⊎ (b <ℤ a))
 trichotomy a b =
