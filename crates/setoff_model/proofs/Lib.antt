@@ -9,3 +9,5 @@ pub mod Columns
 pub mod Limits
 pub mod Spelling
 pub mod Deciding
+pub mod Complementary
+pub mod Squeezed

@@ -7,3 +7,5 @@ pub mod Sums
 pub mod Setoff
 pub mod CutView
 pub mod ProofTest
+pub mod Slackness
+pub mod Squeezing

@@ -2,6 +2,8 @@
 ghost use Rattle.setoff_model.specs.Setoff.{WeakDuality, AsWritten};
 ghost use Rattle.setoff_model.specs.CutView.{LawfulFits, SumsAreBounded};
 ghost use Rattle.setoff_model.specs.ProofTest.{ProofTestLaw};
+ghost use Rattle.setoff_model.specs.Slackness.{Slackness};
+ghost use Rattle.setoff_model.specs.Squeezing.{SqueezingKeeps};
 
 /// The law behind every published round: weak duality of linear programming, for circulations.
 ///
@@ -20,4 +22,21 @@ pub fn weak_duality()
 /// called.
 pub fn proofs_are_decided()
     ensures { ProofTestLaw }
+{}
+
+/// The law by which a solver knows its end: complementary slackness, for circulations.
+///
+/// A call does nothing. By its clause the total of a lawful set-off equals the bound of prices exactly where each claim
+/// with `1 + price of the debtor - price of the creditor` above 0 is discharged whole, each claim where that is below 0 not
+/// at all, each party with a price above 0 has used its room, and each with a price below 0 its spend.
+pub fn slackness()
+    ensures { Slackness }
+{}
+
+/// The law behind squeezed prices: what the prices prove, they prove.
+///
+/// A call does nothing. By its clause the facts of `slackness` still hold of squeezed prices, and where the total of a
+/// lawful set-off equals the bound of prices, it equals the bound of the squeezed ones.
+pub fn squeezing_keeps_proofs()
+    ensures { SqueezingKeeps }
 {}

@@ -12,7 +12,7 @@ mod same;
 mod text;
 
 pub use cut::{Cut, CutClaim, Party};
-pub use duality::{proofs_are_decided, weak_duality};
+pub use duality::{proofs_are_decided, slackness, squeezing_keeps_proofs, weak_duality};
 pub use field::{read_amount, read_kind, read_number, read_price, read_sum};
 pub use kind::Kind;
 pub use name::{Key, Name};
