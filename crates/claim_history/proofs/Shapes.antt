@@ -1,7 +1,7 @@
 -- Acts by their verb, names, amounts and days.
 use Rattle.std.proofs.lemmas.List.{length-map}
 use Rattle.std.proofs.Common.{◌≡◌, true≢false, ℕ, zero, suc, ◌+◌, ◌<◌, ◌≤◌, ◌^◌, Bool, true, false, List, [], ◌∷◌, ◌++◌, length, map, get_or, take, drop, refl, sym, ap, ap₂, ◌∙◌, subst, arith}
-use Rattle.std.specs.Prelude.{codes, not, ◌&&◌, nat_le, nat_lt, if◌then◌else◌, All}
+use Rattle.std.specs.Prelude.{codes, ◌&&◌, nat_le, nat_lt, if◌then◌else◌, All}
 use Rattle.std.specs.Str.{bytes_eq}
 use Rattle.std.proofs.Math.Seq.{take-append_seam, drop-append_seam}
 use Rattle.std.proofs.lemmas.Bool.{leb-true, ltb-true}
@@ -15,7 +15,7 @@ use Rattle.claim_history.specs.declared.act.Act.{Act}
 use Rattle.claim_history.specs.declared.act.Act.TheVariants as act
 use Rattle.claim_history.specs.Days.{day_text, last_day}
 use Rattle.claim_history.specs.Acts.{ActTextsLaw, act_fields, is_amount, is_claim_amount, is_day, is_key, is_publication, is_request, is_valid}
-use Rattle.claim_history.proofs.Rows.{and_true, not_true}
+use Rattle.claim_history.proofs.Rows.{and_true}
 use Rattle.claim_history.proofs.CivilDays.{day_texts}
 
 record Shape : Type 0 where
@@ -212,15 +212,20 @@ same_shape a b s t p q e =
     (same_amounts s.amounts t.amounts p.small q.small (cut_front (map cents_text s.amounts) _ (map cents_text t.amounts) _ sums last))
     (same_days s.days t.days p.days q.days (cut_back (map cents_text s.amounts) _ (map cents_text t.amounts) _ sums last))
 
-record IsAsked (a : Act) : Type 0 where
-  valid : is_valid a ≡ true
-  apart : is_publication a ≡ false
+-- ---- requests
 
-asked : (a : Act) → is_request a ≡ true → IsAsked a
-asked a h = let q = and_true (is_valid a) (not (is_publication a)) h in record { valid = q.0; apart = not_true (is_publication a) q.1 }
+-- a request is valid
+pub request_valid : (a : Act) → is_request a ≡ true → is_valid a ≡ true
+request_valid (act.Publish round outcome) h = absurd (true≢false (sym h))
+request_valid a h = h
+
+-- and no publication
+pub request_apart : (a : Act) → is_request a ≡ true → is_publication a ≡ false
+request_apart (act.Publish round outcome) h = absurd (true≢false (sym h))
+request_apart a h = refl
 
 pub act_texts_law : ActTextsLaw
 act_texts_law a b va vb e =
-    let pa = asked a va in
-    let pb = asked b vb in
-    sym (act_again a pa.apart) ∙ ap act_from (same_shape a b (shape_of a) (shape_of b) (shape_is a pa.valid pa.apart) (shape_is b pb.valid pb.apart) e) ∙ act_again b pb.apart
+    let pa = request_apart a va in
+    let pb = request_apart b vb in
+    sym (act_again a pa) ∙ ap act_from (same_shape a b (shape_of a) (shape_of b) (shape_is a (request_valid a va) pa) (shape_is b (request_valid b vb) pb) e) ∙ act_again b pb

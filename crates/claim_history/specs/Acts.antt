@@ -1,5 +1,5 @@
 -- What may be asked, and its text.
-use Rattle.std.specs.Prelude.{ℕ, Bool, true, false, not, ◌&&◌, nat_le, nat_lt, List, [], ◌∷◌, ◌^◌, codes, decimal, length, unsigned_abs, ◌≡◌}
+use Rattle.std.specs.Prelude.{ℕ, Bool, true, false, ◌&&◌, nat_le, nat_lt, List, [], ◌∷◌, ◌^◌, codes, decimal, length, unsigned_abs, ◌≡◌}
 use Rattle.std.specs.List.{join_with_byte, list_all}
 use Rattle.setoff_model.specs.declared.name.Key.{Key}
 use Rattle.setoff_model.specs.Names.{is_name}
@@ -59,7 +59,8 @@ is_publication _ = false
 
 -- what a line of requests can ask for: every field is in its range, and it is no publication
 abbrev pub is_request : Act → Bool
-is_request a = is_valid a && not (is_publication a)
+is_request (act.Publish round outcome) = false
+is_request a = is_valid a
 
 -- the verb and its fields; of a publication the number of its round alone
 abbrev pub act_fields : Act → List (List ℕ)
