@@ -117,11 +117,11 @@ cut_law history legal round is = in_time history round (opened_in (reverse histo
 
 -- ---- how many rounds were opened
 
-abbrev opened_once : Reply → ℕ
+abbrev pub opened_once : Reply → ℕ
 opened_once r = if is_opening r then 1 else 0
 
 -- the openings after a reply
-abbrev Counts : ℕ → Act → State → Reply → Type 0
+abbrev pub Counts : ℕ → Act → State → Reply → Type 0
 Counts caller a s r = (after caller a r s).openings ≡ opened_once r + s.openings
 
 close_counts : (l : Ledger) (n : ℕ) (o : Option OpenRound) (caller : ℕ) (kind : Kind) (horizon : ℕ) → Counts caller (act.Close kind horizon) (at_state l n o) (close_answer n o caller kind horizon)
@@ -145,7 +145,7 @@ answer_counts s caller (act.Abandon) = abandon_counts s.ledger s.openings s.open
 answer_counts s caller (act.Publish number outcome) = publish_counts s.ledger s.openings s.open_round caller number outcome
 answer_counts s caller a = answer_cases (Counts caller a s) s caller a refl (λ w. omega arith) (omega arith) (λ firm. omega arith)
 
-reply_counts : (s : State) (counted caller : ℕ) (a : Act) (r : Reply) → IsReply counted (answer s caller a) r → Counts caller a s r
+pub reply_counts : (s : State) (counted caller : ℕ) (a : Act) (r : Reply) → IsReply counted (answer s caller a) r → Counts caller a s r
 reply_counts s counted caller a r (replied e) = subst (Counts caller a s) (sym e) (answer_counts s caller a)
 reply_counts s counted caller a r (failed device) = subst (Counts caller a s) (sym device.is) (omega arith)
 

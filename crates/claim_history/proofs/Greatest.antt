@@ -47,14 +47,14 @@ abandon_never None caller total e = true≢false (sym (ap is_published e))
 abandon_never (Some round) caller total e = never (abandon_refusals round caller) (reply.Abandoned round.cut.round) total refl e
 
 -- what a reply of a publication says of the state and the act
-record IsPublishedOf (o : Option OpenRound) (caller : ℕ) (a : Act) (total : ℕ) : Type 0 where
-  round : OpenRound
-  outcome : OutcomeView
-  was_open : o ≡ Some round
-  owner : round.owner ≡ caller
-  asks : a ≡ act.Publish round.cut.round outcome
-  total_is : total ≡ total_of outcome.discharges
-  proved : is_proved (obligations round.cut) outcome.discharges outcome.prices ≡ true
+pub record IsPublishedOf (o : Option OpenRound) (caller : ℕ) (a : Act) (total : ℕ) : Type 0 where
+  pub round : OpenRound
+  pub outcome : OutcomeView
+  pub was_open : o ≡ Some round
+  pub owner : round.owner ≡ caller
+  pub asks : a ≡ act.Publish round.cut.round outcome
+  pub total_is : total ≡ total_of outcome.discharges
+  pub proved : is_proved (obligations round.cut) outcome.discharges outcome.prices ≡ true
 
 total_in : Reply → ℕ
 total_in (reply.Published total) = total
@@ -89,7 +89,7 @@ answer_published s caller (act.Publish number outcome) total e = publish_taken s
 answer_published s caller a total e =
     absurd (answer_cases (λ r. r ≡ reply.Published total → ⊥) s caller a refl (λ w e. refused_apart w total e) (λ e. true≢false (sym (ap is_published e))) (λ firm e. true≢false (sym (ap is_published e))) e)
 
-reply_published : (s : State) (counted caller : ℕ) (a : Act) (r : Reply) (total : ℕ) → IsReply counted (answer s caller a) r → r ≡ reply.Published total → IsPublishedOf s.open_round caller a total
+pub reply_published : (s : State) (counted caller : ℕ) (a : Act) (r : Reply) (total : ℕ) → IsReply counted (answer s caller a) r → r ≡ reply.Published total → IsPublishedOf s.open_round caller a total
 reply_published s counted caller a r total (replied e) is = answer_published s caller a total (sym e ∙ is)
 reply_published s counted caller a r total (failed device) is = absurd (refused_apart _ total (sym device.is ∙ is))
 

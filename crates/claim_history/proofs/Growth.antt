@@ -8,7 +8,7 @@ use Rattle.claim_history.specs.declared.entry.Reply.{Reply}
 use Rattle.claim_history.specs.declared.entry.Reply.TheVariants as reply
 use Rattle.claim_history.specs.declared.entry.Entry.{Entry}
 use Rattle.claim_history.specs.States.{State, open_as, state}
-use Rattle.claim_history.specs.History.{Call, IsLegalPast, accepted_acts, ask, replay_after, replied}
+use Rattle.claim_history.specs.History.{answer_of, MayFollow, Call, IsLegalPast, accepted_acts, ask, replay_after, replied}
 use Rattle.claim_history.specs.Laws.{ActsLaw, GrowthLaw, ReplayLaw}
 
 -- ---- the acts of the state
@@ -62,3 +62,7 @@ replay_is_legal (call ∷ calls) past legal = replay_is_legal calls (ask past ca
 
 pub replay_law : ReplayLaw
 replay_law calls = subst IsLegalPast (sym (reverse-reverse (replay_after [] calls))) (replay_is_legal calls [] tt)
+
+-- an entry with the one reply may stand next
+pub due_follows : (history : List Entry) (e : Entry) → e.reply ≡ answer_of history e.caller e.act → MayFollow history e
+due_follows history e is = replied is

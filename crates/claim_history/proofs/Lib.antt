@@ -13,6 +13,8 @@ pub mod Net
 pub mod Owned
 pub mod Agreement
 pub mod Greatest
+pub mod Registered
+pub mod Replies
 pub mod Growth
 pub mod Sizes
 pub mod Formulas

@@ -94,7 +94,7 @@ no_key = record { creditor = []; invoice = [] }
 pub no_claim : CutClaim
 no_claim = record { key = no_key; debtor = 0; creditor = 0; amount = 0 }
 
-no_party : Party
+pub no_party : Party
 no_party = record { firm = []; spend = 0; room = 0 }
 
 place_fits : (d : List ℕ) (p n m : ℕ) (b : Bool) → (b ≡ true → slice_index d p ≤ m) → at_place d (if b then Some p else None) ≤ m

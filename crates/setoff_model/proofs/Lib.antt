@@ -6,6 +6,7 @@ pub mod Circulation
 pub mod AsWritten
 pub mod Pairs
 pub mod Columns
+pub mod Flows
 pub mod Limits
 pub mod Spelling
 pub mod Deciding
