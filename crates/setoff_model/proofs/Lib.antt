@@ -10,3 +10,4 @@ pub mod Limits
 pub mod Spelling
 pub mod Complementary
 pub mod Squeezed
+pub mod OneSqueezed
