@@ -1,10 +1,17 @@
 //! Solvers of nets: what each finds, and how its prices are squeezed.
 #![tactic(auto)]
 
+mod crossing;
+mod edge;
 mod flow;
+mod label;
 mod levels;
+mod price;
+mod push;
+mod scan;
 mod solver;
 mod squeezing;
+mod start;
 
 pub use flow::Flow;
 pub use solver::Solver;
