@@ -6,3 +6,4 @@ pub mod Shifts
 pub mod Starts
 pub mod Labels
 pub mod Pushes
+pub mod Works

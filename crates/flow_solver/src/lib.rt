@@ -1,8 +1,10 @@
 //! Solvers of nets: what each finds, and how its prices are squeezed.
 #![tactic(auto)]
 
+mod around;
 mod crossing;
 mod edge;
+mod excess;
 mod flow;
 mod label;
 mod levels;
@@ -12,6 +14,7 @@ mod scan;
 mod solver;
 mod squeezing;
 mod start;
+mod work;
 
 pub use flow::Flow;
 pub use solver::Solver;

@@ -1,10 +1,11 @@
 //! Where the solver begins: each claim's arc is full, and no balance changes.
-ghost use Rattle.std.specs.Prelude.{◌≡◌, ◌+◌, ◌<◌, ◌≤◌, ◌^◌, ℕ, pos, ◌-ℤ◌, length, slice_index, IfOk, unsigned_abs};
-ghost use Rattle.setoff_model.specs.Setoff.{price_at, flow_at};
-ghost use Rattle.netting_graph.specs.NetView.{obligations_of_net, arc_debtors, arc_creditors, arc_amounts};
+ghost use Rattle.std.specs.Prelude.{◌≡◌, ◌+◌, ◌≤◌, ℕ, pos, length, IfOk};
+ghost use Rattle.setoff_model.specs.Setoff.{price_at};
+ghost use Rattle.netting_graph.specs.NetView.{obligations_of_net};
 ghost use Rattle.residual_network.specs.NetworkOf.{full_flow};
-ghost use Rattle.flow_solver.specs.Starts.{AreInRange, IsChanged, IsDifference};
+ghost use Rattle.flow_solver.specs.Starts.{AreInRange, IsDifference};
 
+use crate::excess::change;
 use netting_graph::{Arc, Net};
 use std::alloc::{AllocError, Global};
 
@@ -47,14 +48,4 @@ fn add_full(excess: &mut [i128], arcs: &[Arc])
         change(excess, arc.debtor as usize, -(arc.amount as i128));
         change(excess, arc.creditor as usize, arc.amount as i128);
     }
-}
-
-// Changes one number.
-pub(crate) fn change(excess: &mut [i128], node: usize, by: i128)
-    requires within { node < length excess.old }
-    requires old { unsigned_abs (price_at excess.old node) ≤ 2 ^ 100 }
-    requires by { unsigned_abs by ≤ 2 ^ 100 }
-    ensures { IsChanged excess.old excess.new node by }
-{
-    excess[node] += by;
 }
