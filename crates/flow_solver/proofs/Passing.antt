@@ -1,23 +1,22 @@
 -- A label passed after the least raise.
-use Rattle.std.specs.Prelude.{slice_index, slice_index_or, Bool, true, false, ℤ, pos, ◌+ℤ◌, ◌-ℤ◌, ◌≤ℤ◌, ◌<ℤ◌, unsigned_abs}
-use Rattle.std.proofs.Common.{◌≡◌, ◌≢◌, ◌⊎◌, ℕ, ◌+◌, ◌-◌, ◌<◌, ◌≤◌, ◌^◌, List, [], ◌∷◌, ◌++◌, length, refl, sym, ◌∙◌, ap, subst, inl, inr, arith, length-append}
-use Rattle.std.proofs.lemmas.Bool.{cases_lt, cases_eq}
+use Rattle.std.specs.Prelude.{slice_index, Bool, ℤ, pos, unsigned_abs}
+use Rattle.std.proofs.Common.{◌≡◌, ℕ, ◌+◌, ◌<◌, ◌≤◌, ◌^◌, List, [], ◌∷◌, ◌++◌, length, sym, ◌∙◌, ap, inl, inr, arith, length-append}
+use Rattle.std.proofs.lemmas.Bool.{cases_lt}
 use Rattle.std.proofs.lemmas.Int.{ints}
 use Rattle.std.proofs.lemmas.List.{length-map}
 use Rattle.setoff_model.specs.Setoff.{Obligations, price_at}
 use Rattle.setoff_model.specs.Squeezing.{IsSqueezed, IsNear}
 use Rattle.setoff_model.proofs.Circulation.{price_past}
-use Rattle.residual_network.specs.Network.{Network, arc_gain, IsFlow, ArcSlack, excess_at}
+use Rattle.residual_network.specs.Network.{arc_gain}
 use Rattle.residual_network.specs.Labels.{mark, NoCandidate, IsRaised, IsBelowRaises}
 use Rattle.residual_network.proofs.Cut.{raise_exists}
 use Rattle.flow_solver.specs.declared.edge.Edge.{Edge}
-use Rattle.flow_solver.specs.declared.label.Label.{Label}
 use Rattle.flow_solver.specs.declared.label.Labels.{Labels}
 use Rattle.flow_solver.specs.declared.scan.Next.{Next}
 use Rattle.flow_solver.specs.declared.work.Work.{Work}
 use Rattle.flow_solver.specs.Crossings.{LeadsOut, IsNext}
-use Rattle.flow_solver.specs.Edges.{AreAmong, tails, heads, capacities, rewards, network_of, graph}
-use Rattle.flow_solver.specs.Labels.{nodes, arcs, backs, rooms, IsLink, AreSearched, IsSearch, IsUnmet}
+use Rattle.flow_solver.specs.Edges.{AreAmong, tails, heads, capacities, network_of, graph}
+use Rattle.flow_solver.specs.Labels.{nodes, arcs, backs, IsLink, AreSearched, IsUnmet}
 use Rattle.flow_solver.specs.Works.{IsSound, IsWork, IsSearchOf, IsRepriced}
 use Rattle.flow_solver.proofs.Working.{gain_low, gain_high, even_kept, even_out}
 

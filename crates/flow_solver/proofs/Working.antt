@@ -1,13 +1,12 @@
 -- The solver's steps, at its work.
-use Rattle.std.specs.Prelude.{slice_index, slice_index_or, slice_set, map, min, replicate, unsigned_abs, Bool, true, false, ℤ, pos, ◌+ℤ◌, ◌-ℤ◌, ◌≤ℤ◌, ◌<ℤ◌}
-use Rattle.std.proofs.Common.{◌≡◌, ◌≢◌, ◌⊎◌, ℕ, ◌+◌, ◌-◌, ◌<◌, ◌≤◌, List, [], ◌∷◌, ◌++◌, length, set, refl, sym, ◌∙◌, ap, subst, inl, inr, arith, length-append}
-use Rattle.std.proofs.lemmas.Bool.{cases_lt, cases_eq}
+use Rattle.std.specs.Prelude.{slice_index, replicate, unsigned_abs, Bool, ℤ, pos, ◌≤ℤ◌, ◌<ℤ◌}
+use Rattle.std.proofs.Common.{◌≡◌, ℕ, ◌+◌, ◌<◌, List, [], ◌∷◌, ◌++◌, length, ◌∙◌, ap, inl, inr, arith, length-append}
 use Rattle.std.proofs.lemmas.Int.{ints}
-use Rattle.std.proofs.lemmas.List.{length-map, length-replicate, get_or-set_same, get_or-set_other}
+use Rattle.std.proofs.lemmas.List.{length-map, length-replicate}
 use Rattle.setoff_model.specs.Setoff.{price_at}
-use Rattle.setoff_model.specs.Squeezing.{IsSqueezed, IsNear}
-use Rattle.residual_network.specs.Network.{Network, arc_gain, IsFlow, ArcSlack, IsNetwork}
-use Rattle.residual_network.specs.Labels.{mark, one_if, IsRaised, IsBelowRaises}
+use Rattle.setoff_model.specs.Squeezing.{IsSqueezed}
+use Rattle.residual_network.specs.Network.{arc_gain, IsFlow, ArcSlack, IsNetwork}
+use Rattle.residual_network.specs.Labels.{mark, IsRaised, IsBelowRaises}
 use Rattle.residual_network.proofs.Gains.{raise_law, squeezing_law}
 use Rattle.flow_solver.specs.declared.crossing.Crossing.{Crossing}
 use Rattle.flow_solver.specs.declared.edge.Edge.{Edge}
@@ -16,7 +15,7 @@ use Rattle.flow_solver.specs.declared.label.Labels.{Labels}
 use Rattle.flow_solver.specs.declared.work.Work.{Work}
 use Rattle.flow_solver.specs.Crossings.{IsCrossing, LeadsOut}
 use Rattle.flow_solver.specs.Edges.{AreAmong, tails, heads, capacities, network_of, graph}
-use Rattle.flow_solver.specs.Labels.{nodes, IsLabelled, IsUnmet, IsWanting, unlabelled}
+use Rattle.flow_solver.specs.Labels.{nodes, IsLabelled, IsWanting, unlabelled}
 use Rattle.flow_solver.specs.Works.{IsSound, IsSearchOf, IsGrown}
 use Rattle.flow_solver.proofs.Pushed.{pushed_last}
 use Rattle.flow_solver.proofs.Growing.{grown, grown_fewer}

@@ -4,6 +4,7 @@ ghost use Rattle.setoff_model.specs.Setoff.{price_at};
 ghost use Rattle.flow_solver.specs.Labels.{IsLabelAt, IsLabelled, IsBegun};
 
 use crate::crossing::Crossing;
+use crate::excess::clamped;
 use std::alloc::{AllocError, Global};
 
 // A labelled node: the arc that its label came over, the place of the label that it came from, and how much flow can
@@ -66,19 +67,6 @@ fn begin_at(labels: &mut Labels, excess: &[i128], node: usize) -> Result<(), All
         })?;
     }
     Ok(())
-}
-
-// The number, or the largest of its type.
-pub(crate) fn clamped(number: i128) -> u64
-    requires { pos 0 <ℤ number }
-    ensures some { 0 < result }
-    ensures most { pos result ≤ℤ number }
-{
-    if number < 18_446_744_073_709_551_615 {
-        number as u64
-    } else {
-        18_446_744_073_709_551_615
-    }
 }
 
 // One label more, over the arc of the crossing.

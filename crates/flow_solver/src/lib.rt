@@ -8,6 +8,7 @@ mod excess;
 mod flow;
 mod label;
 mod levels;
+mod plain_solver;
 mod price;
 mod push;
 mod scan;
@@ -17,6 +18,7 @@ mod start;
 mod work;
 
 pub use flow::Flow;
+pub use plain_solver::PlainSolver;
 pub use solver::Solver;
 pub use squeezing::squeeze;
 

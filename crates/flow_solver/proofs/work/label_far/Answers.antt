@@ -1,9 +1,6 @@
 use Rattle.std.specs.Prelude.{ℤ, pos, ◌<ℤ◌}
-use Rattle.std.proofs.Common.{◌≡◌, List, subst, arith, rules, refl, sym, ◌∙◌}
-use Rattle.std.proofs.lemmas.Int.{ints}
+use Rattle.std.proofs.Common.{List, subst, arith, rules}
 use Rattle.setoff_model.specs.Setoff.{price_at}
-use Rattle.flow_solver.specs.Crossings.{IsCrossing}
-use Rattle.flow_solver.specs.Edges.{graph}
 use Rattle.flow_solver.proofs.Working.{crossing_of, far_search, far_grown, far_fewer, far_wanting}
 use Rattle.flow_solver.proofs.work.label_far.Goals as goal
 

@@ -1,7 +1,4 @@
-use Rattle.std.specs.Prelude.{ℤ, pos}
-use Rattle.std.proofs.Common.{◌≡◌, refl, arith, subst}
-use Rattle.residual_network.specs.Labels.{IsBelowRaises}
-use Rattle.flow_solver.specs.Edges.{graph}
+use Rattle.std.proofs.Common.{refl}
 use Rattle.flow_solver.proofs.Passing.{next_of, none_of, raise_small, raise_least, search_repriced, next_even, leads_somewhere}
 use Rattle.flow_solver.proofs.work.pass.Goals as goal
 

@@ -1,7 +1,7 @@
-use Rattle.std.specs.Prelude.{ℤ, unsigned_abs}
-use Rattle.std.proofs.Common.{arith, rules, ◌≡◌, ◌+◌, ◌++◌, take, drop, List, subst, length, sym, ◌∙◌}
+use Rattle.std.specs.Prelude.{ℤ}
+use Rattle.std.proofs.Common.{arith, ◌≡◌, ◌++◌, take, drop, List, subst, length}
 use Rattle.std.proofs.lemmas.Grind.{common_steps}
-use Rattle.setoff_model.specs.Squeezing.{IsSqueezed, IsNear}
+use Rattle.setoff_model.specs.Squeezing.{IsSqueezed}
 use Rattle.residual_network.specs.Labels.{IsRaised}
 use Rattle.flow_solver.proofs.Working.{slack_kept}
 use Rattle.flow_solver.proofs.work.raise_prices.Goals as goal
