@@ -23,4 +23,6 @@ pub use solver::Solver;
 pub use squeezing::squeeze;
 
 #[cfg(test)]
+mod net_tests;
+#[cfg(test)]
 mod tests;
