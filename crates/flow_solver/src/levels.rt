@@ -24,9 +24,9 @@ pub(crate) fn number(levels: &[i64], prices: &mut [i64])
     ensures near { IsNear (length prices.old) prices.new }
 {
     let ground = place_of(levels, 0);
-    for index in 0..prices.len() {
-        let place = place_of(levels, prices[index]);
-        prices[index] = place as i64 - ground as i64;
+    for price in prices.iter_mut() {
+        let place = place_of(levels, *price);
+        *price = place as i64 - ground as i64;
     }
 }
 

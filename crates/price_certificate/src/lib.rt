@@ -4,3 +4,6 @@
 mod certificate;
 
 pub use certificate::outcome_of;
+
+#[cfg(test)]
+mod tests;

@@ -12,3 +12,6 @@ pub use laws::{
     excesses_balance, obligations_make_networks, pushes_keep_facts, raise_exists,
     raises_keep_facts, rest_proves, squeezing_keeps_facts, surplus_falls, walks_differ,
 };
+
+#[cfg(test)]
+mod tests;

@@ -12,3 +12,4 @@ pub mod Spelling
 pub mod Deciding
 pub mod Complementary
 pub mod Squeezed
+pub mod OneSqueezed

@@ -20,3 +20,7 @@ IsNear n p = (f : ℕ) → f < length p → unsigned_abs (price_at p f) ≤ n
 pub record SqueezingKeeps : Type 0 where
   pub slack : (o : Obligations) (d : List ℕ) (p q : List ℤ) → IsSqueezed p q → Slack o d p → Slack o d q
   pub tight : (o : Obligations) (d : List ℕ) (p q : List ℤ) → IsSqueezed p q → IsLawful o d → length p ≡ length o.spends → total_of d ≡ bound_of o p → total_of d ≡ bound_of o q
+
+-- there is one way to squeeze prices
+abbrev pub SqueezedIsOne : Type 0
+SqueezedIsOne = (p q r : List ℤ) → IsSqueezed p q → IsSqueezed p r → q ≡ r

@@ -3,7 +3,7 @@ ghost use Rattle.setoff_model.specs.Setoff.{WeakDuality, AsWritten};
 ghost use Rattle.setoff_model.specs.CutView.{LawfulFits, SumsAreBounded};
 ghost use Rattle.setoff_model.specs.ProofTest.{ProofTestLaw};
 ghost use Rattle.setoff_model.specs.Slackness.{Slackness};
-ghost use Rattle.setoff_model.specs.Squeezing.{SqueezingKeeps};
+ghost use Rattle.setoff_model.specs.Squeezing.{SqueezingKeeps, SqueezedIsOne};
 
 /// The law behind every published round: weak duality of linear programming, for circulations.
 ///
@@ -35,8 +35,9 @@ pub fn slackness()
 
 /// The law behind squeezed prices: what the prices prove, they prove.
 ///
-/// A call does nothing. By its clause the facts of `slackness` still hold of squeezed prices, and where the total of a
-/// lawful set-off equals the bound of prices, it equals the bound of the squeezed ones.
+/// A call does nothing. By its clauses the facts of `slackness` still hold of squeezed prices, and where the total of a
+/// lawful set-off equals the bound of prices, it equals the bound of the squeezed ones. There is one way to squeeze prices.
 pub fn squeezing_keeps_proofs()
-    ensures { SqueezingKeeps }
+    ensures keeps { SqueezingKeeps }
+    ensures one { SqueezedIsOne }
 {}
