@@ -1,0 +1,28 @@
+-- By how much the balance of an account may fall and rise in a round.
+use Rattle.std.specs.Prelude.{ℕ, min, ◌≤◌, ◌^◌, ℤ, pos, negsuc, ◌+ℤ◌, ◌-ℤ◌}
+use Rattle.setoff_model.specs.declared.kind.Kind.{Kind}
+use Rattle.setoff_model.specs.declared.kind.Kind.TheVariants.{Plain, Funded}
+use Rattle.claim_history.specs.declared.fact.AccountFact.{AccountFact}
+use Rattle.claim_history.specs.Laws.{IsWithin}
+
+-- -credit <= balance <= ceiling, with limits that an account may have
+pub record KeepsLimits (a : AccountFact) : Type 0 where
+  pub balance : IsWithin a.credit a.ceiling a.balance
+  pub credit : a.credit ≤ 999999999999
+  pub ceiling : a.ceiling ≤ 10 ^ 15
+
+-- by how much a balance may fall, and by how much it may rise
+pub record Window : Type 0 where
+  pub spend : ℕ
+  pub room : ℕ
+
+-- a number that is not below 0, and 0 for one that is
+abbrev pub whole : ℤ → ℕ
+whole (pos n) = n
+whole (negsuc n) = 0
+
+-- none where the kind is Plain; where it is Funded, what the firm offers, as far as balance and credit reach, and
+-- what is left up to the ceiling
+abbrev pub window_of : Kind → AccountFact → Window
+window_of Plain a = record { spend = 0; room = 0 }
+window_of Funded a = record { spend = min a.offer (whole (a.balance +ℤ pos a.credit)); room = whole (pos a.ceiling -ℤ a.balance) }
