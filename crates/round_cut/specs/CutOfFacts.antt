@@ -52,18 +52,22 @@ claim_among firms c = record {
   amount = c.left;
 }
 
--- the cut of claims that all take part
-abbrev pub cut_with : ℕ → List AccountFact → Kind → List ClaimFact → CutView
-cut_with round accounts kind due = record {
-  round = round;
-  kind = kind;
-  parties = map (party_in accounts kind) (firms_in due);
-  claims = map (claim_among (firms_in due)) due;
-}
+-- the parties of claims, each with the window of its account
+abbrev pub parties_in : List AccountFact → Kind → List ClaimFact → List Party
+parties_in accounts kind due = map (party_in accounts kind) (firms_in due)
+
+-- the claims, with their places among their firms
+abbrev pub claims_in : List ClaimFact → List CutClaim
+claims_in due = map (claim_among (firms_in due)) due
 
 -- the cut of a round of this number, kind and horizon
 abbrev pub cut_of_facts : ℕ → List ClaimFact → List AccountFact → Kind → ℕ → CutView
-cut_of_facts round claims accounts kind horizon = cut_with round accounts kind (claims_due horizon claims)
+cut_of_facts round claims accounts kind horizon = record {
+  round = round;
+  kind = kind;
+  parties = parties_in accounts kind (claims_due horizon claims);
+  claims = claims_in (claims_due horizon claims);
+}
 
 -- ---- what a cut is made of
 

@@ -1,3 +1,4 @@
 pub mod Windows
 pub mod CutOfFacts
 pub mod CutLaw
+pub mod Growing
