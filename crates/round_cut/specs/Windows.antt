@@ -1,5 +1,6 @@
 -- By how much the balance of an account may fall and rise in a round.
-use Rattle.std.specs.Prelude.{ℕ, min, ◌≤◌, ◌^◌, ℤ, pos, negsuc, ◌+ℤ◌, ◌-ℤ◌}
+use Rattle.std.specs.Prelude.{◌≡◌, ℕ, min, ◌≤◌, ◌^◌, ℤ, pos, negsuc, ◌+ℤ◌, ◌-ℤ◌}
+use Rattle.std.specs.Int.{int_min}
 use Rattle.setoff_model.specs.declared.kind.Kind.{Kind}
 use Rattle.setoff_model.specs.declared.kind.Kind.TheVariants.{Plain, Funded}
 use Rattle.claim_history.specs.declared.fact.AccountFact.{AccountFact}
@@ -26,3 +27,9 @@ whole (negsuc n) = 0
 abbrev pub window_of : Kind → AccountFact → Window
 window_of Plain a = record { spend = 0; room = 0 }
 window_of Funded a = record { spend = min a.offer (whole (a.balance +ℤ pos a.credit)); room = whole (pos a.ceiling -ℤ a.balance) }
+
+-- within its limits the window of an account is that minimum, and that difference
+abbrev pub WindowsLaw : Type 0
+WindowsLaw = (a : AccountFact) → KeepsLimits a →
+    (pos (window_of Funded a).spend ≡ int_min (pos a.offer) (a.balance +ℤ pos a.credit))
+    × (pos (window_of Funded a).room ≡ pos a.ceiling -ℤ a.balance)

@@ -2,8 +2,10 @@
 #![tactic(auto)]
 
 mod building;
+mod laws;
 mod parties;
 mod windows;
 
 pub use building::build_cut;
+pub use laws::cut_of_a_history_is_of_its_facts;
 pub use windows::window;
