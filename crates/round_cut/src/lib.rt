@@ -9,3 +9,6 @@ mod windows;
 pub use building::build_cut;
 pub use laws::cut_of_a_history_is_of_its_facts;
 pub use windows::window;
+
+#[cfg(test)]
+mod tests;

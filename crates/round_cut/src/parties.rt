@@ -77,7 +77,7 @@ fn find_account(accounts: &[AccountFact], firm: &Name) -> Option<usize>
         .position(|account| same_names(firm, &account.firm))
 }
 
-fn same_names(a: &Name, b: &Name) -> bool
+pub fn same_names(a: &Name, b: &Name) -> bool
     ensures { result ≡ same_name a.now b.now }
 {
     a.bytes() == b.bytes()
