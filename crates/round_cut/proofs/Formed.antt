@@ -1,8 +1,8 @@
 -- The cut of facts is well formed.
 use Rattle.std.specs.Prelude.{map, filter, flat_map, find, nat_le, Option, Some, None, IfSome, pos, negsuc, ℤ, ◌≤ℤ◌, ◌+ℤ◌, ◌-ℤ◌}
 use Rattle.std.specs.List.{list_any, position_or_len}
-use Rattle.std.proofs.Common.{◌≡◌, ◌≢◌, ℕ, ◌+◌, ◌*◌, ◌^◌, ◌<◌, ◌≤◌, Bool, true, false, not, ◌&&◌, ◌||◌, List, [], ◌∷◌, length, get_or, slice_index_or, All, AllPairs, refl, sym, ◌∙◌, ap, subst, true≢false, arith}
-use Rattle.std.proofs.lemmas.Bool.{leb-true, false_from_ne_true, false≢true}
+use Rattle.std.proofs.Common.{◌≡◌, ◌≢◌, ℕ, ◌^◌, ◌<◌, ◌≤◌, Bool, true, false, not, ◌&&◌, ◌||◌, List, [], ◌∷◌, length, get_or, slice_index_or, All, AllPairs, refl, sym, ◌∙◌, ap, true≢false, arith}
+use Rattle.std.proofs.lemmas.Bool.{leb-true, false≢true}
 use Rattle.std.proofs.lemmas.Int.{ints, clamps}
 use Rattle.std.proofs.lemmas.List.{get_or-map, length-map}
 use Rattle.std.proofs.lemmas.List.Sums.{passes_at_first, length-filter, count_by-le-length}
@@ -24,11 +24,11 @@ use Rattle.claim_history.specs.Cut.{distinct}
 use Rattle.claim_history.specs.Laws.{IsWithin}
 use Rattle.claim_history.proofs.Rows.{name_is, and_true}
 use Rattle.round_cut.specs.Windows.{KeepsLimits, Window, whole, window_of}
-use Rattle.round_cut.specs.CutOfFacts.{takes_part, claims_due, firms_in, window_or_none, window_in, party_in, claim_among, parties_in, claims_in, cut_of_facts, has_account, IsClaimOf, AreFacts}
+use Rattle.round_cut.specs.CutOfFacts.{takes_part, claims_due, firms_in, window_or_none, party_in, claim_among, cut_of_facts, has_account, IsClaimOf, AreFacts}
 use Rattle.round_cut.proofs.Places.{any_within}
-use Rattle.round_cut.proofs.Distinct.{name_same, name_other}
+use Rattle.round_cut.proofs.Distinct.{name_same}
 use Rattle.round_cut.proofs.Growth.{two_names, AreAmong, all_among}
-use Rattle.round_cut.proofs.Pairs.{pairs_map, pairs_weaker, at_most_one, All-flat_map, found_all}
+use Rattle.round_cut.proofs.Pairs.{pairs_map, at_most_one, All-flat_map, found_all}
 
 -- ---- windows
 

@@ -1,9 +1,9 @@
 -- The facts of a legal history of valid acts, and its cut.
-use Rattle.std.specs.Prelude.{◌≢◌, map, filter, flat_map, find, reverse, Option, Some, None, ℤ, pos, negsuc, ◌+ℤ◌, ◌-ℤ◌, ◌≤ℤ◌, min, if◌then◌else◌}
+use Rattle.std.specs.Prelude.{◌≢◌, map, filter, find, reverse, Option, Some, ℤ, pos, negsuc, ◌+ℤ◌, ◌-ℤ◌, ◌≤ℤ◌, min}
 use Rattle.std.specs.Int.{int_min}
 use Rattle.std.specs.List.{list_any}
 use Rattle.std.specs.Option.{option_map}
-use Rattle.std.proofs.Common.{◌≡◌, ℕ, ◌+◌, ◌-◌, ◌^◌, ◌≤◌, Bool, true, false, cond, ◌||◌, List, [], ◌∷◌, ◌++◌, length, slice_index_or, All, AllPairs, refl, sym, ◌∙◌, ap, ap₂, subst, true≢false, arith}
+use Rattle.std.proofs.Common.{◌≡◌, ℕ, ◌+◌, ◌-◌, ◌≤◌, Bool, true, false, cond, ◌||◌, List, [], ◌∷◌, slice_index_or, All, refl, sym, ◌∙◌, ap, ap₂, subst, true≢false, arith}
 use Rattle.std.proofs.lemmas.Bool.{or_right}
 use Rattle.std.proofs.lemmas.Int.{ints, clamps}
 use Rattle.std.proofs.lemmas.List.{length-map, length-reverse, reverse-append}
@@ -29,8 +29,7 @@ use Rattle.claim_history.proofs.Histories.{limits_law}
 use Rattle.round_cut.specs.Windows.{KeepsLimits, Window, whole, window_of, WindowsLaw}
 use Rattle.round_cut.specs.CutOfFacts.{takes_part, claims_due, firms_in, window_or_none, window_in, party_in, claim_among, parties_in, claims_in, cut_of_facts, has_account, IsClaimOf, AreFacts}
 use Rattle.round_cut.specs.CutLaw.{ledger_of, CutLaw, FactsLaw, FormedLaw}
-use Rattle.round_cut.proofs.Places.{list_any-map, or_left}
-use Rattle.round_cut.proofs.Distinct.{name_same}
+use Rattle.round_cut.proofs.Places.{list_any-map}
 use Rattle.round_cut.proofs.Growth.{two_names, map_same}
 use Rattle.round_cut.proofs.Pairs.{pairs_map, pairs_reverse, all_reverse}
 use Rattle.round_cut.proofs.Formed.{firms_all, formed}

@@ -1,7 +1,7 @@
 -- What registrations, filings and limits keep in every legal history of valid acts.
 use Rattle.std.specs.Prelude.{◌≢◌, nat_le, find, is_some, Option, Some, None, if◌then◌else◌}
 use Rattle.std.specs.List.{list_any, cons_option}
-use Rattle.std.proofs.Common.{◌≡◌, ℕ, ◌^◌, ◌≤◌, Bool, true, false, ◌&&◌, ◌||◌, cond, List, [], ◌∷◌, length, All, AllPairs, refl, sym, ◌∙◌, ap, subst, true≢false, arith}
+use Rattle.std.proofs.Common.{◌≡◌, ℕ, ◌^◌, ◌≤◌, Bool, true, false, ◌&&◌, cond, List, [], ◌∷◌, length, All, AllPairs, refl, sym, ◌∙◌, ap, subst, true≢false, arith}
 use Rattle.std.proofs.lemmas.Bool.{ltb-true, leb-false, or_parts, or_right, false≢true}
 use Rattle.std.proofs.lemmas.List.Elements.{All-nil, All-cons, All-head, All-tail, All-weaker}
 use Rattle.std.proofs.lemmas.List.Kept.{AllPairs-cons}
@@ -16,7 +16,7 @@ use Rattle.claim_history.specs.declared.entry.Entry.{Entry}
 use Rattle.claim_history.specs.declared.fact.Limits.{Limits}
 use Rattle.claim_history.specs.Acts.{is_key, is_amount, is_claim_amount, is_day, is_valid}
 use Rattle.claim_history.specs.Facts.{Filing, firms, filings, limits_of, first_or}
-use Rattle.claim_history.specs.History.{State, state, empty, accept, after, answer, IsLegalPast, firm_refusals, file_refusals, limit_refusals}
+use Rattle.claim_history.specs.History.{State, state, empty, accept, after, answer, IsLegalPast, firm_refusals, file_refusals}
 use Rattle.claim_history.proofs.Rows.{and_true, not_false, NoneApplies, by_rows}
 use Rattle.round_cut.proofs.Distinct.{name_same, key_same}
 

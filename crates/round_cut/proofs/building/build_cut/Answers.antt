@@ -1,8 +1,10 @@
-use Rattle.std.proofs.Common.{◌≡◌, ◌+◌, ◌∙◌, ◌++◌, ◌∷◌, [], take, vec_len, sym, ap, subst, arith, rules}
+use Rattle.std.proofs.Common.{◌≡◌, ◌+◌, ◌∙◌, ◌++◌, ◌∷◌, [], List, take, sym, ap, ap₂, subst, arith}
 use Rattle.std.proofs.lemmas.List.{take_all}
-use Rattle.std.proofs.lemmas.Grind.{common_steps}
-use Rattle.setoff_model.specs.CutView.{WellFormed}
-use Rattle.round_cut.specs.CutOfFacts.{claims_due, parties_in, claims_in, cut_of_facts}
+use Rattle.setoff_model.specs.declared.cut.Party.{Party}
+use Rattle.setoff_model.specs.declared.cut.CutClaim.{CutClaim}
+use Rattle.setoff_model.specs.CutView.{CutView, WellFormed}
+use Rattle.claim_history.specs.declared.fact.ClaimFact.{ClaimFact}
+use Rattle.round_cut.specs.CutOfFacts.{claims_due, parties_in, claims_in}
 use Rattle.round_cut.proofs.Growth.{due_yes, due_no, more_parties, more_claims}
 use Rattle.round_cut.proofs.Formed.{formed}
 use Rattle.round_cut.proofs.building.build_cut.Goals as goal
@@ -34,5 +36,7 @@ pub returns-clause-formed : goal.returns-clause-formed
 returns-clause-formed c =
     let all = c.args.claims.now in
     let whole : take c.loop-claim.claim-index all ≡ all = take_all c.loop-claim.claim-index all (omega arith) in
-    let is : c.new.result ≡ cut_of_facts c.args.round all c.args.accounts.now c.args.kind c.args.horizon = grind (arith, common_steps, whole) in
-    subst WellFormed (sym is) (formed c.args.round all c.args.accounts.now c.args.kind c.args.horizon c.requires)
+    let parties = c.loop-claim.invariant.parties ∙ ap (λ (cs : List ClaimFact). parties_in c.args.accounts.now c.args.kind (claims_due c.args.horizon cs)) whole in
+    let due = c.loop-claim.invariant.due ∙ ap (λ (cs : List ClaimFact). claims_in (claims_due c.args.horizon cs)) whole in
+    let made : List Party → List CutClaim → CutView = λ ps cs. record { round = c.args.round; kind = c.args.kind; parties = ps; claims = cs } in
+    subst WellFormed (sym (c.new.ensures ∙ ap₂ made parties due)) (formed c.args.round all c.args.accounts.now c.args.kind c.args.horizon c.requires)

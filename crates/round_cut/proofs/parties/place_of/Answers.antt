@@ -1,4 +1,4 @@
-use Rattle.std.proofs.Common.{rules, ◌≡◌, ◌∙◌, ◌++◌, ◌∷◌, [], List, length, sym, ap, arith}
+use Rattle.std.proofs.Common.{rules, ◌≡◌, ◌∙◌, ◌++◌, ◌∷◌, [], List, length, sym, ap}
 use Rattle.std.specs.List.{position_or_len}
 use Rattle.setoff_model.specs.declared.cut.Party.{Party}
 use Rattle.round_cut.specs.CutOfFacts.{party_in}
