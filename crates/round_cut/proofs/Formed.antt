@@ -15,6 +15,7 @@ use Rattle.setoff_model.specs.declared.kind.Kind.TheVariants.{Plain, Funded}
 use Rattle.setoff_model.specs.declared.cut.Party.{Party}
 use Rattle.setoff_model.specs.declared.cut.CutClaim.{CutClaim}
 use Rattle.setoff_model.specs.CutView.{WellFormed, IsClaimAmong, IsWindowOf, window_limit}
+use Rattle.setoff_model.specs.Sums.{above_zero}
 use Rattle.setoff_model.specs.Same.{same_name}
 use Rattle.claim_history.specs.declared.fact.Status.TheVariants as status
 use Rattle.claim_history.specs.declared.fact.ClaimFact.{ClaimFact}
@@ -23,7 +24,7 @@ use Rattle.claim_history.specs.Facts.{is_confirmed}
 use Rattle.claim_history.specs.Cut.{distinct}
 use Rattle.claim_history.specs.Laws.{IsWithin}
 use Rattle.claim_history.proofs.Rows.{name_is, and_true}
-use Rattle.round_cut.specs.Windows.{KeepsLimits, Window, whole, window_of}
+use Rattle.round_cut.specs.Windows.{KeepsLimits, Window, window_of}
 use Rattle.round_cut.specs.CutOfFacts.{takes_part, claims_due, firms_in, window_or_none, party_in, claim_among, cut_of_facts, has_account, IsClaimOf, AreFacts}
 use Rattle.round_cut.proofs.Places.{any_within}
 use Rattle.round_cut.proofs.Distinct.{name_same}
@@ -32,9 +33,9 @@ use Rattle.round_cut.proofs.Pairs.{pairs_map, at_most_one, All-flat_map, found_a
 
 -- ---- windows
 
-whole_le : (z : ℤ) (m : ℕ) → z ≤ℤ pos m → whole z ≤ m
-whole_le (pos n) m h = omega (arith, ints, h)
-whole_le (negsuc n) m h = omega arith
+above_zero_le : (z : ℤ) (m : ℕ) → z ≤ℤ pos m → above_zero z ≤ m
+above_zero_le (pos n) m h = omega (arith, ints, h)
+above_zero_le (negsuc n) m h = omega arith
 
 abbrev IsSmall : Kind → Window → Type 0
 IsSmall kind w = (w.spend ≤ window_limit kind) × (w.room ≤ window_limit kind)
@@ -48,8 +49,8 @@ room_le b credit ceiling within few most = omega (arith, ints, clamps, within.0,
 window_small : (kind : Kind) (a : AccountFact) → KeepsLimits a → IsSmall kind (window_of kind a)
 window_small Plain a keeps = (omega arith, omega arith)
 window_small Funded a keeps = (
-  omega (arith, whole_le (a.balance +ℤ pos a.credit) 2000000000000000 (reach_le a.balance a.credit a.ceiling keeps.balance keeps.credit keeps.ceiling)),
-  whole_le (pos a.ceiling -ℤ a.balance) 2000000000000000 (room_le a.balance a.credit a.ceiling keeps.balance keeps.credit keeps.ceiling),
+  omega (arith, above_zero_le (a.balance +ℤ pos a.credit) 2000000000000000 (reach_le a.balance a.credit a.ceiling keeps.balance keeps.credit keeps.ceiling)),
+  above_zero_le (pos a.ceiling -ℤ a.balance) 2000000000000000 (room_le a.balance a.credit a.ceiling keeps.balance keeps.credit keeps.ceiling),
 )
 
 found_small : (kind : Kind) (found : Option AccountFact) → IfSome found KeepsLimits → IsSmall kind (window_or_none kind found)

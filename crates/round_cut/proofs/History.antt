@@ -15,6 +15,7 @@ use Rattle.setoff_model.specs.declared.kind.Kind.TheVariants.{Plain, Funded}
 use Rattle.setoff_model.specs.declared.cut.Party.{Party}
 use Rattle.setoff_model.specs.declared.cut.CutClaim.{CutClaim}
 use Rattle.setoff_model.specs.CutView.{CutView, WellFormed}
+use Rattle.setoff_model.specs.Sums.{above_zero}
 use Rattle.setoff_model.specs.Same.{same_name, same_key}
 use Rattle.claim_history.specs.declared.entry.Entry.{Entry}
 use Rattle.claim_history.specs.declared.fact.ClaimFact.{ClaimFact}
@@ -26,9 +27,9 @@ use Rattle.claim_history.specs.History.{state_of, IsLegal, AreValid}
 use Rattle.claim_history.proofs.Rows.{name_is}
 use Rattle.claim_history.proofs.Formulas.{formulas_law}
 use Rattle.claim_history.proofs.Histories.{limits_law}
-use Rattle.round_cut.specs.Windows.{KeepsLimits, Window, whole, window_of, WindowsLaw}
+use Rattle.round_cut.specs.Windows.{KeepsLimits, Window, window_of, WindowsLaw}
 use Rattle.round_cut.specs.CutOfFacts.{takes_part, claims_due, firms_in, window_or_none, window_in, party_in, claim_among, parties_in, claims_in, cut_of_facts, has_account, IsClaimOf, AreFacts}
-use Rattle.round_cut.specs.CutLaw.{ledger_of, CutLaw, FactsLaw, FormedLaw}
+use Rattle.round_cut.specs.CutLaw.{CutLaw, FactsLaw, FormedLaw}
 use Rattle.round_cut.proofs.Places.{list_any-map}
 use Rattle.round_cut.proofs.Growth.{two_names, map_same}
 use Rattle.round_cut.proofs.Pairs.{pairs_map, pairs_reverse, all_reverse}
@@ -38,21 +39,21 @@ use Rattle.round_cut.proofs.Registered.{IsFiling, IsRegister, IsOrderly, orderly
 -- ---- windows
 
 -- a number with its negative part made up
-whole_is : (z : ℤ) (n m : ℕ) → z +ℤ pos m ≡ pos n → whole z ≡ n - m
-whole_is (pos k) n m e = omega (arith, ints, e)
-whole_is (negsuc k) n m e = omega (arith, ints, e)
+above_zero_is : (z : ℤ) (n m : ℕ) → z +ℤ pos m ≡ pos n → above_zero z ≡ n - m
+above_zero_is (pos k) n m e = omega (arith, ints, e)
+above_zero_is (negsuc k) n m e = omega (arith, ints, e)
 
-whole_same : (z : ℤ) → pos 0 ≤ℤ z → pos (whole z) ≡ z
-whole_same (pos n) h = refl
-whole_same (negsuc n) h = absurd (omega (arith, ints, h))
+above_zero_same : (z : ℤ) → pos 0 ≤ℤ z → pos (above_zero z) ≡ z
+above_zero_same (pos n) h = refl
+above_zero_same (negsuc n) h = absurd (omega (arith, ints, h))
 
-least : (offer : ℕ) (z : ℤ) → pos (whole z) ≡ z → pos (min offer (whole z)) ≡ int_min (pos offer) z
+least : (offer : ℕ) (z : ℤ) → pos (above_zero z) ≡ z → pos (min offer (above_zero z)) ≡ int_min (pos offer) z
 least offer z e = omega (arith, ints, clamps, e)
 
 pub windows_law : WindowsLaw
 windows_law a keeps = (
-  least a.offer (a.balance +ℤ pos a.credit) (whole_same (a.balance +ℤ pos a.credit) (omega (arith, ints, keeps.balance.0))),
-  whole_same (pos a.ceiling -ℤ a.balance) (omega (arith, ints, keeps.balance.1)),
+  least a.offer (a.balance +ℤ pos a.credit) (above_zero_same (a.balance +ℤ pos a.credit) (omega (arith, ints, keeps.balance.0))),
+  above_zero_same (pos a.ceiling -ℤ a.balance) (omega (arith, ints, keeps.balance.1)),
 )
 
 -- ---- accounts
@@ -96,11 +97,11 @@ window_is l kind firm there =
 abbrev party : List ℕ → Window → Party
 party firm w = record { firm = firm; spend = w.spend; room = w.room }
 
-spend_is : (g s credit : ℕ) → whole ((pos g -ℤ pos s) +ℤ pos credit) ≡ g + credit - s
-spend_is g s credit = whole_is ((pos g -ℤ pos s) +ℤ pos credit) (g + credit) s (omega (arith, ints))
+spend_is : (g s credit : ℕ) → above_zero ((pos g -ℤ pos s) +ℤ pos credit) ≡ g + credit - s
+spend_is g s credit = above_zero_is ((pos g -ℤ pos s) +ℤ pos credit) (g + credit) s (omega (arith, ints))
 
-room_is : (g s ceiling : ℕ) → whole (pos ceiling -ℤ (pos g -ℤ pos s)) ≡ ceiling + s - g
-room_is g s ceiling = whole_is (pos ceiling -ℤ (pos g -ℤ pos s)) (ceiling + s) g (omega (arith, ints))
+room_is : (g s ceiling : ℕ) → above_zero (pos ceiling -ℤ (pos g -ℤ pos s)) ≡ ceiling + s - g
+room_is g s ceiling = above_zero_is (pos ceiling -ℤ (pos g -ℤ pos s)) (ceiling + s) g (omega (arith, ints))
 
 party_is : (l : Ledger) (kind : Kind) (firm : List ℕ) → party firm (window_of kind (account_fact l firm)) ≡ party_of l kind firm
 party_is l Plain firm = refl
@@ -201,20 +202,20 @@ cut_is l round kind horizon each =
 history_orderly : (history : List Entry) → IsLegal history → AreValid history → IsOrderly (state_of history)
 history_orderly history legal valid = orderly (reverse history) legal (all_reverse (λ (e : Entry). is_valid e.act ≡ true) history valid)
 
-limited : (history : List Entry) → IsLegal history → AreValid history → Limited (ledger_of history)
+limited : (history : List Entry) → IsLegal history → AreValid history → Limited (state_of history).ledger
 limited history legal valid firm = record {
-  balance = (formulas_law.limits_kept (ledger_of history)).0 (limits_law history legal).0 firm;
+  balance = (formulas_law.limits_kept (state_of history).ledger).0 (limits_law history legal).0 firm;
   credit = ((history_orderly history legal valid).1 firm).0;
   ceiling = ((history_orderly history legal valid).1 firm).1;
 }
 
 pub facts_law : FactsLaw
-facts_law history legal valid = facts_are (ledger_of history) (history_orderly history legal valid).0 (limited history legal valid)
+facts_law history legal valid = facts_are (state_of history).ledger (history_orderly history legal valid).0 (limited history legal valid)
 
 pub cut_law : CutLaw
-cut_law history round kind horizon legal valid = cut_is (ledger_of history) round kind horizon (history_orderly history legal valid).0.each
+cut_law history round kind horizon legal valid = cut_is (state_of history).ledger round kind horizon (history_orderly history legal valid).0.each
 
 pub formed_law : FormedLaw
 formed_law history round kind horizon legal valid =
     subst WellFormed (cut_law history round kind horizon legal valid)
-    (formed round (claim_facts (ledger_of history)) (account_facts (ledger_of history)) kind horizon (facts_law history legal valid))
+    (formed round (claim_facts (state_of history).ledger) (account_facts (state_of history).ledger) kind horizon (facts_law history legal valid))

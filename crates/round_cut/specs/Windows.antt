@@ -1,8 +1,9 @@
 -- By how much the balance of an account may fall and rise in a round.
-use Rattle.std.specs.Prelude.{◌≡◌, ℕ, min, ◌≤◌, ◌^◌, ℤ, pos, negsuc, ◌+ℤ◌, ◌-ℤ◌}
+use Rattle.std.specs.Prelude.{◌≡◌, ℕ, min, ◌≤◌, ◌^◌, pos, ◌+ℤ◌, ◌-ℤ◌}
 use Rattle.std.specs.Int.{int_min}
 use Rattle.setoff_model.specs.declared.kind.Kind.{Kind}
 use Rattle.setoff_model.specs.declared.kind.Kind.TheVariants.{Plain, Funded}
+use Rattle.setoff_model.specs.Sums.{above_zero}
 use Rattle.claim_history.specs.declared.fact.AccountFact.{AccountFact}
 use Rattle.claim_history.specs.Laws.{IsWithin}
 
@@ -17,16 +18,11 @@ pub record Window : Type 0 where
   pub spend : ℕ
   pub room : ℕ
 
--- a number that is not below 0, and 0 for one that is
-abbrev pub whole : ℤ → ℕ
-whole (pos n) = n
-whole (negsuc n) = 0
-
 -- none where the kind is Plain; where it is Funded, what the firm offers, as far as balance and credit reach, and
 -- what is left up to the ceiling
 abbrev pub window_of : Kind → AccountFact → Window
 window_of Plain a = record { spend = 0; room = 0 }
-window_of Funded a = record { spend = min a.offer (whole (a.balance +ℤ pos a.credit)); room = whole (pos a.ceiling -ℤ a.balance) }
+window_of Funded a = record { spend = min a.offer (above_zero (a.balance +ℤ pos a.credit)); room = above_zero (pos a.ceiling -ℤ a.balance) }
 
 -- within its limits the window of an account is that minimum, and that difference
 abbrev pub WindowsLaw : Type 0
