@@ -119,7 +119,10 @@ limit_keeps s firm credit ceiling v inv =
 
 -- ---- the one reply keeps it
 
+-- as far as firms, claims and limits go, a reply leaves the state as it was or accepts the act; the first case is there so that
+-- each act is looked at by itself
 by_reply : (caller : ℕ) (a : Act) (r : Reply) (s : State) → IsOrderly s → IsOrderly (accept a s) → IsOrderly (after caller a r s)
+by_reply caller (act.Firm firm) (reply.Refused w) s was now = was
 by_reply caller a (reply.Refused w) s was now = was
 by_reply caller a r s was now = now
 
