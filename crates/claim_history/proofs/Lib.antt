@@ -21,4 +21,5 @@ pub mod Formulas
 pub mod Shapes
 pub mod Ranges
 pub mod Worked
+pub mod Register
 mod WorkedRounds

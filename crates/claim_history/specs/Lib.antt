@@ -5,3 +5,4 @@ pub mod Cut
 pub mod States
 pub mod History
 pub mod Laws
+pub mod Register

@@ -1,5 +1,6 @@
 //! What holds of every legal history. Each of these calls does nothing.
 ghost use Rattle.claim_history.specs.Laws.{ActsLaw, CutLaw, GrowthLaw, ReplayLaw, LimitsLaw, FormulasLaw, SizesLaw, RepliesLaw, FrozenLaw, OwnedLaw, PublicationLaw, GreatestLaw, OpeningsLaw};
+ghost use Rattle.claim_history.specs.Register.{FullRegister};
 
 /// What a history comes to is that of its entries: its acts are the accepted ones, newest first, and its open round has the cut
 /// of the entries before its opening. As many rounds were opened as entries open one.
@@ -46,4 +47,10 @@ pub fn publication_keeps_net_positions()
 /// discharges more.
 pub fn publications_are_greatest()
     ensures { GreatestLaw }
+{}
+
+/// Where 262,143 claims were filed, two registered firms may file one more, and where 262,144 were, the next one is
+/// refused: a new key since the register is full, and one that was filed since it was filed.
+pub fn full_register_refuses_claims()
+    ensures { FullRegister }
 {}

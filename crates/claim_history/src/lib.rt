@@ -14,7 +14,7 @@ pub use day::{Day, days_are_civil_dates};
 pub use entry::{Entry, Reply, Why, accepted};
 pub use fact::{AccountFact, ClaimFact, Position, Status};
 pub use laws::{
-    legal_history_grows, limits_hold, open_cut_is_frozen, owned_round_stays_open,
+    full_register_refuses_claims, legal_history_grows, limits_hold, open_cut_is_frozen, owned_round_stays_open,
     publication_keeps_net_positions, publications_are_greatest, state_is_of_the_history,
 };
 

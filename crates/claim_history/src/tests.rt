@@ -1,5 +1,5 @@
 use crate::{
-    Act, Day, Entry, Reply, Why, accepted, legal_history_grows, limits_hold, open_cut_is_frozen,
+    Act, Day, Entry, Reply, Why, accepted, full_register_refuses_claims, legal_history_grows, limits_hold, open_cut_is_frozen,
     owned_round_stays_open, publication_keeps_net_positions, publications_are_greatest,
     state_is_of_the_history, write_act,
 };
@@ -171,4 +171,5 @@ fn laws() {
     owned_round_stays_open();
     publication_keeps_net_positions();
     publications_are_greatest();
+    full_register_refuses_claims();
 }
