@@ -14,8 +14,9 @@ pub use day::{Day, days_are_civil_dates};
 pub use entry::{Entry, Reply, Why, accepted};
 pub use fact::{AccountFact, ClaimFact, Position, Status};
 pub use laws::{
-    full_register_refuses_claims, legal_history_grows, limits_hold, open_cut_is_frozen, owned_round_stays_open,
-    publication_keeps_net_positions, publications_are_greatest, state_is_of_the_history,
+    full_register_refuses_claims, legal_history_grows, limits_hold, open_cut_is_frozen,
+    owned_round_stays_open, publication_keeps_net_positions, publications_are_greatest,
+    state_is_of_the_history,
 };
 
 #[cfg(test)]

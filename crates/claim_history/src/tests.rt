@@ -1,7 +1,7 @@
 use crate::{
-    Act, Day, Entry, Reply, Why, accepted, full_register_refuses_claims, legal_history_grows, limits_hold, open_cut_is_frozen,
-    owned_round_stays_open, publication_keeps_net_positions, publications_are_greatest,
-    state_is_of_the_history, write_act,
+    Act, Day, Entry, Reply, Why, accepted, full_register_refuses_claims, legal_history_grows,
+    limits_hold, open_cut_is_frozen, owned_round_stays_open, publication_keeps_net_positions,
+    publications_are_greatest, state_is_of_the_history, write_act,
 };
 use setoff_model::{Key, Kind, Name, Outcome};
 use std::alloc::{AllocError, Global};
