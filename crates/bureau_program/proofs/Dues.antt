@@ -6,7 +6,8 @@ use Rattle.bureau_edge.specs.Streams.{AppendsPart}
 use Rattle.claim_history.specs.declared.entry.Entry.{Entry}
 use Rattle.claim_history.specs.History.{IsLegal}
 use Rattle.request_text.specs.declared.request.Request.{Request}
-use Rattle.bureau_program.specs.Serving.{IsServed, IsServedRun, printed_of, end_status}
+use Rattle.bureau_program.specs.Printing.{printed_of}
+use Rattle.bureau_program.specs.Serving.{IsServed, IsServedRun, end_status}
 use Rattle.bureau_program.specs.Writing.{IsWritten, Wrote, whole, broken}
 
 -- what was due for one reason was due for another

@@ -1,6 +1,7 @@
 pub mod Texts
 pub mod Printing
 pub mod Serving
+pub mod Closing
 pub mod Writing
 pub mod Headline
 pub mod Commands

@@ -2,6 +2,7 @@
 #![tactic(auto)]
 
 mod check;
+mod closing;
 mod command;
 mod fault_text;
 mod output;

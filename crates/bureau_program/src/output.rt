@@ -1,20 +1,20 @@
 //! Output in pieces: text goes through a buffer of 65,536 bytes to the sink.
 ghost use Rattle.std.specs.Prelude.{◌≡◌, ◌+◌, ◌≤◌, [], ◌++◌, true, All, IfOk, OnOk, OnErr, vec_len, vec_capacity, length};
 ghost use Rattle.std.specs.Io.KnownBytes.{Appends};
-ghost use Rattle.std.specs.List.{flat_map};
 ghost use Rattle.bureau_edge.specs.Causes.{HasCause};
 ghost use Rattle.bureau_edge.specs.Streams.{AppendsPart};
 ghost use Rattle.claim_history.specs.Acts.{is_valid};
-ghost use Rattle.claim_history.specs.History.{AreValid};
+ghost use Rattle.claim_history.specs.History.{AreValid, IsLegal};
 ghost use Rattle.claim_history.specs.Laws.{IsReplyInRange};
 ghost use Rattle.statement_text.specs.Entries.{entry_line};
-ghost use Rattle.bureau_program.specs.Serving.{unserved_line, unserved_text, printed_of};
+ghost use Rattle.bureau_program.specs.Printing.{unserved_line, unserved_text, printed_of, history_text, cuts_of};
 ghost use Rattle.bureau_program.specs.Writing.{Passes};
 
 use crate::fault_text::write_memory_line;
 use bureau_edge::{Failed, Sink, write_all};
 use claim_history::Entry;
 use request_text::Request;
+use setoff_model::Cut;
 use statement_text::write_entry;
 use std::alloc::{AllocError, Global};
 
@@ -81,12 +81,15 @@ fn print_entries<K: Sink>(
     sink: &mut K,
     buffer: &mut Vec<u8>,
     history: &[Entry],
+    rounds: &[Cut],
 ) -> Result<(), Failed>
+    requires legal { IsLegal history.now }
     requires valid { AreValid history.now }
     requires range { All (λ e. IsReplyInRange e.reply) history.now }
+    requires rounds { rounds.now ≡ cuts_of history.now }
     requires spare { 65536 ≤ vec_capacity buffer.old }
-    ensures ok { OnOk result (Passes (K.held sink.old) (K.held sink.new) buffer.old.items buffer.new.items (flat_map entry_line history.now)) }
-    ensures part { OnErr result (AppendsPart (K.held sink.old) (K.held sink.new) (buffer.old.items ++ flat_map entry_line history.now)) }
+    ensures ok { OnOk result (Passes (K.held sink.old) (K.held sink.new) buffer.old.items buffer.new.items (history_text history.now)) }
+    ensures part { OnErr result (AppendsPart (K.held sink.old) (K.held sink.new) (buffer.old.items ++ history_text history.now)) }
     ensures cause { HasCause (K.faults sink.old) (K.faults sink.new) result }
     ensures room { 65536 ≤ vec_capacity buffer.new }
 {
@@ -143,11 +146,14 @@ pub fn print_run<K: Sink>(
     sink: &mut K,
     buffer: &mut Vec<u8>,
     history: &[Entry],
+    rounds: &[Cut],
     requests: &[Request],
     marks: &[bool],
 ) -> Result<(), Failed>
+    requires legal { IsLegal history.now }
     requires valid { AreValid history.now }
     requires range { All (λ e. IsReplyInRange e.reply) history.now }
+    requires rounds { rounds.now ≡ cuts_of history.now }
     requires marked { length requests.now ≡ length marks.now }
     requires empty { buffer.old.items ≡ [] }
     requires spare { 65536 ≤ vec_capacity buffer.old }
@@ -155,7 +161,7 @@ pub fn print_run<K: Sink>(
     ensures part { OnErr result (AppendsPart (K.held sink.old) (K.held sink.new) (printed_of requests.now marks.now history.now)) }
     ensures cause { HasCause (K.faults sink.old) (K.faults sink.new) result }
 {
-    print_entries(sink, buffer, history)?;
+    print_entries(sink, buffer, history, rounds)?;
     print_all_unserved(sink, buffer, requests, marks)?;
     flush(sink, buffer)
 }

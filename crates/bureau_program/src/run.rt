@@ -1,18 +1,18 @@
 //! The words `run`: from the bytes of an input to the entries and their text.
-ghost use Rattle.std.specs.Prelude.{◌≡◌, ◌≢◌, ◌≤◌, ◌+◌, [], true, All, length, vec_capacity};
+ghost use Rattle.std.specs.Prelude.{◌≡◌, ◌≢◌, ◌≤◌, ◌+◌, [], true, All, length, vec_len, vec_capacity};
 ghost use Rattle.bureau_edge.specs.Causes.{Rose};
-ghost use Rattle.claim_history.specs.Acts.{is_valid};
+ghost use Rattle.claim_history.specs.Acts.{is_request};
 ghost use Rattle.request_text.specs.Grammar.{IsFirstBadLine, IsNoRequestText};
+ghost use Rattle.bureau_program.specs.Printing.{cuts_of};
 ghost use Rattle.bureau_program.specs.Serving.{IsServed, IsServedRun};
 ghost use Rattle.bureau_program.specs.Writing.{Wrote};
 ghost use Rattle.bureau_program.specs.Headline.{IsBatchDue, IsRunDue};
 
 use crate::fault_text::write_bad_line;
 use crate::output::{output_buffer, print_run};
-use crate::serve::{serve_all, status_of};
+use crate::serve::{Served, serve_all, status_of};
 use crate::told::told;
 use bureau_edge::Sink;
-use claim_book::Book;
 use claim_history::limits_hold;
 use request_text::{LineCause, Request, RequestError, read_requests};
 use std::alloc::Global;
@@ -22,11 +22,11 @@ fn print_served<K: Sink>(
     sink: &mut K,
     buffer: &mut Vec<u8>,
     requests: &[Request],
-    book: &Book,
-    marks: &[bool],
+    served: &Served,
 ) -> u8
-    requires served { IsServed requests.now marks.now book.now.history }
-    requires marked { length requests.now ≡ length marks.now }
+    requires served { IsServed requests.now served.now.marks.items served.now.book.history }
+    requires marked { length requests.now ≡ vec_len served.now.marks }
+    requires cuts { served.now.rounds.items ≡ cuts_of served.now.book.history }
     requires empty { buffer.old.items ≡ [] }
     requires spare { 65536 ≤ vec_capacity buffer.old }
     ensures wrote { Wrote (IsServedRun requests.now) (K.held sink.old) (K.held sink.new) result }
@@ -34,7 +34,15 @@ fn print_served<K: Sink>(
     ensures no_read_fault { result ≢ 3 }
 {
     limits_hold();
-    match print_run(sink, buffer, book.history(), requests, marks) {
+    let marks = served.marks.as_slice();
+    match print_run(
+        sink,
+        buffer,
+        served.book.history(),
+        served.rounds.as_slice(),
+        requests,
+        marks,
+    ) {
         Ok(()) => status_of(marks),
         Err(_) => 4,
     }
@@ -42,7 +50,7 @@ fn print_served<K: Sink>(
 
 // Serves requests, and prints their entries.
 fn run_requests<K: Sink>(alloc: Global, requests: &[Request], sink: &mut K) -> u8
-    requires { All (λ r. is_valid r.act ≡ true) requests.now }
+    requires { All (λ r. is_request r.act ≡ true) requests.now }
     ensures wrote { Wrote (IsBatchDue requests.now) (K.held sink.old) (K.held sink.new) result }
     ensures write_fault { result ≡ 4 → Rose (K.faults sink.old) (K.faults sink.new) }
     ensures no_read_fault { result ≢ 3 }
@@ -51,7 +59,7 @@ fn run_requests<K: Sink>(alloc: Global, requests: &[Request], sink: &mut K) -> u
         return told(sink, 9, b"fault memory\n");
     };
     match serve_all(alloc, requests) {
-        Ok((book, marks)) => print_served(sink, &mut buffer, requests, &book, marks.as_slice()),
+        Ok(served) => print_served(sink, &mut buffer, requests, &served),
         Err(_) => told(sink, 9, b"fault memory\n"),
     }
 }

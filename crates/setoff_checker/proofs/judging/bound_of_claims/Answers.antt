@@ -5,7 +5,8 @@ use mir.Syntax.{w64}
 use mir.Val.{SFits}
 use Rattle.setoff_model.specs.Setoff.{price_at}
 use Rattle.setoff_model.specs.CutView.{creditors, debtors, amounts}
-use Rattle.setoff_checker.proofs.Flows.{column, of_read, claims_bound_more}
+use Rattle.setoff_checker.proofs.Flows.{of_read, claims_bound_more}
+use Rattle.setoff_model.proofs.Flows.{column}
 use Rattle.setoff_checker.proofs.judging.bound_of_claims.Goals as goal
 
 pub loop-claim-preserved : goal.loop-claim-preserved

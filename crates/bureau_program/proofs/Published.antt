@@ -1,0 +1,122 @@
+-- The publication of the open round is what is due.
+use Rattle.std.specs.Prelude.{Option, Some, None, is_some, unsigned_abs, pos, ℤ, ◌==◌, reverse}
+use Rattle.std.specs.List.{list_all}
+use Rattle.std.specs.Option.{option_map}
+use Rattle.std.proofs.Common.{◌≡◌, ℕ, ◌+◌, ◌<◌, ◌≤◌, ◌^◌, Bool, true, false, not, ◌&&◌, List, [], ◌∷◌, ◌++◌, length, get_or, All, nat_le, nat_lt, refl, sym, ◌∙◌, ap, subst, true≢false, arith}
+use Rattle.std.proofs.lemmas.Bool.{eq-eqb, le-leb, lt-ltb}
+use Rattle.std.proofs.lemmas.List.Elements.{All-head, All-tail, All-from_get_or, All-weaker}
+use Rattle.setoff_model.specs.CutView.{CutView, OutcomeView, WellFormed, obligations}
+use Rattle.setoff_model.specs.Setoff.{Proves, IsOldestFirst, total_of}
+use Rattle.setoff_model.specs.ProofTest.{is_proved}
+use Rattle.setoff_model.proofs.Columns.{parties_long, claims_long, lawful_fits}
+use Rattle.setoff_model.proofs.Deciding.{proof_test_law}
+use Rattle.claim_history.specs.declared.act.Act.{Act}
+use Rattle.claim_history.specs.declared.act.Act.TheVariants as act
+use Rattle.claim_history.specs.declared.entry.Reply.{Reply}
+use Rattle.claim_history.specs.declared.entry.Reply.TheVariants as reply
+use Rattle.claim_history.specs.declared.entry.Why.{Why}
+use Rattle.claim_history.specs.declared.entry.Entry.{Entry}
+use Rattle.claim_history.specs.Acts.{is_valid, is_amount, is_outcome, is_round}
+use Rattle.claim_history.specs.States.{OpenRound, State, after, open_as, state, state_of}
+use Rattle.claim_history.specs.History.{answer, publish_answer, refused_or}
+use Rattle.claim_history.proofs.Rounds.{none_open, same_open}
+use Rattle.bureau_program.specs.Closing.{IsOutcomeDue, Owns}
+
+-- ---- rounds are numbered from 1
+
+abbrev IsNumbered : Option OpenRound → Type 0
+IsNumbered o = (round : OpenRound) → o ≡ Some round → 1 ≤ round.cut.round
+
+opened_numbered : (caller : ℕ) (a : Act) (s : State) → IsNumbered s.open_round → IsNumbered (open_as caller a s).open_round
+opened_numbered caller (act.Close kind horizon) s h round e = subst (λ (r : OpenRound). 1 ≤ r.cut.round) (same_open _ round e) (omega arith)
+opened_numbered caller a s h round e = h round e
+
+after_numbered : (caller : ℕ) (a : Act) (r : Reply) (s : State) → IsNumbered s.open_round → IsNumbered (after caller a r s).open_round
+after_numbered caller a (reply.Opened number) s h round e = opened_numbered caller a s h round e
+after_numbered caller a (reply.Published total) s h round e = absurd (none_open round e)
+after_numbered caller a (reply.Abandoned number) s h round e = absurd (none_open round e)
+after_numbered caller a r s h round e = h round e
+
+pub numbered : (past : List Entry) (round : OpenRound) → (state past).open_round ≡ Some round → 1 ≤ round.cut.round
+numbered [] round e = absurd (none_open round e)
+numbered (e ∷ past) round is = after_numbered e.caller e.act e.reply (state past) (numbered past) round is
+
+-- ---- the act is valid
+
+both : (a b : Bool) → a ≡ true → b ≡ true → (a && b) ≡ true
+both true b e f = f
+both false b e f = absurd (true≢false (sym e))
+
+list_true : {X : Type 0} (p : X → Bool) (xs : List X) → All (λ x. p x ≡ true) xs → list_all p xs ≡ true
+list_true p [] h = refl
+list_true {X = X} p (x ∷ xs) h = both (p x) (list_all p xs) (All-head (λ (y : X). p y ≡ true) x xs h) (list_true p xs (All-tail (λ (y : X). p y ≡ true) x xs h))
+
+amounts_valid : (cut : CutView) (outcome : OutcomeView) → WellFormed cut → Proves (obligations cut) outcome.discharges outcome.prices → list_all is_amount outcome.discharges ≡ true
+amounts_valid cut outcome formed proved =
+    list_true is_amount outcome.discharges (All-weaker (λ d. d ≤ 999999999999) (λ d. is_amount d ≡ true) (λ d le. lt-ltb d (10 ^ 12) (omega arith)) outcome.discharges (lawful_fits.small cut outcome.discharges formed proved.lawful))
+
+prices_valid : (cut : CutView) (outcome : OutcomeView) → Proves (obligations cut) outcome.discharges outcome.prices → list_all (λ p. nat_le (unsigned_abs p) (length outcome.prices)) outcome.prices ≡ true
+prices_valid cut outcome proved =
+    let each : (k : ℕ) → k < length outcome.prices → nat_le (unsigned_abs (get_or outcome.prices k (pos 0))) (length outcome.prices) ≡ true =
+    λ k within. le-leb (unsigned_abs (get_or outcome.prices k (pos 0))) (length outcome.prices) (omega (arith, proved.price_each, proved.in_range k (omega (arith, proved.price_each)))) in
+    list_true (λ p. nat_le (unsigned_abs p) (length outcome.prices)) outcome.prices (All-from_get_or (λ p. nat_le (unsigned_abs p) (length outcome.prices) ≡ true) outcome.prices (pos 0) each)
+
+outcome_valid : (cut : CutView) (outcome : OutcomeView) → WellFormed cut → Proves (obligations cut) outcome.discharges outcome.prices → is_outcome outcome ≡ true
+outcome_valid cut outcome formed proved =
+    let few_discharges = nat_le (length outcome.discharges) 262144 in
+    let few_prices = nat_le (length outcome.prices) 16384 in
+    let discharges = list_all is_amount outcome.discharges in
+    let prices = list_all (λ p. nat_le (unsigned_abs p) (length outcome.prices)) outcome.prices in
+    both (few_discharges && few_prices && discharges) prices (both (few_discharges && few_prices) discharges (both few_discharges few_prices
+    (le-leb (length outcome.discharges) 262144 (omega (arith, claims_long cut, proved.lawful.one_each, formed.few_claims)))
+    (le-leb (length outcome.prices) 16384 (omega (arith, parties_long cut, proved.price_each, formed.few_parties))))
+    (amounts_valid cut outcome formed proved))
+    (prices_valid cut outcome proved)
+
+pub publication_valid : (s : State) (caller number : ℕ) (outcome : OutcomeView) → IsOutcomeDue s caller number outcome → number < 2 ^ 32 → is_valid (act.Publish number outcome) ≡ true
+publication_valid s caller number outcome due small =
+    both (is_round number) (is_outcome outcome) (both (nat_le 1 number) (nat_lt number (2 ^ 32)) (le-leb 1 number due.round_from) (lt-ltb number (2 ^ 32) small)) (outcome_valid due.round.cut outcome due.well_formed due.proved)
+
+-- ---- the reply is due
+
+passes : (a b c : Bool) (v w x : Why) (r : Reply) → a ≡ true → b ≡ true → c ≡ true → refused_or ((not a, v) ∷ (not b, w) ∷ (not c, x) ∷ []) r ≡ r
+passes true true true v w x r e f g = refl
+passes true true false v w x r e f g = absurd (true≢false (sym g))
+passes true false c v w x r e f g = absurd (true≢false (sym f))
+passes false b c v w x r e f g = absurd (true≢false (sym e))
+
+pub publication_due : (s : State) (caller number : ℕ) (outcome : OutcomeView) → IsOutcomeDue s caller number outcome → reply.Published (total_of outcome.discharges) ≡ answer s caller (act.Publish number outcome)
+publication_due s caller number outcome due =
+    let round = due.round in
+    sym (ap (λ (o : Option OpenRound). publish_answer o caller number outcome) due.owned.is_open
+    ∙ passes (round.cut.round == number) (round.owner == caller) (is_proved (obligations round.cut) outcome.discharges outcome.prices) _ _ _ _
+    (eq-eqb _ _ (sym due.number_is)) (eq-eqb _ _ due.owned.owner) ((proof_test_law (obligations round.cut) outcome.discharges outcome.prices).1 due.proved))
+
+-- ---- the round of the open cut
+
+cut_or : CutView → Option CutView → CutView
+cut_or other None = other
+cut_or other (Some cut) = cut
+
+some_cut : (a b : CutView) → Some a ≡ Some b → a ≡ b
+unfolding cut_or
+some_cut a b e = ap (cut_or a) e
+
+pub open_of : (o : Option OpenRound) (cut : CutView) → Some cut ≡ option_map (λ round. round.cut) o → (round : OpenRound) × (o ≡ Some round) × (cut ≡ round.cut)
+open_of None cut e = absurd (true≢false (ap is_some e))
+open_of (Some round) cut e = (round, refl, some_cut cut round.cut e)
+
+pub outcome_due : (history : List Entry) (caller number : ℕ) (cut : CutView) (outcome : OutcomeView) (round : OpenRound) → (state_of history).open_round ≡ Some round → cut ≡ round.cut → Owns caller (state_of history) → number ≡ cut.round
+    → WellFormed cut → Proves (obligations cut) outcome.discharges outcome.prices → IsOldestFirst (obligations cut) outcome.discharges → IsOutcomeDue (state_of history) caller number outcome
+outcome_due history caller number cut outcome round was same owned number_is formed proved oldest =
+    let one : owned.0 ≡ round = same_open owned.0 round (sym owned.1.is_open ∙ was) in
+    let place : number ≡ round.cut.round = number_is ∙ ap (λ (k : CutView). k.round) same in
+    record {
+      round = round;
+      owned = record { is_open = was; owner = ap (λ (r : OpenRound). r.owner) (sym one) ∙ owned.1.owner };
+      number_is = place;
+      round_from = subst (λ (n : ℕ). 1 ≤ n) (sym place) (numbered (reverse history) round was);
+      well_formed = subst WellFormed same formed;
+      proved = subst (λ (k : CutView). Proves (obligations k) outcome.discharges outcome.prices) same proved;
+      oldest_first = subst (λ (k : CutView). IsOldestFirst (obligations k) outcome.discharges) same oldest;
+    }

@@ -1,0 +1,20 @@
+use Rattle.std.proofs.Common.{◌∙◌, ap, sym, arith}
+use Rattle.claim_history.specs.declared.entry.Reply.TheVariants as replies
+use Rattle.claim_history.specs.History.{replied}
+use Rattle.claim_history.specs.States.{state_of}
+use Rattle.setoff_model.proofs.Columns.{lawful_fits}
+use Rattle.bureau_program.proofs.Published.{publication_valid, publication_due}
+use Rattle.bureau_program.proofs.closing.put_publication.Goals as goal
+
+-- src/closing.rt:184:9
+pub total-total-requires-clause-small : goal.total-total-requires-clause-small
+total-total-requires-clause-small c = lawful_fits.small c.requires.due.round.cut c.args.outcome.discharges c.requires.due.well_formed c.requires.due.proved.lawful
+
+-- src/closing.rt:190:11
+pub apply_publish-requires-clause-valid : goal.apply_publish-requires-clause-valid
+apply_publish-requires-clause-valid c = publication_valid (state_of c.args.book.now.history) c.args.caller c.args.number c.args.outcome c.requires.due (omega (arith, c.ranges.number.fits))
+
+-- src/closing.rt:190:11
+pub apply_publish-requires-clause-next : goal.apply_publish-requires-clause-next
+apply_publish-requires-clause-next c =
+    replied (ap replies.Published c.total-total.ensures ∙ publication_due (state_of c.args.book.now.history) c.args.caller c.args.number c.args.outcome c.requires.due)
