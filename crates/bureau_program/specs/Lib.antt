@@ -5,3 +5,4 @@ pub mod Closing
 pub mod Writing
 pub mod Headline
 pub mod Commands
+pub mod Completeness

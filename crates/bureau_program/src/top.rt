@@ -4,6 +4,7 @@ ghost use Rattle.bureau_edge.specs.Causes.{Rose};
 ghost use Rattle.bureau_program.specs.Writing.{Wrote};
 ghost use Rattle.bureau_program.specs.Headline.{IsReadDue, Ran};
 ghost use Rattle.bureau_program.specs.Commands.{AreNoWords, IsInputDue};
+ghost use Rattle.bureau_program.specs.Completeness.{Completes};
 
 use crate::check::check_input;
 use crate::command::{Command, command_of};
@@ -75,8 +76,9 @@ fn answer_words<S: Source, K: Sink>(
 /// Runs the words after the program's name over a source and a sink, and ends with a status.
 ///
 /// The words are `run` or `check`. Both read the source whole. For `run` its requests are served in order, and the sink takes a
-/// line for each entry and for each request that was not served for want of memory. For `check` its statement is judged, and
-/// the sink takes the line of the verdict. The status is
+/// line for each entry, at once after each publication the statement of its round, and then a line for each request that was
+/// not served for want of memory. Where neither counts a fault and the input is in the grammar, all of it is written, or
+/// memory was missing. For `check` its statement is judged, and the sink takes the line of the verdict. The status is
 ///
 /// - 0 where none of the others comes;
 /// - 1 exactly where `check` read a statement and its verdict is not that the set-off is greatest;
@@ -97,6 +99,7 @@ pub fn bureau<R, S: Source, K: Sink>(
     ensures read_fault { result.status ≡ 3 → Rose (S.faults source) (S.faults result.source) }
     ensures write_fault { result.status ≡ 4 → Rose (K.faults sink) (K.faults result.sink) }
     ensures unread { AreNoWords (map (λ w. string_bytes w) words.items) → result.source ≡ source }
+    ensures complete { Completes (map (λ w. string_bytes w) words.items) (S.left source) (K.held sink) (K.held result.sink) (Rose (S.faults source) (S.faults result.source)) (Rose (K.faults sink) (K.faults result.sink)) result.status }
 {
     let status = answer_words(alloc, words.as_slice(), &mut source, &mut sink);
     Ended {
