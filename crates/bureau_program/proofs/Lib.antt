@@ -1,4 +1,5 @@
 pub mod Passing
+pub mod Printing
 pub mod Marks
 pub mod Dues
 pub mod Commands

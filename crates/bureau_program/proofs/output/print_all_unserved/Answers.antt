@@ -1,8 +1,8 @@
 use Rattle.std.proofs.Common.{◌+◌, ◌<◌, ◌++◌, List, ℕ, length, get_or, false, subst, sym, ap, ◌∙◌, drop, arith}
 use Rattle.request_text.specs.declared.request.Request.{Request}
-use Rattle.bureau_program.specs.Serving.{unserved_line, unserved_text}
+use Rattle.bureau_program.specs.Printing.{unserved_line, unserved_text}
 use Rattle.bureau_program.proofs.Passing.{PassesUpTo, on_err, up_more, up_breaks}
-use Rattle.bureau_program.proofs.Marks.{unserved_from}
+use Rattle.bureau_program.proofs.Printing.{unserved_from}
 use Rattle.bureau_program.proofs.output.print_all_unserved.Goals as goal
 
 pub returns-in_err-print_unserved-clause-part : goal.returns-in_err-print_unserved-clause-part

@@ -1,5 +1,5 @@
 use Rattle.std.proofs.Common.{◌≤◌, drop, vec_capacity}
-use Rattle.bureau_program.specs.Serving.{unserved_text}
+use Rattle.bureau_program.specs.Printing.{unserved_text}
 use Rattle.bureau_program.proofs.Passing.{PassesUpTo}
 use Rattle.bureau_program.proofs.output.print_all_unserved.Given as goal
 
