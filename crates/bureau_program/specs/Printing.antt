@@ -1,5 +1,5 @@
 -- The text of a run: entries, statements of published rounds, and lines for requests that were not served.
-use Rattle.std.specs.Prelude.{Bool, true, false, ℕ, ◌≡◌, ◌≤◌, ◌<◌, ◌^◌, List, [], ◌∷◌, ◌++◌, map, flat_map, reverse, slice_get, codes, Option, Some, None}
+use Rattle.std.specs.Prelude.{Bool, true, false, ℕ, ◌≡◌, ◌≤◌, List, [], ◌∷◌, ◌++◌, map, flat_map, reverse, slice_get, codes, Option, Some}
 use Rattle.std.specs.Option.{option_map}
 use Rattle.setoff_model.specs.CutView.{CutView, OutcomeView, WellFormed, obligations}
 use Rattle.setoff_model.specs.Setoff.{Proves}

@@ -1,4 +1,4 @@
-use Rattle.std.proofs.Common.{◌+◌, ◌<◌, ◌++◌, List, ℕ, length, get_or, subst, drop, arith}
+use Rattle.std.proofs.Common.{◌+◌, ◌<◌, List, ℕ, length, get_or, subst, drop, arith}
 use Rattle.setoff_model.proofs.Columns.{no_claim}
 use Rattle.statement_text.specs.Statements.{claim_line, claim_lines}
 use Rattle.bureau_program.specs.Printing.{line_bytes, lines_bytes}
