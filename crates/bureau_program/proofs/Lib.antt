@@ -1,4 +1,5 @@
 pub mod Passing
+pub mod Printing
 pub mod Served
 pub mod Published
 pub mod Dues

@@ -1,6 +1,6 @@
 -- Text that goes through a buffer, step after step.
 use Rattle.std.proofs.Common.{◌≡◌, ℕ, List, [], ◌++◌, refl, sym, ap, ◌∙◌, subst, append_assoc}
-use Rattle.std.specs.Prelude.{Option, Result, Ok, Err, OnErr}
+use Rattle.std.specs.Prelude.{Option, Result, Ok, Err, OnOk, OnErr}
 use Rattle.std.specs.Io.KnownBytes.{Appends}
 use Rattle.std.proofs.lemmas.List.{append-nil}
 use Rattle.bureau_edge.specs.Streams.{AppendsPart}
@@ -82,3 +82,7 @@ part_left x y z a b t p q =
 pub on_err_if : {T E : Type 0} (r : Result T E) (P Q : Type 0) → (P → Q) → OnErr r P → OnErr r Q
 on_err_if (Ok t) P Q f h = tt
 on_err_if (Err e) P Q f h = f h
+
+pub on_ok_if : {T E : Type 0} (r : Result T E) (P Q : Type 0) → (P → Q) → OnOk r P → OnOk r Q
+on_ok_if (Ok t) P Q f h = f h
+on_ok_if (Err e) P Q f h = tt

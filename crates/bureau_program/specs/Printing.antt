@@ -1,5 +1,5 @@
 -- The text of a run: entries, statements of published rounds, and lines for requests that were not served.
-use Rattle.std.specs.Prelude.{Bool, true, false, ℕ, ◌≡◌, ◌≤◌, ◌<◌, ◌^◌, List, [], ◌∷◌, ◌++◌, map, reverse, Option, Some, None}
+use Rattle.std.specs.Prelude.{Bool, true, false, ℕ, ◌≡◌, ◌≤◌, List, [], ◌∷◌, ◌++◌, map, flat_map, reverse, slice_get, codes, Option, Some}
 use Rattle.std.specs.Option.{option_map}
 use Rattle.setoff_model.specs.CutView.{CutView, OutcomeView, WellFormed, obligations}
 use Rattle.setoff_model.specs.Setoff.{Proves}
@@ -10,6 +10,8 @@ use Rattle.claim_history.specs.declared.entry.Reply.{Reply}
 use Rattle.claim_history.specs.declared.entry.Reply.TheVariants as reply
 use Rattle.claim_history.specs.States.{state}
 use Rattle.request_text.specs.declared.request.Request.{Request}
+use Rattle.statement_text.specs.declared.line.Line.{Line}
+use Rattle.statement_text.specs.Lines.{line_text}
 use Rattle.statement_text.specs.Entries.{entry_line}
 use Rattle.statement_text.specs.Statements.{statement_bytes}
 use Rattle.bureau_program.specs.Texts.{memory_line}
@@ -51,6 +53,27 @@ pub record IsPrintable (cut : CutView) (outcome : OutcomeView) : Type 0 where
   pub well_formed : WellFormed cut
   pub round_from : 1 ≤ cut.round
   pub proved : Proves (obligations cut) outcome.discharges outcome.prices
+
+-- a line of a statement with its line feed, and lines
+abbrev pub line_bytes : Line → List ℕ
+line_bytes l = line_text l ++ codes "\n"
+
+abbrev pub lines_bytes : List Line → List ℕ
+lines_bytes ls = flat_map line_bytes ls
+
+-- the act publishes an outcome, and the statement of it and of the cut at a place can be written
+pub record IsPrintableAt (cuts : List CutView) (place : ℕ) (a : Act) : Type 0 where
+  pub number : ℕ
+  pub outcome : OutcomeView
+  pub cut : CutView
+  pub asks : a ≡ act.Publish number outcome
+  pub cut_is : slice_get cuts place ≡ Some cut
+  pub printable : IsPrintable cut outcome
+
+-- how many rounds a reply publishes
+abbrev pub rounds_in : Reply → ℕ
+rounds_in (reply.Published total) = 1
+rounds_in _ = 0
 
 -- ---- requests that were not served
 

@@ -8,6 +8,7 @@ mod fault_text;
 mod output;
 mod run;
 mod serve;
+mod statement;
 #[cfg(test)]
 mod tests;
 mod told;

@@ -1,18 +1,20 @@
 //! Output in pieces: text goes through a buffer of 65,536 bytes to the sink.
-ghost use Rattle.std.specs.Prelude.{◌≡◌, ◌+◌, ◌≤◌, [], ◌++◌, true, All, IfOk, OnOk, OnErr, vec_len, vec_capacity, length};
+ghost use Rattle.std.specs.Prelude.{◌≡◌, ℕ, ◌+◌, ◌≤◌, [], ◌++◌, true, All, IfOk, OnOk, OnErr, vec_len, vec_capacity, length, slice_get};
 ghost use Rattle.std.specs.Io.KnownBytes.{Appends};
 ghost use Rattle.bureau_edge.specs.Causes.{HasCause};
 ghost use Rattle.bureau_edge.specs.Streams.{AppendsPart};
+ghost use Rattle.claim_history.specs.declared.entry.Reply.TheVariants as reply;
 ghost use Rattle.claim_history.specs.Acts.{is_valid};
-ghost use Rattle.claim_history.specs.History.{AreValid, IsLegal};
+ghost use Rattle.claim_history.specs.History.{IsLegal, AreValid};
 ghost use Rattle.claim_history.specs.Laws.{IsReplyInRange};
 ghost use Rattle.statement_text.specs.Entries.{entry_line};
-ghost use Rattle.bureau_program.specs.Printing.{unserved_line, unserved_text, printed_of, history_text, cuts_of};
+ghost use Rattle.bureau_program.specs.Printing.{unserved_line, unserved_text, history_text, cuts_of, statement_of, IsPrintableAt, rounds_in, printed_of};
 ghost use Rattle.bureau_program.specs.Writing.{Passes};
 
 use crate::fault_text::write_memory_line;
+use crate::statement::print_statement;
 use bureau_edge::{Failed, Sink, write_all};
-use claim_history::Entry;
+use claim_history::{Act, Entry, Reply};
 use request_text::Request;
 use setoff_model::Cut;
 use statement_text::write_entry;
@@ -46,8 +48,8 @@ pub fn flush<K: Sink>(sink: &mut K, buffer: &mut Vec<u8>) -> Result<(), Failed>
     Ok(())
 }
 
-// Makes room for a line.
-fn make_room<K: Sink>(sink: &mut K, buffer: &mut Vec<u8>) -> Result<(), Failed>
+/// Makes room for a line of 200 bytes.
+pub(crate) fn make_room<K: Sink>(sink: &mut K, buffer: &mut Vec<u8>) -> Result<(), Failed>
     requires { 65536 ≤ vec_capacity buffer.old }
     ensures ok { OnOk result (Passes (K.held sink.old) (K.held sink.new) buffer.old.items buffer.new.items []) }
     ensures spare { OnOk result (vec_len buffer.new + 200 ≤ vec_capacity buffer.new) }
@@ -76,7 +78,56 @@ fn print_entry<K: Sink>(sink: &mut K, buffer: &mut Vec<u8>, entry: &Entry) -> Re
     Ok(())
 }
 
-// Prints the lines of entries.
+// Prints the statement of the round that an entry publishes, and nothing for one that publishes none. The cut of the round is at
+// the place `next`; gives the place of the cut after it.
+fn print_publication<K: Sink>(
+    sink: &mut K,
+    buffer: &mut Vec<u8>,
+    entry: &Entry,
+    rounds: &[Cut],
+    next: usize,
+) -> Result<usize, Failed>
+    requires publication { (total : ℕ) → entry.now.reply ≡ reply.Published total → IsPrintableAt rounds.now next entry.now.act }
+    requires spare { 65536 ≤ vec_capacity buffer.old }
+    ensures ok { OnOk result (Passes (K.held sink.old) (K.held sink.new) buffer.old.items buffer.new.items (statement_of (slice_get rounds.now next) entry.now.act entry.now.reply)) }
+    ensures next { IfOk result (λ place. place ≡ next + rounds_in entry.now.reply) }
+    ensures part { OnErr result (AppendsPart (K.held sink.old) (K.held sink.new) (buffer.old.items ++ statement_of (slice_get rounds.now next) entry.now.act entry.now.reply)) }
+    ensures cause { HasCause (K.faults sink.old) (K.faults sink.new) result }
+    ensures room { 65536 ≤ vec_capacity buffer.new }
+{
+    let Reply::Published { .. } = entry.reply else {
+        return Ok(next);
+    };
+    let Act::Publish { outcome, .. } = &entry.act else {
+        unreachable!()
+    };
+    print_statement(sink, buffer, &rounds[next], outcome)?;
+    Ok(next + 1)
+}
+
+// Prints the line of an entry, and at once the statement of the round that it publishes.
+fn print_answer<K: Sink>(
+    sink: &mut K,
+    buffer: &mut Vec<u8>,
+    entry: &Entry,
+    rounds: &[Cut],
+    next: usize,
+) -> Result<usize, Failed>
+    requires valid { is_valid entry.now.act ≡ true }
+    requires range { IsReplyInRange entry.now.reply }
+    requires publication { (total : ℕ) → entry.now.reply ≡ reply.Published total → IsPrintableAt rounds.now next entry.now.act }
+    requires spare { 65536 ≤ vec_capacity buffer.old }
+    ensures ok { OnOk result (Passes (K.held sink.old) (K.held sink.new) buffer.old.items buffer.new.items (entry_line entry.now ++ statement_of (slice_get rounds.now next) entry.now.act entry.now.reply)) }
+    ensures next { IfOk result (λ place. place ≡ next + rounds_in entry.now.reply) }
+    ensures part { OnErr result (AppendsPart (K.held sink.old) (K.held sink.new) (buffer.old.items ++ (entry_line entry.now ++ statement_of (slice_get rounds.now next) entry.now.act entry.now.reply))) }
+    ensures cause { HasCause (K.faults sink.old) (K.faults sink.new) result }
+    ensures room { 65536 ≤ vec_capacity buffer.new }
+{
+    print_entry(sink, buffer, entry)?;
+    print_publication(sink, buffer, entry, rounds, next)
+}
+
+// Prints the entries of a history, of which `rounds` are the cuts of the published rounds.
 fn print_entries<K: Sink>(
     sink: &mut K,
     buffer: &mut Vec<u8>,
@@ -93,8 +144,9 @@ fn print_entries<K: Sink>(
     ensures cause { HasCause (K.faults sink.old) (K.faults sink.new) result }
     ensures room { 65536 ≤ vec_capacity buffer.new }
 {
+    let mut next = 0;
     for entry in history {
-        print_entry(sink, buffer, entry)?;
+        next = print_answer(sink, buffer, entry, rounds, next)?;
     }
     Ok(())
 }
@@ -139,7 +191,8 @@ fn print_all_unserved<K: Sink>(
     Ok(())
 }
 
-/// Prints the entries of a history, and then a line for each request that was not served.
+/// Prints the entries of a history, each published one with the statement of its round, and then a line for each request
+/// that was not served. The rounds are the cuts of the published ones, in order.
 ///
 /// The buffer is empty at first, and has room for 65,536 bytes. After a failure the sink has some first bytes of the text.
 pub fn print_run<K: Sink>(
