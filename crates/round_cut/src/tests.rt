@@ -2,7 +2,7 @@ ghost use Rattle.std.specs.Prelude.{◌≢◌, All, AllPairs, IsTrue};
 ghost use Rattle.round_cut.specs.Windows.{KeepsLimits};
 ghost use Rattle.round_cut.specs.CutOfFacts.{has_account as has, IsClaimOf, AreFacts};
 
-use crate::{build_cut, cut_of_a_history_is_of_its_facts, window};
+use crate::{build_cut, cut_of_a_history_is_of_its_facts, open_cut_is_well_formed, window};
 use claim_history::{AccountFact, ClaimFact, Day, Status};
 use setoff_model::{Cut, CutClaim, Key, Kind, Name, Party, same_names};
 use std::alloc::{AllocError, Global};
@@ -122,6 +122,7 @@ fn window_of(account: &AccountFact, kind: Kind) -> Option<(u64, u64)> {
 #[test]
 fn windows_of_accounts(rt: HostRuntime) {
     cut_of_a_history_is_of_its_facts();
+    open_cut_is_well_formed();
     let firm = Name::of(b"A").expect(&rt, "a name");
     let rich = account(firm, 6_000, 0, 1_000_000_000_000_000, 6_000);
     assert!(rt; window_of(&rich, Kind::Funded) == Some((6_000, 999_999_999_994_000)));
