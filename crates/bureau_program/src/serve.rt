@@ -65,7 +65,12 @@ fn serve_one(alloc: Global, book: &mut Book, rounds: &mut Vec<Cut>, request: &Re
 {
     match &request.act {
         Act::Close { kind, horizon } => serve_close(
-            alloc, book, rounds, request.lane, *kind, *horizon,
+            alloc,
+            book,
+            rounds,
+            request.lane,
+            *kind,
+            *horizon,
         ),
         act => serve_act(book, request.lane, act),
     }

@@ -56,7 +56,7 @@ fn runs(rt: HostRuntime) -> Result<(), Fail> {
         (&["run"], b"1 FIRM A\r", 6, b"fault line 1 field 1\n"),
         (
             &["run"],
-            b"1 FIRM A\n1 CLOSE PLAIN 2025-12-31\n",
+            b"1 FIRM A\n1 PUBLISH 1\n",
             6,
             b"fault line 2 verb\n",
         ),
@@ -278,5 +278,109 @@ fn a_line_of_a_million_bytes(rt: HostRuntime) -> Result<(), Fail> {
     );
     assert!(rt; ended.status == 6);
     assert!(rt; ended.sink.bytes() == b"fault line 1 field 1\n".as_slice());
+    Ok(())
+}
+// Rounds: requests, the output with ? for each price, and the verdict on its statement.
+const ROUNDS: [(&[u8], &[u8], &[u8]); 6] = [
+    (
+        b"1 FIRM A\n1 FIRM B\n1 FIRM C\n1 FILE B I-1 A 10.00 2025-01-31\n1 FILE C I-2 B 7.00 2025-01-31\n1 FILE A I-3 C 12.00 2025-01-31\n1 CONFIRM B I-1 A\n1 CONFIRM C I-2 B\n1 CONFIRM A I-3 C\n1 CLOSE PLAIN 2025-12-31\n1 POSITION A\n1 ABANDON\n",
+        b"1 FIRM A = ok\n1 FIRM B = ok\n1 FIRM C = ok\n1 FILE B I-1 A 10.00 2025-01-31 = ok\n1 FILE C I-2 B 7.00 2025-01-31 = ok\n1 FILE A I-3 C 12.00 2025-01-31 = ok\n1 CONFIRM B I-1 A = ok\n1 CONFIRM C I-2 B = ok\n1 CONFIRM A I-3 C = ok\n1 CLOSE PLAIN 2025-12-31 = opened 1\n1 PUBLISH 1 = published 21.00\nROUND 1 PLAIN\nPARTY A 0.00 0.00 ?\nPARTY B 0.00 0.00 ?\nPARTY C 0.00 0.00 ?\nCLAIM B I-1 A 10.00 7.00\nCLAIM C I-2 B 7.00 7.00\nCLAIM A I-3 C 12.00 7.00\nEND\n1 POSITION A = balance 0.00 receivable 5.00 payable 3.00\n1 ABANDON = refused 16 no-round\n",
+        b"yes 21.00\n",
+    ),
+    (
+        b"1 FIRM A\n1 FIRM B\n1 FIRM C\n1 FILE B I-1 A 100.00 2025-01-31\n1 FILE C I-2 B 100.00 2025-01-31\n1 CONFIRM B I-1 A\n1 CONFIRM C I-2 B\n1 CLOSE PLAIN 2025-12-31\n",
+        b"1 FIRM A = ok\n1 FIRM B = ok\n1 FIRM C = ok\n1 FILE B I-1 A 100.00 2025-01-31 = ok\n1 FILE C I-2 B 100.00 2025-01-31 = ok\n1 CONFIRM B I-1 A = ok\n1 CONFIRM C I-2 B = ok\n1 CLOSE PLAIN 2025-12-31 = opened 1\n1 PUBLISH 1 = published 0.00\nROUND 1 PLAIN\nPARTY A 0.00 0.00 ?\nPARTY B 0.00 0.00 ?\nPARTY C 0.00 0.00 ?\nCLAIM B I-1 A 100.00 0.00\nCLAIM C I-2 B 100.00 0.00\nEND\n",
+        b"yes 0.00\n",
+    ),
+    (
+        b"1 FIRM A\n1 FIRM B\n1 FIRM C\n1 FUND A 60.00\n1 OFFER A 60.00\n1 FILE B I-1 A 100.00 2025-01-31\n1 FILE C I-2 B 100.00 2025-01-31\n1 CONFIRM B I-1 A\n1 CONFIRM C I-2 B\n1 CLOSE FUNDED 2025-12-31\n1 POSITION A\n1 POSITION B\n1 POSITION C\n",
+        b"1 FIRM A = ok\n1 FIRM B = ok\n1 FIRM C = ok\n1 FUND A 60.00 = ok\n1 OFFER A 60.00 = ok\n1 FILE B I-1 A 100.00 2025-01-31 = ok\n1 FILE C I-2 B 100.00 2025-01-31 = ok\n1 CONFIRM B I-1 A = ok\n1 CONFIRM C I-2 B = ok\n1 CLOSE FUNDED 2025-12-31 = opened 1\n1 PUBLISH 1 = published 120.00\nROUND 1 FUNDED\nPARTY A 60.00 9999999999940.00 ?\nPARTY B 0.00 10000000000000.00 ?\nPARTY C 0.00 10000000000000.00 ?\nCLAIM B I-1 A 100.00 60.00\nCLAIM C I-2 B 100.00 60.00\nEND\n1 POSITION A = balance 0.00 receivable 0.00 payable 40.00\n1 POSITION B = balance 0.00 receivable 40.00 payable 40.00\n1 POSITION C = balance 60.00 receivable 40.00 payable 0.00\n",
+        b"yes 120.00\n",
+    ),
+    (
+        b"1 FIRM A\n1 FIRM B\n1 FILE B I-1 A 4.00 2025-01-31\n1 FILE B I-2 A 9.00 2025-01-31\n1 FILE A I-3 B 6.00 2025-01-31\n1 CONFIRM B I-1 A\n1 CONFIRM B I-2 A\n1 CONFIRM A I-3 B\n1 CLOSE PLAIN 2025-12-31\n",
+        b"1 FIRM A = ok\n1 FIRM B = ok\n1 FILE B I-1 A 4.00 2025-01-31 = ok\n1 FILE B I-2 A 9.00 2025-01-31 = ok\n1 FILE A I-3 B 6.00 2025-01-31 = ok\n1 CONFIRM B I-1 A = ok\n1 CONFIRM B I-2 A = ok\n1 CONFIRM A I-3 B = ok\n1 CLOSE PLAIN 2025-12-31 = opened 1\n1 PUBLISH 1 = published 12.00\nROUND 1 PLAIN\nPARTY A 0.00 0.00 ?\nPARTY B 0.00 0.00 ?\nCLAIM B I-1 A 4.00 4.00\nCLAIM B I-2 A 9.00 2.00\nCLAIM A I-3 B 6.00 6.00\nEND\n",
+        b"yes 12.00\n",
+    ),
+    (
+        b"1 FIRM A\n1 FIRM B\n1 FILE B I-1 A 9999999999.99 2025-01-31\n1 FILE A I-2 B 9999999999.99 2025-01-31\n1 CONFIRM B I-1 A\n1 CONFIRM A I-2 B\n1 CLOSE PLAIN 2025-12-31\n",
+        b"1 FIRM A = ok\n1 FIRM B = ok\n1 FILE B I-1 A 9999999999.99 2025-01-31 = ok\n1 FILE A I-2 B 9999999999.99 2025-01-31 = ok\n1 CONFIRM B I-1 A = ok\n1 CONFIRM A I-2 B = ok\n1 CLOSE PLAIN 2025-12-31 = opened 1\n1 PUBLISH 1 = published 19999999999.98\nROUND 1 PLAIN\nPARTY A 0.00 0.00 ?\nPARTY B 0.00 0.00 ?\nCLAIM B I-1 A 9999999999.99 9999999999.99\nCLAIM A I-2 B 9999999999.99 9999999999.99\nEND\n",
+        b"yes 19999999999.98\n",
+    ),
+    (
+        b"1 CLOSE PLAIN 2025-12-31\n",
+        b"1 CLOSE PLAIN 2025-12-31 = opened 1\n1 PUBLISH 1 = published 0.00\nROUND 1 PLAIN\nEND\n",
+        b"yes 0.00\n",
+    ),
+];
+
+// The place after the digits and signs from a place on.
+fn price_end(text: &[u8], from: usize) -> usize {
+    for i in from..text.len() {
+        if !text[i].is_ascii_digit() && text[i] != b'-' {
+            return i;
+        }
+    }
+    text.len()
+}
+
+// Whether a text is another one, in which each ? stands for a price.
+fn is_like(text: &[u8], like: &[u8]) -> bool {
+    let mut place = 0;
+    for byte in like {
+        if *byte == b'?' {
+            place = price_end(text, place);
+        } else if place < text.len() && text[place] == *byte {
+            place += 1;
+        } else {
+            return false;
+        }
+    }
+    place == text.len()
+}
+
+// The lines of an output that begin with a letter: those of its statements.
+fn statement_in(alloc: Global, output: &[u8]) -> Result<Vec<u8>, AllocError> {
+    let mut statement = Vec::new(alloc);
+    let mut begins = true;
+    let mut inside = false;
+    for byte in output {
+        if begins {
+            inside = *byte >= b'A';
+        }
+        if inside {
+            statement.push(*byte)?;
+        }
+        begins = *byte == b'\n';
+    }
+    Ok(statement)
+}
+
+// Each output is the expected one but for its prices, and `check` accepts its statement.
+#[test]
+fn rounds(rt: HostRuntime) -> Result<(), Fail> {
+    for (requests, output, verdict) in ROUNDS {
+        let source = SureSource::new(Vec::from_slice(rt.alloc(), requests)?);
+        let sink = BytesSink::new(rt.alloc(), Vec::new(rt.alloc()));
+        let ended = bureau(
+            &rt,
+            rt.alloc(),
+            words_of(rt.alloc(), &["run"])?,
+            source,
+            sink,
+        );
+        assert!(rt; ended.status == 0);
+        assert!(rt; is_like(ended.sink.bytes(), output));
+        let statement = statement_in(rt.alloc(), ended.sink.bytes())?;
+        let judged = bureau(
+            &rt,
+            rt.alloc(),
+            words_of(rt.alloc(), &["check"])?,
+            SureSource::new(statement),
+            BytesSink::new(rt.alloc(), Vec::new(rt.alloc())),
+        );
+        assert!(rt; judged.status == 0);
+        assert!(rt; judged.sink.bytes() == verdict);
+    }
     Ok(())
 }

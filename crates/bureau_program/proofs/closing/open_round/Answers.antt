@@ -18,8 +18,7 @@ apply_close-requires-clause-cut c =
 -- src/closing.rt:81:1
 pub returns-in-Ok-clause-closed : goal.returns-in-Ok-clause-closed
 returns-in-Ok-clause-closed c =
-    let entry : Entry = record { caller = c.args.caller; act = acts.Close c.args.kind c.args.horizon; reply = replies.Opened c.args.round } in
-    (
+    let entry : Entry = record { caller = c.args.caller; act = acts.Close c.args.kind c.args.horizon; reply = replies.Opened c.args.round } in (
       entry,
       c.apply_close.ensures.history,
       record { call = record { by = refl; asks = refl }; closes = refl; accepted = refl },
