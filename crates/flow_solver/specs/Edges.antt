@@ -37,11 +37,11 @@ network_of held edges = record {
 abbrev pub graph : List Edge → Network
 graph edges = network_of [] edges
 
--- the arc of a claim's arc
+-- the solver's arc of an arc of the net
 abbrev pub claim_edge : Arc → Edge
 claim_edge arc = record { tail = arc.debtor; head = arc.creditor; capacity = arc.amount; reward = 1 }
 
--- the arcs of the windows of the first m parties
+-- the solver's arcs of the windows of the first m parties
 pub record AreWindows (parties : List Party) (m : ℕ) (edges : List Edge) : Type 0 where
   pub one_each : length edges ≡ m
   pub tail : (f : ℕ) → f < m → slice_index (tails edges) f ≡ f

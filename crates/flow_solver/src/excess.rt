@@ -19,6 +19,7 @@ pub(crate) fn wanted_at(excess: &[i128], node: usize) -> u64
     requires small { unsigned_abs (price_at excess.now node) ≤ 2 ^ 100 }
     ensures some { 0 < result }
     ensures most { (price_at excess.now node +ℤ pos result) ≤ℤ pos 0 }
+    ensures whole { result < 18446744073709551615 → price_at excess.now node +ℤ pos result ≡ pos 0 }
 {
     clamped(-excess[node])
 }
@@ -28,6 +29,7 @@ pub(crate) fn clamped(number: i128) -> u64
     requires { pos 0 <ℤ number }
     ensures some { 0 < result }
     ensures most { pos result ≤ℤ number }
+    ensures whole { result < 18446744073709551615 → pos result ≡ number }
 {
     if number < 18_446_744_073_709_551_615 {
         number as u64

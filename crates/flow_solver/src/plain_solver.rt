@@ -12,14 +12,15 @@ use std::alloc::{AllocError, Global};
 
 /// Moves excess along labelled paths, and raises prices where no label passes.
 ///
-/// It begins with each arc full and each price 0. A node has an excess where more is discharged towards it than by it,
-/// beside what its window lets its balance rise; the ground, which stands behind the windows, is a node as well. Labels
-/// begin at the nodes with an excess above 0 and pass over arcs that neither gain nor lose at the prices. Where a label
-/// reaches a node with an excess below 0, excess is moved to it. Where no label passes, the prices of the labelled nodes
-/// are raised by the least amount that lets one pass. At the end no node has an excess.
+/// It begins with each arc full, each price 0 and no balance changed. The excess of a party is what is discharged towards
+/// it, less what is discharged by it and less what its balance rises by. The ground is a node as well: it has what all
+/// balances rise by, and its price stays 0. Labels begin at the nodes with an excess above 0, and pass over arcs where a
+/// unit neither gains nor loses at the prices. Where a label reaches a node with an excess below 0, excess is moved to it.
+/// Where none passes, the prices of the labelled nodes are raised by the least amount that lets one pass. At the end each
+/// excess is 0.
 ///
-/// This is the primal-dual method for circulations of greatest worth: R. K. Ahuja, T. L. Magnanti and J. B. Orlin,
-/// Network Flows, 1993, chapter 9. Its memory is linear in the parties and the arcs.
+/// This is the primal-dual method for flows of least cost: R. K. Ahuja, T. L. Magnanti and J. B. Orlin, Network Flows,
+/// Prentice Hall 1993, chapter 9. It asks for memory that is linear in the parties and the arcs.
 #[derive(Clone, Copy, Debug)]
 pub struct PlainSolver {}
 
