@@ -1,0 +1,6 @@
+pub mod Calls
+pub mod Counts
+pub mod Past
+pub mod Memory
+pub mod MemoryState
+pub mod Laws
