@@ -1,5 +1,5 @@
 -- What two steps more make of the images.
-use Rattle.std.proofs.Common.{◌≡◌, ◌⊎◌, inl, inr, ⊎_elim, ℕ, zero, suc, ◌+◌, ◌<◌, ◌≤◌, max, Bool, true, false, ◌&&◌, if◌then◌else◌, Vec, Result, Ok, Err, OnOk, OnErr, List, [], ◌∷◌, ◌++◌, length, take, refl, sym, ◌∙◌, ap, subst, arith, append_assoc, length-append}
+use Rattle.std.proofs.Common.{◌≡◌, ⊎_elim, ℕ, ◌+◌, ◌≤◌, Bool, true, false, Vec, List, [], ◌∷◌, ◌++◌, length, take, refl, sym, ◌∙◌, ap, subst, arith, append_assoc, length-append}
 use Rattle.std.proofs.lemmas.List.{take_at, take_all, take-append-le}
 use Rattle.std.proofs.lemmas.Bool.{cases_lt, and_parts, and_from, le-leb}
 use Rattle.std.specs.declared.alloc.Global.{Global}
@@ -8,7 +8,7 @@ use Rattle.disk_model.specs.declared.step.Step.{Step}
 use Rattle.disk_model.specs.declared.step.Step.TheVariants.{Waited, Wrote, Synced}
 use Rattle.disk_model.specs.Counts.{next_count}
 use Rattle.disk_model.specs.Memory.{MemoryState, end_step, after_quiet, after_write, HasFailed}
-use Rattle.disk_model.specs.Laws.{memory_reads_now, torn_overlay}
+use Rattle.disk_model.specs.Laws.{memory_reads_now}
 use Rattle.disk_model.specs.Past.{reads_then, reads_after, begins_within, all_within, images_then, images_after, images_from, overlay}
 
 pub reads_one : (reads : List ℕ) (steps : List Step) (a : Step) → reads_after reads (steps ++ a ∷ []) ≡ reads_then (reads_after reads steps) a

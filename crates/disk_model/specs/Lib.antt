@@ -4,3 +4,4 @@ pub mod Past
 pub mod Memory
 pub mod MemoryState
 pub mod Laws
+pub mod Untold

@@ -3,10 +3,13 @@
 
 mod disk;
 mod disk_failed;
+mod file_disk;
 mod memory_disk;
 mod replay;
 mod step;
+mod system_file;
 
 pub use disk::Disk;
 pub use disk_failed::DiskFailed;
+pub use file_disk::FileDisk;
 pub use memory_disk::MemoryDisk;

@@ -1,4 +1,3 @@
-use Rattle.std.proofs.Common.{length}
 use Rattle.disk_model.specs.MemoryState.{state_of}
 use Rattle.disk_model.proofs.Pushed.{PresentIn, failed_passes, looked_passes}
 use Rattle.disk_model.proofs.memory_disk.MemoryDiskDisk.len.Goals as goal
