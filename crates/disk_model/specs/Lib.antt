@@ -5,3 +5,5 @@ pub mod Memory
 pub mod MemoryState
 pub mod Laws
 pub mod Untold
+pub mod Runs
+pub mod Words

@@ -4,6 +4,7 @@
 mod disk;
 mod disk_failed;
 mod file_disk;
+mod laws;
 mod memory_disk;
 mod replay;
 mod step;
@@ -12,4 +13,5 @@ mod system_file;
 pub use disk::Disk;
 pub use disk_failed::DiskFailed;
 pub use file_disk::FileDisk;
+pub use laws::{runs_compose, torn_writes};
 pub use memory_disk::MemoryDisk;
