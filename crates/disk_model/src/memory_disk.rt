@@ -151,14 +151,8 @@ impl MemoryDisk {
     {
         let next = overlaid(self.alloc, &self.bytes, at, piece)?;
         let piece = piece.to_vec(self.alloc)?;
-        note(
-            &mut self.steps,
-            Step::Wrote {
-                at: at as u64,
-                piece,
-            },
-            Step::Waited,
-        )?;
+        let at = at as u64;
+        note(&mut self.steps, Step::Wrote { at, piece }, Step::Waited)?;
         let old = std::mem::replace(&mut self.bytes, next);
         keep_first(&mut self.first, old);
         self.calls = self.calls.saturating_add(1);
