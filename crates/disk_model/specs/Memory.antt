@@ -5,7 +5,7 @@ use Rattle.std.specs.declared.alloc.Global.{Global}
 use Rattle.disk_model.specs.Counts.{next_count}
 use Rattle.disk_model.specs.declared.step.Step.{Step}
 use Rattle.disk_model.specs.declared.step.Step.TheVariants.{Waited, Wrote, Synced}
-use Rattle.disk_model.specs.Past.{overlay}
+use Rattle.disk_model.specs.Steps.{overlay}
 
 -- the bytes of the start: those that were kept, or the present ones, where nothing has been written
 abbrev pub first_of : Option (Vec ℕ Global) → List ℕ → List ℕ

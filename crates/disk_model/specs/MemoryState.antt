@@ -1,7 +1,7 @@
 -- What contracts see of a disk in memory.
 use Rattle.std.specs.Prelude.{ℕ, List, length, take}
 use Rattle.disk_model.specs.Memory.{MemoryState, first_of}
-use Rattle.disk_model.specs.Past.{images_from}
+use Rattle.disk_model.specs.Steps.{images_from}
 use Rattle.disk_model.specs.declared.memory_disk.MemoryDisk.{MemoryDisk}
 
 abbrev pub state_of : MemoryDisk → MemoryState

@@ -2,7 +2,7 @@
 ghost use Rattle.std.specs.Prelude.{◌≡◌, ◌+◌, ◌^◌, ◌≤◌, ◌<◌, ℕ, List, [], ◌∷◌, ◌++◌, length, take, drop, true, Option, None, Some, IfOk, IsErr, OnOk, OnErr};
 ghost use Rattle.disk_model.specs.Calls.{Holds, Torn, After, Only, Goes, Now};
 ghost use Rattle.disk_model.specs.Counts.{Counts, HasRisen};
-ghost use Rattle.disk_model.specs.Past.{overlay, reads_after, all_within, images_from};
+ghost use Rattle.disk_model.specs.Steps.{overlay, reads_after, all_within, images_from};
 ghost use Rattle.disk_model.specs.Memory.{first_of, end_step, is_named, after_quiet, after_refused, after_write, HasFailed, new_state};
 ghost use Rattle.disk_model.specs.declared.step.Step.TheVariants.{Waited, Synced};
 
@@ -197,7 +197,7 @@ fn note(steps: &mut Vec<Step>, within: Step, end: Step) -> Result<(), AllocError
 }
 
 impl Disk for MemoryDisk {
-    ghost use Rattle.disk_model.specs.Laws.{memory_reads_now};
+    ghost use Rattle.disk_model.specs.ReadsNow.{memory_reads_now};
     ghost use Rattle.disk_model.specs.MemoryState.{state_of, moment_of, image_of};
 
     ghost tells = { λ _. true };

@@ -1,7 +1,7 @@
 //! One image of a past moment, by replaying what was kept.
 ghost use Rattle.std.specs.Prelude.{◌≡◌, ◌+◌, ◌≤◌, length, true, max, IfOk};
 ghost use Rattle.disk_model.specs.Calls.{Torn};
-ghost use Rattle.disk_model.specs.Past.{overlay, reads_then, begins_within, all_within, images_from, Stepped};
+ghost use Rattle.disk_model.specs.Steps.{overlay, reads_then, begins_within, all_within, images_from, Stepped};
 
 use crate::step::Step;
 use std::alloc::{AllocError, Global};

@@ -1,6 +1,6 @@
 use Rattle.std.proofs.Common.{◌≡◌, ◌∙◌, ℕ, List, true, length, get_or, sym, ap, subst}
 use Rattle.disk_model.specs.declared.step.Step.{Step}
-use Rattle.disk_model.specs.Past.{reads_then, begins_within, Stepped}
+use Rattle.disk_model.specs.Steps.{reads_then, begins_within, Stepped}
 use Rattle.disk_model.proofs.OneStep.{within_at, reads_more, image_more}
 use Rattle.disk_model.proofs.replay.replayed.Goals as goal
 

@@ -2,7 +2,7 @@ use Rattle.std.proofs.Common.{◌≡◌, ◌++◌, ◌∷◌, [], subst}
 use Rattle.disk_model.specs.declared.step.Step.{Step}
 use Rattle.disk_model.specs.declared.step.Step.TheVariants.{Waited}
 use Rattle.disk_model.specs.Memory.{first_of}
-use Rattle.disk_model.proofs.Pushed.{quiet_read, quiet_within}
+use Rattle.disk_model.proofs.TwoSteps.{quiet_read, quiet_within}
 use Rattle.disk_model.proofs.memory_disk.MemoryDisk.begin.Goals as goal
 
 pub invariant_of-self : goal.invariant_of-self

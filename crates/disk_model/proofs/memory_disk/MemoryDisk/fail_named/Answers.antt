@@ -1,6 +1,6 @@
 use Rattle.std.proofs.Common.{false}
 use Rattle.disk_model.specs.Memory.{first_of}
-use Rattle.disk_model.proofs.Pushed.{quiet_read, quiet_within}
+use Rattle.disk_model.proofs.TwoSteps.{quiet_read, quiet_within}
 use Rattle.disk_model.proofs.memory_disk.MemoryDisk.fail_named.Goals as goal
 
 pub invariant_of-self : goal.invariant_of-self

@@ -1,7 +1,7 @@
 use Rattle.std.proofs.Common.{◌≡◌, ◌∙◌, List, ℕ, true, take, sym, ap, subst}
 use Rattle.disk_model.specs.declared.step.Step.{Step}
 use Rattle.disk_model.specs.Memory.{first_of}
-use Rattle.disk_model.specs.Past.{all_within}
+use Rattle.disk_model.specs.Steps.{all_within}
 use Rattle.disk_model.proofs.OneStep.{within_take}
 use Rattle.disk_model.proofs.memory_disk.MemoryDisk.image.Goals as goal
 

@@ -1,9 +1,9 @@
 use Rattle.std.proofs.Common.{◌≡◌, List, ℕ, Vec, ap, ◌∙◌, rules}
 use Rattle.std.specs.declared.alloc.Global.{Global}
-use Rattle.disk_model.specs.Past.{overlay}
+use Rattle.disk_model.specs.Steps.{overlay}
 use Rattle.disk_model.specs.Memory.{first_of}
 use Rattle.disk_model.specs.MemoryState.{state_of}
-use Rattle.disk_model.proofs.Pushed.{wrote_read_to, wrote_within_to, wrote_state}
+use Rattle.disk_model.proofs.TwoSteps.{wrote_read_to, wrote_within_to, wrote_state}
 use Rattle.disk_model.proofs.memory_disk.MemoryDisk.overwrite.Goals as goal
 
 pub invariant_of-self-2 : goal.invariant_of-self-2

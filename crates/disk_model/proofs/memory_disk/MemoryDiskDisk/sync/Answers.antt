@@ -1,5 +1,5 @@
 use Rattle.disk_model.specs.MemoryState.{state_of}
-use Rattle.disk_model.proofs.Pushed.{PresentIn, failed_passes, synced_passes, synced_only}
+use Rattle.disk_model.proofs.TwoSteps.{PresentIn, failed_passes, synced_passes, synced_only}
 use Rattle.disk_model.proofs.memory_disk.MemoryDiskDisk.sync.Goals as goal
 
 pub returns-in_err-begin-clause-crash : goal.returns-in_err-begin-clause-crash

@@ -2,7 +2,7 @@ use Rattle.std.proofs.Common.{length}
 use Rattle.disk_model.specs.Calls.{Torn, After}
 use Rattle.disk_model.specs.MemoryState.{state_of}
 use Rattle.disk_model.proofs.Moments.{torn_same}
-use Rattle.disk_model.proofs.Pushed.{PresentIn, failed_passes, wrote_passes}
+use Rattle.disk_model.proofs.TwoSteps.{PresentIn, failed_passes, wrote_passes}
 use Rattle.disk_model.proofs.memory_disk.MemoryDiskDisk.write_at.Goals as goal
 
 pub returns-then-is_named-clause-crash : goal.returns-then-is_named-clause-crash

@@ -8,8 +8,8 @@ use Rattle.disk_model.specs.declared.step.Step.{Step}
 use Rattle.disk_model.specs.declared.step.Step.TheVariants.{Waited, Wrote, Synced}
 use Rattle.disk_model.specs.Counts.{next_count}
 use Rattle.disk_model.specs.Memory.{MemoryState, end_step, after_quiet, after_write, HasFailed}
-use Rattle.disk_model.specs.Laws.{memory_reads_now}
-use Rattle.disk_model.specs.Past.{reads_then, reads_after, begins_within, all_within, images_then, images_after, images_from, overlay}
+use Rattle.disk_model.specs.ReadsNow.{memory_reads_now}
+use Rattle.disk_model.specs.Steps.{reads_then, reads_after, begins_within, all_within, images_then, images_after, images_from, overlay}
 
 pub reads_one : (reads : List ℕ) (steps : List Step) (a : Step) → reads_after reads (steps ++ a ∷ []) ≡ reads_then (reads_after reads steps) a
 reads_one reads [] a = refl
