@@ -84,11 +84,16 @@ module _ (start bytes : List ℕ) (steps new : List Step) where
   pub wrote_within_to : (start' : List ℕ) (at : ℕ) (v : Vec ℕ Global) → start' ≡ start → at ≤ length bytes → bytes ≡ reads_after start steps → all_within start steps ≡ true → new ≡ steps ++ Wrote at v ∷ Waited ∷ [] → all_within start' new ≡ true
   wrote_within_to start' at v same le is all two = ap (λ (s : List ℕ). all_within s new) same ∙ wrote_within at v le is all two
 
-pub wrote_state : (old : MemoryState) (first bytes piece : List ℕ) (steps : List Step) (at calls : ℕ) (kept : Vec ℕ Global)
-    → first ≡ old.first → bytes ≡ overlay at piece old.bytes → kept.items ≡ piece → steps ≡ old.steps ++ Wrote at kept ∷ Waited ∷ [] → calls ≡ next_count old.calls
-    → record old { first = first; bytes = bytes; steps = steps; calls = calls } ≡ after_write at kept old
-wrote_state old first bytes piece steps at calls kept same is_bytes is_piece is_steps is_calls i =
-    record old { first = same i; bytes = (is_bytes ∙ ap (λ (p : List ℕ). overlay at p old.bytes) (sym is_piece)) i; steps = is_steps i; calls = is_calls i }
+pub wrote_state : (old kept_first : MemoryState) (first bytes piece : List ℕ) (steps : List Step) (at calls : ℕ) (kept : Vec ℕ Global)
+    → kept_first ≡ old → first ≡ old.first → bytes ≡ overlay at piece old.bytes → kept.items ≡ piece → steps ≡ old.steps ++ Wrote at kept ∷ Waited ∷ [] → calls ≡ next_count old.calls
+    → record kept_first { first = first; bytes = bytes; steps = steps; calls = calls } ≡ after_write at kept old
+wrote_state old kept_first first bytes piece steps at calls kept same is_first is_bytes is_piece is_steps is_calls i =
+    record (same i) { first = is_first i; bytes = (is_bytes ∙ ap (λ (p : List ℕ). overlay at p old.bytes) (sym is_piece)) i; steps = is_steps i; calls = is_calls i }
+
+-- two steps pushed one after the other
+pub pushed_two : (old mid reserved one two : List Step) (a b : Step) → mid ≡ old → reserved ≡ mid → one ≡ reserved ++ a ∷ [] → two ≡ one ++ b ∷ [] → two ≡ old ++ a ∷ b ∷ []
+pushed_two old mid reserved one two a b same is_reserved is_one is_two =
+    is_two ∙ ap (λ (l : List Step). l ++ b ∷ []) (is_one ∙ ap (λ (l : List Step). l ++ a ∷ []) (is_reserved ∙ same)) ∙ append_assoc old (a ∷ []) (b ∷ [])
 
 -- what a crash may leave, at each moment of a disk in memory
 abbrev pub ImageIn : MemoryState → ℕ → List ℕ → Type 0

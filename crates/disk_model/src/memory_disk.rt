@@ -8,7 +8,8 @@ ghost use Rattle.disk_model.specs.declared.step.Step.TheVariants.{Waited, Synced
 
 use crate::disk::Disk;
 use crate::disk_failed::DiskFailed;
-use crate::replay::{overlaid, replayed};
+use crate::overlay::overlay_with;
+use crate::replay::replayed;
 use crate::step::Step;
 use std::alloc::{AllocError, Global};
 
@@ -143,19 +144,31 @@ impl MemoryDisk {
         DiskFailed
     }
 
-    // Takes all memory before anything changes.
+    // Makes all room before anything changes.
     fn overwrite(&mut self, at: usize, piece: &[u8]) -> Result<(), AllocError>
         requires { at ≤ length self.old.bytes.items }
         ensures ok { OnOk result ((kept : _) × (kept.items ≡ piece.now) × (state_of self.new ≡ after_write at kept (state_of self.old))) }
         ensures err { OnErr result (state_of self.new ≡ state_of self.old) }
     {
-        let next = overlaid(self.alloc, &self.bytes, at, piece)?;
-        let piece = piece.to_vec(self.alloc)?;
+        self.keep_first()?;
+        let kept = piece.to_vec(self.alloc)?;
+        self.steps.reserve(2)?;
+        overlay_with(&mut self.bytes, at, piece)?;
         let at = at as u64;
-        note(&mut self.steps, Step::Wrote { at, piece }, Step::Waited)?;
-        let old = std::mem::replace(&mut self.bytes, next);
-        keep_first(&mut self.first, old);
+        self.steps.push_reserved(Step::Wrote { at, piece: kept });
+        self.steps.push_reserved(Step::Waited);
         self.calls = self.calls.saturating_add(1);
+        Ok(())
+    }
+
+    // Keeps the bytes of the start, where nothing has been written yet.
+    fn keep_first(&mut self) -> Result<(), AllocError>
+        ensures state { state_of self.new ≡ state_of self.old }
+        ensures kept { OnOk result ((bytes : List ℕ) → first_of self.new.first bytes ≡ (state_of self.old).first) }
+    {
+        if self.first.is_none() {
+            self.first = Some(self.bytes.to_vec(self.alloc)?);
+        }
         Ok(())
     }
 }
@@ -167,15 +180,6 @@ fn first_bytes<'a>(first: &'a Option<Vec<u8>>, bytes: &'a [u8]) -> &'a [u8]
     match first {
         Some(first) => first.as_slice(),
         None => bytes,
-    }
-}
-
-// Keeps the bytes of the start where no others were kept.
-fn keep_first(first: &mut Option<Vec<u8>>, old: Vec<u8>)
-    ensures { (bytes : List ℕ) → first_of first.new bytes ≡ first_of first.old old.items }
-{
-    if first.is_none() {
-        *first = Some(old);
     }
 }
 

@@ -1,8 +1,9 @@
 //! One image of a past moment, by replaying what was kept.
 ghost use Rattle.std.specs.Prelude.{◌≡◌, ◌+◌, ◌≤◌, length, true, max, IfOk};
 ghost use Rattle.disk_model.specs.Calls.{Torn};
-ghost use Rattle.disk_model.specs.Steps.{overlay, reads_then, begins_within, all_within, images_from, Stepped};
+ghost use Rattle.disk_model.specs.Steps.{reads_then, begins_within, all_within, images_from, Stepped};
 
+use crate::overlay::overlay_with;
 use crate::step::Step;
 use std::alloc::{AllocError, Global};
 
@@ -22,7 +23,7 @@ pub(crate) fn replayed(
     let mut place = 0u64;
     for step in steps {
         image = next_image(alloc, &reads, image, step, is_picked(pick, place))?;
-        reads = next_reads(alloc, reads, step)?;
+        reads = next_reads(reads, step)?;
         place = next_place(place, step);
     }
     Ok(image)
@@ -45,7 +46,7 @@ fn next_place(place: u64, step: &Step) -> u64 {
 fn next_image(
     alloc: Global,
     reads: &[u8],
-    image: Vec<u8>,
+    mut image: Vec<u8>,
     step: &Step,
     stands: bool,
 ) -> Result<Vec<u8>, AllocError>
@@ -59,7 +60,8 @@ fn next_image(
         Step::Synced => Ok(reads.to_vec(alloc)?),
         Step::Wrote { at, piece } => {
             if stands {
-                overlaid(alloc, &image, *at as usize, piece)
+                overlay_with(&mut image, *at as usize, piece)?;
+                Ok(image)
             } else {
                 widened(image, *at as usize, piece.len())
             }
@@ -81,31 +83,16 @@ fn widened(mut image: Vec<u8>, at: usize, count: usize) -> Result<Vec<u8>, Alloc
 }
 
 // What a read gives after a step.
-fn next_reads(alloc: Global, reads: Vec<u8>, step: &Step) -> Result<Vec<u8>, AllocError>
+fn next_reads(mut reads: Vec<u8>, step: &Step) -> Result<Vec<u8>, AllocError>
     requires { begins_within reads.items step.now ≡ true }
     ensures { IfOk result (λ next. next.items ≡ reads_then reads.items step.now) }
 {
     match step {
         Step::Waited => Ok(reads),
         Step::Synced => Ok(reads),
-        Step::Wrote { at, piece } => overlaid(alloc, &reads, *at as usize, piece),
+        Step::Wrote { at, piece } => {
+            overlay_with(&mut reads, *at as usize, piece)?;
+            Ok(reads)
+        }
     }
-}
-
-/// The bytes with a piece at an offset, over what is there and past the end.
-pub(crate) fn overlaid(
-    alloc: Global,
-    bytes: &[u8],
-    at: usize,
-    piece: &[u8],
-) -> Result<Vec<u8>, AllocError>
-    requires { at ≤ length bytes.now }
-    ensures { IfOk result (λ next. next.items ≡ overlay at piece.now bytes.now) }
-{
-    let mut next = bytes[..at].to_vec(alloc)?;
-    next.extend_from_slice(piece)?;
-    if piece.len() < bytes.len() - at {
-        next.extend_from_slice(&bytes[at + piece.len()..])?;
-    }
-    Ok(next)
 }
