@@ -1,8 +1,5 @@
-use Rattle.std.proofs.Common.{◌≡◌, List, ℕ, ◌++◌, ◌∷◌, [], Vec, ap, ◌∙◌, rules}
-use Rattle.std.specs.declared.alloc.Global.{Global}
-use Rattle.disk_model.specs.declared.step.Step.{Step}
+use Rattle.std.proofs.Common.{◌≡◌, ◌++◌, ◌∷◌, [], ap, ◌∙◌, rules}
 use Rattle.disk_model.specs.declared.step.Step.TheVariants.{Waited, Wrote}
-use Rattle.disk_model.specs.Counts.{next_count}
 use Rattle.disk_model.specs.Steps.{overlay}
 use Rattle.disk_model.specs.Memory.{MemoryState, first_of}
 use Rattle.disk_model.specs.MemoryState.{state_of}
