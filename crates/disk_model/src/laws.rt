@@ -1,6 +1,6 @@
 //! What holds of every run of calls.
 ghost use Rattle.disk_model.specs.Runs.{RunLaw};
-ghost use Rattle.disk_model.specs.Words.{TornLaw, WritesLaw};
+ghost use Rattle.disk_model.specs.Words.{AnyBytesLaw, TornLaw, WritesLaw};
 
 use crate::disk::Disk;
 
@@ -16,11 +16,12 @@ pub fn runs_compose<D: Disk>()
 
 /// The law of torn writes, byte by byte.
 ///
-/// A call does nothing. By its clauses one write that begins within the bytes leaves any bytes in its range and past
-/// the old end, any length from the old one to the new one, and every other byte as it was, and it leaves nothing
-/// else. Of a list of writes since a sync, those that failed included, a byte outside all ranges stays, and the length
-/// is one from the old to the new one.
+/// A call does nothing. By its clauses writes after a sync, those that failed included, leave just this: any bytes in
+/// their ranges and past the old end, any length from the old one to the new one, and every byte outside the ranges as
+/// it was. The first clause is for one write, the second and the third are for any list of writes, each of which
+/// begins within the file.
 pub fn torn_writes()
     ensures torn { TornLaw }
-    ensures writes { WritesLaw }
+    ensures nothing_else { WritesLaw }
+    ensures any_bytes { AnyBytesLaw }
 {}
