@@ -11,7 +11,8 @@ use std::marker::Model;
 use std::rt::Files;
 
 /// A file of the operating system. It tells no bytes, since no clause knows what a system's file holds. Contracts see
-/// the count of its faults.
+/// the count of its faults: each call that fails adds one. A read or a write that a signal interrupts is made again, up
+/// to 64 times.
 #[derive(Drop)]
 pub struct FileDisk<'a, R> {
     file: SystemFile<'a, R>,

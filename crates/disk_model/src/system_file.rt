@@ -17,8 +17,8 @@ pub(crate) struct SystemFile<'a, R> {
     rt: &'a R,
     path: String,
     file: Option<File>,
-    // Whether the folder is known to hold the file's name on the medium.
-    is_named: bool,
+    // Whether a sync of the folder has brought the name to the medium.
+    in_folder: bool,
 }
 
 impl<'a, R: Files<File = File>> SystemFile<'a, R> {
@@ -27,7 +27,7 @@ impl<'a, R: Files<File = File>> SystemFile<'a, R> {
             rt,
             path,
             file: None,
-            is_named: false,
+            in_folder: false,
         }
     }
 
@@ -71,9 +71,9 @@ impl<'a, R: Files<File = File>> SystemFile<'a, R> {
     /// Brings the file to the medium, and, once, its name in the folder.
     pub(crate) fn sync(&mut self) -> io::Result<()> {
         opened(self.rt, &self.path, &mut self.file)?.sync_all()?;
-        if !self.is_named {
+        if !self.in_folder {
             File::open(self.rt, folder_of(&self.path))?.sync_all()?;
-            self.is_named = true;
+            self.in_folder = true;
         }
         Ok(())
     }
