@@ -1,0 +1,9 @@
+pub mod Calls
+pub mod Counts
+pub mod Steps
+pub mod Memory
+pub mod MemoryState
+pub mod ReadsNow
+pub mod Untold
+pub mod Runs
+pub mod Words

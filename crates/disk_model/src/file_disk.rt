@@ -1,0 +1,100 @@
+//! A disk over a file of the operating system.
+ghost use Rattle.std.specs.Prelude.{◌≡◌, ◌≤◌, ℕ, [], false};
+ghost use Rattle.disk_model.specs.Counts.{HasRisen, next_count};
+ghost use Rattle.disk_model.specs.Untold.{still_clock, no_image};
+
+use crate::disk::Disk;
+use crate::disk_failed::DiskFailed;
+use crate::system_file::SystemFile;
+use std::fs::File;
+use std::marker::Model;
+use std::rt::Files;
+
+/// A file of the operating system. It tells no bytes, since no clause knows what a system's file holds. Contracts see
+/// the count of its faults: each call that fails adds one. A read or a write that a signal interrupts is made again, up
+/// to 64 times.
+#[derive(Drop)]
+pub struct FileDisk<'a, R> {
+    file: SystemFile<'a, R>,
+    faults: u64,
+}
+
+impl<'a, R> Model for FileDisk<'a, R> {
+    ghost Value = { ℕ };
+
+    ghost view = { λ d. d.faults };
+}
+
+impl<'a, R: Files<File = File>> FileDisk<'a, R> {
+    /// The file of this path. It is opened, or created where it is missing, at the first call.
+    pub fn new(rt: &'a R, path: String) -> FileDisk<'a, R>
+        ensures { result ≡ 0 }
+    {
+        FileDisk {
+            file: SystemFile::new(rt, path),
+            faults: 0,
+        }
+    }
+
+    // One fault more.
+    fn fail(&mut self) -> DiskFailed
+        ensures next { self.new ≡ next_count self.old }
+        ensures later { self.old ≤ self.new }
+        ensures rose { HasRisen self.old self.new }
+    {
+        self.faults = self.faults.saturating_add(1);
+        DiskFailed
+    }
+}
+
+impl<R: Files<File = File>> Disk for FileDisk<'_, R> {
+    ghost use Rattle.disk_model.specs.Untold.{nothing_told};
+
+    ghost tells = { λ _. false };
+
+    ghost reads = { λ _. [] };
+
+    ghost moment = { still_clock };
+
+    ghost image = { no_image };
+
+    ghost count = { λ faults. faults };
+
+    ghost reads_now = { λ d told. absurd (nothing_told told) };
+
+    /// The system's length of the file. An error of the system is a fault.
+    fn len(&mut self) -> Result<u64, DiskFailed> {
+        match self.file.len() {
+            Ok(count) => Ok(count),
+            Err(_) => Err(self.fail()),
+        }
+    }
+
+    /// Reads from the file. An end before `into` is full is a fault, and so is an error of the system.
+    fn read_at(&mut self, at: u64, into: &mut [u8]) -> Result<(), DiskFailed> {
+        match self.file.read_at(at, into) {
+            Ok(()) => Ok(()),
+            Err(_) => Err(self.fail()),
+        }
+    }
+
+    /// Writes to the file. An error of the system is a fault, and so is a write that takes nothing.
+    fn write_at(&mut self, at: u64, piece: &[u8]) -> Result<(), DiskFailed> {
+        match self.file.write_at(at, piece) {
+            Ok(()) => Ok(()),
+            Err(_) => Err(self.fail()),
+        }
+    }
+
+    /// Brings the file to the medium, and, once, its name in the folder. An error of the system is a fault.
+    fn sync(&mut self) -> Result<(), DiskFailed> {
+        match self.file.sync() {
+            Ok(()) => Ok(()),
+            Err(_) => Err(self.fail()),
+        }
+    }
+
+    fn faults(&self) -> u64 {
+        self.faults
+    }
+}
