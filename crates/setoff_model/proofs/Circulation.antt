@@ -79,17 +79,17 @@ exchange (suc m) n w at x none =
 
 -- ---- one claim and one party
 
-claim_step : (x u a b c d k : ℕ) → x ≤ u → 1 + a + b ≤ c + d + k → x + (a * x + b * x) ≤ (c * x + d * x) + u * k
+pub claim_step : (x u a b c d k : ℕ) → x ≤ u → 1 + a + b ≤ c + d + k → x + (a * x + b * x) ≤ (c * x + d * x) + u * k
 claim_step x u a b c d k le h = omega (arith, mul-le-mul_left x h, mul-le-mul_right k le)
 
 above_zero-ge : (z : ℤ) → up z ≤ down z + above_zero z
 above_zero-ge (pos n) = omega arith
 above_zero-ge (negsuc n) = omega arith
 
-factor_step : (a b : ℤ) → 1 + up a + down b ≤ up b + down a + above_zero ((pos 1 +ℤ a) -ℤ b)
+pub factor_step : (a b : ℤ) → 1 + up a + down b ≤ up b + down a + above_zero ((pos 1 +ℤ a) -ℤ b)
 factor_step a b = omega (arith, ints, above_zero-ge ((pos 1 +ℤ a) -ℤ b))
 
-party_step : (z : ℤ) (i o s r : ℕ) → i ≤ o + r → o ≤ i + s → up z * i + down z * o ≤ (up z * o + down z * i) + window_worth z s r
+pub party_step : (z : ℤ) (i o s r : ℕ) → i ≤ o + r → o ≤ i + s → up z * i + down z * o ≤ (up z * o + down z * i) + window_worth z s r
 party_step (pos n) i o s r room spend = omega (arith, mul-le-mul_left n room)
 party_step (negsuc n) i o s r room spend = omega (arith, mul-le-mul_left (suc n) spend)
 

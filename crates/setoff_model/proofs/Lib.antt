@@ -8,3 +8,6 @@ pub mod Pairs
 pub mod Columns
 pub mod Limits
 pub mod Spelling
+pub mod Complementary
+pub mod Squeezed
+pub mod OneSqueezed

@@ -6,3 +6,5 @@ pub mod Texts
 pub mod Sums
 pub mod Setoff
 pub mod CutView
+pub mod Slackness
+pub mod Squeezing

@@ -1,6 +1,8 @@
 //! Why prices prove that a set-off is greatest.
 ghost use Rattle.setoff_model.specs.Setoff.{WeakDuality, AsWritten};
 ghost use Rattle.setoff_model.specs.CutView.{LawfulFits, SumsAreBounded};
+ghost use Rattle.setoff_model.specs.Slackness.{Slackness};
+ghost use Rattle.setoff_model.specs.Squeezing.{SqueezingKeeps, SqueezedIsOne};
 
 /// The law behind every published round: weak duality of linear programming, for circulations.
 ///
@@ -13,4 +15,22 @@ pub fn weak_duality()
     ensures as_written { AsWritten }
     ensures fits { LawfulFits }
     ensures bounded { SumsAreBounded }
+{}
+
+/// The law by which a solver knows its end: complementary slackness, for circulations.
+///
+/// A call does nothing. By its clause the total of a lawful set-off equals the bound of prices exactly where each claim
+/// with `1 + price of the debtor - price of the creditor` above 0 is discharged whole, each claim where that is below 0 not
+/// at all, each party with a price above 0 has used its room, and each with a price below 0 its spend.
+pub fn slackness()
+    ensures { Slackness }
+{}
+
+/// The law behind squeezed prices: what the prices prove, they prove.
+///
+/// A call does nothing. By its clauses the facts of `slackness` still hold of squeezed prices, and where the total of a
+/// lawful set-off equals the bound of prices, it equals the bound of the squeezed ones. There is one way to squeeze prices.
+pub fn squeezing_keeps_proofs()
+    ensures keeps { SqueezingKeeps }
+    ensures one { SqueezedIsOne }
 {}

@@ -11,7 +11,7 @@ mod outcome;
 mod text;
 
 pub use cut::{Cut, CutClaim, Party};
-pub use duality::weak_duality;
+pub use duality::{slackness, squeezing_keeps_proofs, weak_duality};
 pub use field::{read_amount, read_kind, read_number, read_price, read_sum};
 pub use kind::Kind;
 pub use name::{Key, Name};

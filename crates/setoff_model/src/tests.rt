@@ -1,6 +1,7 @@
 use crate::{
     Cut, CutClaim, Key, Kind, Name, Outcome, Party, put, read_amount, read_kind, read_number,
-    read_price, read_sum, total, weak_duality, write_cents, write_number, write_signed,
+    read_price, read_sum, slackness, squeezing_keeps_proofs, total, weak_duality, write_cents,
+    write_number, write_signed,
 };
 use std::alloc::{AllocError, Global};
 
@@ -112,6 +113,8 @@ fn triangle_outcome(alloc: Global) -> Result<Outcome, AllocError> {
 #[test]
 fn triangle_total(rt: HostRuntime) {
     weak_duality();
+    slackness();
+    squeezing_keeps_proofs();
     let outcome = triangle_outcome(rt.alloc()).expect(&rt, "memory");
     assert!(rt; outcome.prices().len() == 3);
     assert!(rt; outcome.discharges().len() <= 262_144);

@@ -1,0 +1,116 @@
+-- Raises and squeezing keep the facts.
+use Rattle.std.specs.Prelude.{ℤ, pos, ◌+ℤ◌, ◌-ℤ◌, ◌<ℤ◌, ◌≤ℤ◌, slice_index, Bool}
+use Rattle.std.proofs.Common.{◌≡◌, ℕ, ◌<◌, ◌≤◌, List, length, sym, ◌∙◌, inl, inr, ◌⊎◌, arith}
+use Rattle.std.proofs.lemmas.Int.{ints}
+use Rattle.std.proofs.lemmas.Bool.{cases_lt}
+use Rattle.setoff_model.specs.Setoff.{price_at}
+use Rattle.setoff_model.specs.Squeezing.{IsSqueezed}
+use Rattle.setoff_model.proofs.Squeezed.{gain_above_back, gain_below_back, order_back, step_kept}
+use Rattle.residual_network.specs.Network.{Network, arc_gain, IsFlow, ArcSlack, IsNetwork}
+use Rattle.residual_network.specs.Labels.{mark, IsBelowRaises, IsRaised}
+use Rattle.residual_network.specs.Laws.{RaiseLaw, SqueezingLaw}
+use Rattle.residual_network.proofs.Cut.{mark_cases}
+
+-- ---- the gains after a raise
+
+pub gain_inside : (net : Network) (p q : List ℤ) (labelled : List Bool) (d a : ℕ) → IsNetwork net → length labelled ≡ length net.supplies → IsRaised p q labelled d → a < length net.capacities → mark labelled (slice_index net.tails a) ≡ mark labelled (slice_index net.heads a) → arc_gain net q a ≡ arc_gain net p a
+gain_inside net p q labelled d a is each raised in' same =
+    let e = raised.both (slice_index net.tails a) (slice_index net.heads a) (let i = is.tail a in' in omega (arith, each, i)) (let i = is.head a in' in omega (arith, each, i)) same in
+    omega (arith, ints, e)
+
+pub gain_out : (net : Network) (p q : List ℤ) (labelled : List Bool) (d a : ℕ) → IsNetwork net → length labelled ≡ length net.supplies → IsRaised p q labelled d → a < length net.capacities → mark labelled (slice_index net.tails a) ≡ 1 → mark labelled (slice_index net.heads a) ≡ 0 → arc_gain net q a ≡ arc_gain net p a +ℤ pos d
+gain_out net p q labelled d a is each raised in' t h =
+    let e = raised.up (slice_index net.tails a) (slice_index net.heads a) (let i = is.tail a in' in omega (arith, each, i)) (let i = is.head a in' in omega (arith, each, i)) t h in
+    omega (arith, ints, e)
+
+pub gain_into : (net : Network) (p q : List ℤ) (labelled : List Bool) (d a : ℕ) → IsNetwork net → length labelled ≡ length net.supplies → IsRaised p q labelled d → a < length net.capacities → mark labelled (slice_index net.tails a) ≡ 0 → mark labelled (slice_index net.heads a) ≡ 1 → arc_gain net q a ≡ arc_gain net p a -ℤ pos d
+gain_into net p q labelled d a is each raised in' t h =
+    let e = raised.up (slice_index net.heads a) (slice_index net.tails a) (let i = is.head a in' in omega (arith, each, i)) (let i = is.tail a in' in omega (arith, each, i)) h t in
+    omega (arith, ints, e)
+
+-- ---- the facts of one arc
+
+-- full where its gain is above 0, and empty where it is below
+abbrev ArcKept : ℤ → ℕ → ℕ → Type 0
+ArcKept g x u = (pos 0 <ℤ g → x ≡ u) × (g <ℤ pos 0 → x ≡ 0)
+
+-- four kinds of arc: both ends labelled or none, its tail alone, its head alone
+fact_same : (g h : ℤ) (x u : ℕ) → h ≡ g → ArcKept g x u → ArcKept h x u
+fact_same g h x u e facts = (λ a. facts.0 (omega (arith, ints, e, a)), λ b. facts.1 (omega (arith, ints, e, b)))
+
+fact_out : (g h : ℤ) (x u d : ℕ) → h ≡ g +ℤ pos d → x ≤ u → (x < u → (g +ℤ pos d) ≤ℤ pos 0) → ArcKept g x u → ArcKept h x u
+fact_out g h x u d e within most facts = (
+  λ a. elim (cases_lt x u) as (λ _. x ≡ u) [ inl lt ↦ let le = most lt in absurd (omega (arith, ints, e, a, le)) | inr ge ↦ omega arith ],
+  λ b. facts.1 (omega (arith, ints, e, b)),
+)
+
+fact_into : (g h : ℤ) (x u d : ℕ) → h ≡ g -ℤ pos d → (0 < x → pos d ≤ℤ g) → ArcKept g x u → ArcKept h x u
+fact_into g h x u d e most facts = (
+  λ a. facts.0 (omega (arith, ints, e, a)),
+  λ b. elim (cases_lt 0 x) as (λ _. x ≡ 0) [ inl lt ↦ let le = most lt in absurd (omega (arith, ints, e, b, le)) | inr ge ↦ omega arith ],
+)
+
+raised_arc : (net : Network) (x : List ℕ) (p q : List ℤ) (labelled : List Bool) (d a : ℕ) → IsNetwork net → length labelled ≡ length net.supplies → IsFlow net x → ArcSlack net x p → IsRaised p q labelled d → IsBelowRaises net x p labelled d → a < length net.capacities →
+    ArcKept (arc_gain net q a) (slice_index x a) (slice_index net.capacities a)
+raised_arc net x p q labelled d a is each flow facts raised least in' =
+    let old : ArcKept (arc_gain net p a) (slice_index x a) (slice_index net.capacities a) = (facts.full a in', facts.empty a in') in
+    elim (mark_cases labelled (slice_index net.tails a)) as (λ _. ArcKept (arc_gain net q a) (slice_index x a) (slice_index net.capacities a)) [
+      | inl t0 ↦ elim (mark_cases labelled (slice_index net.heads a)) as (λ _. ArcKept (arc_gain net q a) (slice_index x a) (slice_index net.capacities a)) [
+        | inl h0 ↦ fact_same (arc_gain net p a) (arc_gain net q a) _ _ (gain_inside net p q labelled d a is each raised in' (t0 ∙ sym h0)) old
+        | inr h1 ↦ fact_into (arc_gain net p a) (arc_gain net q a) (slice_index x a) (slice_index net.capacities a) d (gain_into net p q labelled d a is each raised in' t0 h1) (least.into a in' t0 h1) old
+      ]
+      | inr t1 ↦ elim (mark_cases labelled (slice_index net.heads a)) as (λ _. ArcKept (arc_gain net q a) (slice_index x a) (slice_index net.capacities a)) [
+        | inl h0 ↦ fact_out (arc_gain net p a) (arc_gain net q a) (slice_index x a) (slice_index net.capacities a) d (gain_out net p q labelled d a is each raised in' t1 h0) (flow.within a in') (least.out a in' t1 h0) old
+        | inr h1 ↦ fact_same (arc_gain net p a) (arc_gain net q a) _ _ (gain_inside net p q labelled d a is each raised in' (t1 ∙ sym h1)) old
+      ]
+    ]
+
+pub raise_slack : (net : Network) (x : List ℕ) (p q : List ℤ) (labelled : List Bool) (d : ℕ) → IsNetwork net → length labelled ≡ length net.supplies → IsFlow net x → ArcSlack net x p → IsRaised p q labelled d → IsBelowRaises net x p labelled d → ArcSlack net x q
+raise_slack net x p q labelled d is each flow facts raised least = record {
+  full = λ a in'. (raised_arc net x p q labelled d a is each flow facts raised least in').0;
+  empty = λ a in'. (raised_arc net x p q labelled d a is each flow facts raised least in').1;
+}
+
+pub raise_law : RaiseLaw
+raise_law = record { slack = raise_slack; inside = gain_inside; out = gain_out; into = gain_into }
+
+-- ---- the gains after squeezing
+
+above_back : (r : ℕ) (p q : List ℤ) (f g : ℕ) → (r ≡ 0) ⊎ (r ≡ 1) → IsSqueezed p q → pos 0 <ℤ ((pos r +ℤ price_at q f) -ℤ price_at q g) → pos 0 <ℤ ((pos r +ℤ price_at p f) -ℤ price_at p g)
+above_back r p q f g (inl e) squeezed h =
+    let lt : price_at q g <ℤ price_at q f = omega (arith, ints, e, h) in
+    let was = order_back p q g f squeezed lt in
+    omega (arith, ints, e, was)
+above_back r p q f g (inr e) squeezed h =
+    let one : pos 0 <ℤ ((pos 1 +ℤ price_at q f) -ℤ price_at q g) = omega (arith, ints, e, h) in
+    let was = gain_above_back p q f g squeezed one in
+    omega (arith, ints, e, was)
+
+below_back : (r : ℕ) (p q : List ℤ) (f g : ℕ) → (r ≡ 0) ⊎ (r ≡ 1) → IsSqueezed p q → ((pos r +ℤ price_at q f) -ℤ price_at q g) <ℤ pos 0 → ((pos r +ℤ price_at p f) -ℤ price_at p g) <ℤ pos 0
+below_back r p q f g (inl e) squeezed h =
+    let lt : price_at q f <ℤ price_at q g = omega (arith, ints, e, h) in
+    let was = order_back p q f g squeezed lt in
+    omega (arith, ints, e, was)
+below_back r p q f g (inr e) squeezed h =
+    let one : ((pos 1 +ℤ price_at q f) -ℤ price_at q g) <ℤ pos 0 = omega (arith, ints, e, h) in
+    let was = gain_below_back p q f g squeezed one in
+    omega (arith, ints, e, was)
+
+pub squeezing_slack : (net : Network) (x : List ℕ) (p q : List ℤ) → IsNetwork net → IsSqueezed p q → ArcSlack net x p → ArcSlack net x q
+squeezing_slack net x p q is squeezed facts = record {
+  full = λ a in' h. facts.full a in' (above_back (slice_index net.rewards a) p q (slice_index net.tails a) (slice_index net.heads a) (is.reward a in') squeezed h);
+  empty = λ a in' h. facts.empty a in' (below_back (slice_index net.rewards a) p q (slice_index net.tails a) (slice_index net.heads a) (is.reward a in') squeezed h);
+}
+
+-- a gain of 0 stays 0
+even_kept : (r : ℕ) (p q : List ℤ) (f g : ℕ) → (r ≡ 0) ⊎ (r ≡ 1) → IsSqueezed p q → ((pos r +ℤ price_at p f) -ℤ price_at p g) ≡ pos 0 → ((pos r +ℤ price_at q f) -ℤ price_at q g) ≡ pos 0
+even_kept r p q f g (inl e) squeezed h =
+    let s = squeezed.same f g (omega (arith, ints, e, h)) in omega (arith, ints, e, s)
+even_kept r p q f g (inr e) squeezed h =
+    let s = step_kept p q f g squeezed (omega (arith, ints, e, h)) in omega (arith, ints, e, s)
+
+pub squeezing_law : SqueezingLaw
+squeezing_law = record {
+  slack = squeezing_slack;
+  even = λ net p q a is squeezed in' h. even_kept (slice_index net.rewards a) p q (slice_index net.tails a) (slice_index net.heads a) (is.reward a in') squeezed h;
+}

@@ -1,0 +1,8 @@
+pub mod Sums
+pub mod Push
+pub mod Resting
+pub mod Cut
+pub mod Beginning
+pub mod Balance
+pub mod Gains
+pub mod Walk

@@ -1,0 +1,4 @@
+pub mod Network
+pub mod Labels
+pub mod NetworkOf
+pub mod Laws
