@@ -1,5 +1,5 @@
 use crate::outcome_of;
-use flow_solver::Solver;
+use flow_solver::{PlainSolver, Solver};
 use netting_graph::Net;
 use setoff_model::{Cut, CutClaim, Key, Kind, Name, Outcome, Party};
 use std::alloc::{AllocError, Global};
@@ -73,7 +73,7 @@ fn three_firms() -> Option<[Name; 3]> {
 }
 
 #[test]
-fn cuts_are_made(rt: HostRuntime) {
+fn greatest_outcomes(rt: HostRuntime) {
     let alloc = rt.alloc();
     let firms = three_firms().expect(&rt, "names");
     let cases = [
@@ -83,6 +83,9 @@ fn cuts_are_made(rt: HostRuntime) {
     ];
     for (cut, discharges) in cases {
         let cut = cut.expect(&rt, "memory");
-        assert!(rt; cut.well_formed() && cut.claims().len() == discharges.len());
+        let outcome = outcome_by(&PlainSolver::new(), alloc, &cut).expect(&rt, "memory");
+        let outcome = outcome.expect(&rt, "a cut");
+        assert!(rt; outcome.discharges() == discharges);
+        assert!(rt; outcome.prices().len() == cut.parties().len());
     }
 }
