@@ -7,5 +7,6 @@ pub mod Histories
 pub mod Sizes
 pub mod Formulas
 pub mod Worked
+pub mod Register
 pub mod Shapes
 pub mod Ranges

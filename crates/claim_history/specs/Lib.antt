@@ -4,4 +4,5 @@ pub mod Facts
 pub mod Cut
 pub mod History
 pub mod Laws
+pub mod Register
 pub mod Scans

@@ -12,6 +12,7 @@ mod claim_scan;
 mod day;
 mod entry;
 mod fact;
+mod last_claim;
 mod plain;
 mod same;
 
@@ -20,6 +21,7 @@ pub use act_text::write_act;
 pub use day::{Day, days_are_civil_dates};
 pub use entry::{Entry, Reply, Why, accepted};
 pub use fact::{AccountFact, ClaimFact, Position, Status};
+pub use last_claim::full_register_refuses_claims;
 pub use plain::plain_answer;
 
 /// The state that a history comes to is that of its accepted acts: they are its acts, newest first. A law, which does nothing

@@ -1,0 +1,9 @@
+pub mod Places
+pub mod Distinct
+pub mod Growth
+pub mod Joined
+pub mod Pairs
+pub mod Formed
+pub mod Registered
+pub mod History
+pub mod Worked

@@ -1,0 +1,7 @@
+use Rattle.std.proofs.Common.{◌≢◌}
+use Rattle.setoff_model.proofs.Pairs.{PairsBelow}
+use Rattle.round_cut.proofs.tests.firms_differ.Given as goal
+
+-- no two of those so far are alike
+abbrev pub invariant-loop-place : goal.invariant-loop-place
+invariant-loop-place l = PairsBelow (λ a b. a.firm ≢ b.firm) l.accounts l.place

@@ -1,0 +1,4 @@
+pub mod Windows
+pub mod CutOfFacts
+pub mod CutLaw
+pub mod Growing

@@ -1,0 +1,74 @@
+//! The cut of claims and accounts.
+ghost use Rattle.std.specs.Prelude.{◌≡◌, ◌+◌, ◌<◌, ◌≤◌, ◌^◌, ◌++◌, ◌∷◌, [], All, IfOk, OnOk, vec_len};
+ghost use Rattle.setoff_model.specs.CutView.{WellFormed};
+ghost use Rattle.round_cut.specs.Windows.{KeepsLimits};
+ghost use Rattle.round_cut.specs.CutOfFacts.{takes_part, cut_of_facts, AreFacts};
+ghost use Rattle.round_cut.specs.Growing.{with_parties_of, placed};
+
+use crate::parties::place_of;
+use claim_history::{AccountFact, ClaimFact, Day, Status};
+use setoff_model::{Cut, CutClaim, Kind, Party};
+use std::alloc::{AllocError, Global};
+
+/// Makes the cut of a round of this number and kind: the claims that are confirmed, have an open amount and are due on
+/// or before the horizon, in their order, each with its open amount, and the firms that they name with their windows.
+///
+/// The parties stand in order of first appearance, the debtor of a claim before its creditor. Each claim is looked at
+/// once. For one that takes part, its two firms are looked up among the parties so far, and the account of a new party
+/// among all accounts: so the time grows with the claims that take part times the parties, and with the parties times
+/// the accounts. An error is want of memory.
+pub fn build_cut(
+    alloc: Global,
+    claims: &[ClaimFact],
+    accounts: &[AccountFact],
+    kind: Kind,
+    horizon: Day,
+    round: u32,
+) -> Result<Cut, AllocError>
+    requires { AreFacts claims.now accounts.now }
+    ensures cut { IfOk result (λ cut. cut ≡ cut_of_facts round claims.now accounts.now kind horizon) }
+    ensures formed { IfOk result WellFormed }
+{
+    let mut parties = Vec::new(alloc);
+    let mut due = Vec::new(alloc);
+    for claim in claims {
+        if is_due(claim, horizon) {
+            add_claim(&mut parties, &mut due, accounts, kind, claim)?;
+        }
+    }
+    Ok(Cut::new(round, kind, parties, due))
+}
+
+// Whether the claim is confirmed, has an open amount, and is due on or before the horizon.
+fn is_due(claim: &ClaimFact, horizon: Day) -> bool
+    ensures { result ≡ takes_part horizon claim.now }
+{
+    matches!(claim.status, Status::Confirmed)
+        && 1 <= claim.left
+        && claim.due.number() <= horizon.number()
+}
+
+// Adds a claim that takes part, and its firms to the parties where they are not among them.
+fn add_claim(
+    parties: &mut Vec<Party>,
+    due: &mut Vec<CutClaim>,
+    accounts: &[AccountFact],
+    kind: Kind,
+    claim: &ClaimFact,
+) -> Result<(), AllocError>
+    requires limits { All KeepsLimits accounts.now }
+    requires few { vec_len parties.old + 1 < 2 ^ 32 }
+    ensures parties { OnOk result (parties.new.items ≡ with_parties_of accounts.now kind claim.now parties.old.items) }
+    ensures due { OnOk result (due.new.items ≡ due.old.items ++ placed parties.new.items claim.now ∷ []) }
+    ensures len { vec_len parties.new ≤ vec_len parties.old + 2 }
+{
+    let debtor = place_of(parties, accounts, kind, &claim.debtor)?;
+    let creditor = place_of(parties, accounts, kind, &claim.key.creditor)?;
+    due.push(CutClaim {
+        key: claim.key,
+        debtor,
+        creditor,
+        amount: claim.left,
+    })?;
+    Ok(())
+}
