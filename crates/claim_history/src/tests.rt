@@ -1,8 +1,8 @@
 ghost use Rattle.claim_history.specs.History.{IsLegal, AreValid};
 
 use crate::{
-    Act, Day, Entry, Position, Reply, Why, accepted, legal_history_grows, limits_hold,
-    plain_answer, state_is_of_the_history, write_act,
+    Act, Day, Entry, Position, Reply, Why, accepted, full_register_refuses_claims,
+    legal_history_grows, limits_hold, plain_answer, state_is_of_the_history, write_act,
 };
 use setoff_model::{Key, Name};
 use std::alloc::{AllocError, Global};
@@ -97,6 +97,7 @@ fn ask(history: &mut Vec<Entry>, act: Act) -> Result<(), AllocError>
         return Ok(());
     }
     legal_history_grows();
+    full_register_refuses_claims();
     let reply = plain_answer(history, 1, &act);
     history.push(Entry {
         caller: 1,
