@@ -1,4 +1,5 @@
 pub mod Texts
+pub mod Printing
 pub mod Serving
 pub mod Writing
 pub mod Headline

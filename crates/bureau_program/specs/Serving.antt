@@ -1,40 +1,68 @@
 -- Requests served by one lane.
-use Rattle.std.specs.Prelude.{◌≡◌, ℕ, Bool, true, false, List, [], ◌∷◌, ◌++◌, if◌then◌else◌}
-use Rattle.std.specs.List.{flat_map, list_all}
+use Rattle.std.specs.Prelude.{◌≡◌, ℕ, Bool, true, false, List, [], ◌∷◌, ◌++◌, Some, if◌then◌else◌}
+use Rattle.std.specs.List.{list_all}
+use Rattle.setoff_model.specs.CutView.{OutcomeView, obligations}
+use Rattle.setoff_model.specs.Setoff.{Proves, IsOldestFirst, total_of}
+use Rattle.claim_history.specs.declared.act.Act.{Act}
+use Rattle.claim_history.specs.declared.act.Act.TheVariants as act
 use Rattle.claim_history.specs.declared.entry.Entry.{Entry}
-use Rattle.claim_history.specs.History.{IsLegal}
+use Rattle.claim_history.specs.declared.entry.Reply.TheVariants as reply
+use Rattle.claim_history.specs.States.{OpenRound, state_of}
+use Rattle.claim_history.specs.History.{IsLegal, is_accepted}
 use Rattle.request_text.specs.declared.request.Request.{Request}
-use Rattle.statement_text.specs.Entries.{entry_line}
-use Rattle.bureau_program.specs.Texts.{memory_line}
+use Rattle.bureau_program.specs.Printing.{printed_of}
 
--- each request is marked as served, and has one entry, or as not served for want of memory, and has none
-abbrev pub IsServed : List Request → List Bool → List Entry → Type 0
-IsServed [] [] [] = Unit {0}
-IsServed [] [] (entry ∷ entries) = ⊥
-IsServed [] (mark ∷ marks) entries = ⊥
-IsServed (request ∷ requests) [] entries = ⊥
-IsServed (request ∷ requests) (false ∷ marks) entries = IsServed requests marks entries
-IsServed (request ∷ requests) (true ∷ marks) [] = ⊥
-IsServed (request ∷ requests) (true ∷ marks) (entry ∷ entries) = (entry.caller ≡ request.lane) × (entry.act ≡ request.act) × IsServed requests marks entries
+-- the caller's call of the act
+pub record IsCall (caller : ℕ) (a : Act) (e : Entry) : Type 0 where
+  pub by : e.caller ≡ caller
+  pub asks : e.act ≡ a
 
--- what one request adds to the entries: one entry, or nothing
-abbrev pub AddsOne : List Entry → List Entry → Request → Bool → Type 0
-AddsOne old new request true = (entry : Entry) × (new ≡ old ++ entry ∷ []) × (entry.caller ≡ request.lane) × (entry.act ≡ request.act)
-AddsOne old new request false = new ≡ old
+-- the act is a Close
+abbrev pub is_close : Act → Bool
+is_close (act.Close kind horizon) = true
+is_close _ = false
 
--- the line of a request that was not served
-abbrev pub unserved_line : Request → Bool → List ℕ
-unserved_line request true = []
-unserved_line request false = memory_line request.line
+-- a call that is refused, or of another verb than Close
+abbrev pub EndsAtOnce : Act → Entry → Type 0
+EndsAtOnce (act.Close kind horizon) e = is_accepted e ≡ false
+EndsAtOnce _ e = Unit {0}
 
-abbrev pub unserved_text : List Request → List Bool → List ℕ
-unserved_text [] marks = []
-unserved_text (request ∷ requests) [] = []
-unserved_text (request ∷ requests) (mark ∷ marks) = unserved_line request mark ++ unserved_text requests marks
+-- an accepted Close
+pub record IsAcceptedCall (caller : ℕ) (a : Act) (e : Entry) : Type 0 where
+  pub call : IsCall caller a e
+  pub closes : is_close a ≡ true
+  pub accepted : is_accepted e ≡ true
 
--- the entries in order, then a line for each request that was not served
-abbrev pub printed_of : List Request → List Bool → List Entry → List ℕ
-printed_of requests marks entries = flat_map entry_line entries ++ unserved_text requests marks
+-- the caller's publication of the round that is open after a history: its prices prove its discharges for the round's cut, and
+-- the claims of one debtor and one creditor are discharged oldest first
+pub record IsPublicationAfter (history : List Entry) (caller : ℕ) (e : Entry) : Type 0 where
+  pub round : OpenRound
+  pub outcome : OutcomeView
+  pub was_open : (state_of history).open_round ≡ Some round
+  pub call : IsCall caller (act.Publish round.cut.round outcome) e
+  pub reply_is : e.reply ≡ reply.Published (total_of outcome.discharges)
+  pub proved : Proves (obligations round.cut) outcome.discharges outcome.prices
+  pub oldest_first : IsOldestFirst (obligations round.cut) outcome.discharges
+
+-- what one request adds to the entries before it. Where it was served: one entry or, where it is a Close that is accepted, this
+-- and the publication of its round. Where it was not, for want of memory: nothing, or a Close alone that is accepted
+pub data Adds (before : List Entry) (caller : ℕ) (a : Act) : Bool → List Entry → Type 0 where
+  replied : (e : Entry) → IsCall caller a e → EndsAtOnce a e → Adds before caller a true (e ∷ [])
+  published : (e publication : Entry) → IsAcceptedCall caller a e → IsPublicationAfter (before ++ e ∷ []) caller publication → Adds before caller a true (e ∷ publication ∷ [])
+  unserved : Adds before caller a false []
+  left_open : (e : Entry) → IsAcceptedCall caller a e → Adds before caller a false (e ∷ [])
+
+-- the entries after one request, from those before it
+pub record IsAnswered (before after : List Entry) (caller : ℕ) (a : Act) (mark : Bool) : Type 0 where
+  pub added : List Entry
+  pub parts : after ≡ before ++ added
+  pub adds : Adds before caller a mark added
+
+-- each request in turn is marked as served or not, and adds its entries
+pub data IsServed : List Request → List Bool → List Entry → Type 0 where
+  none : IsServed [] [] []
+  one_more : (requests : List Request) (marks : List Bool) (before after : List Entry) (request : Request) (mark : Bool) → IsServed requests marks before → IsAnswered before after request.lane request.act mark
+      → IsServed (requests ++ request ∷ []) (marks ++ mark ∷ []) after
 
 -- 9 where a request was not served, else 0
 abbrev pub end_status : List Bool → ℕ

@@ -1,8 +1,10 @@
 pub mod Names
 pub mod Places
+pub mod Known
 pub mod Sound
 pub mod Tables
 pub mod Balances
+pub mod Flowing
 pub mod Books
 pub mod Lookups
 pub mod Found

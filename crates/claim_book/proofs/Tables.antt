@@ -1,7 +1,7 @@
 -- The tables of a history with one more accepted act.
 use Rattle.std.specs.Prelude.{map, reverse, filter_map, is_some, if◌then◌else◌, ℤ, pos, ◌+ℤ◌, ◌-ℤ◌}
 use Rattle.std.specs.List.{list_any}
-use Rattle.std.proofs.Common.{◌≡◌, ℕ, ◌+◌, ◌-◌, Bool, true, false, List, [], ◌∷◌, ◌++◌, All, refl, sym, ◌∙◌, ap, ap₂, true≢false, arith}
+use Rattle.std.proofs.Common.{◌≡◌, ℕ, ◌+◌, ◌-◌, Bool, true, false, List, [], ◌∷◌, ◌++◌, All, sum, sum_by, refl, sym, ◌∙◌, ap, ap₂, true≢false, arith}
 use Rattle.std.proofs.lemmas.Int.{ints}
 use Rattle.std.proofs.lemmas.Bool.{or_parts}
 use Rattle.std.proofs.lemmas.List.{reverse-append, map_push}
@@ -18,11 +18,16 @@ use Rattle.claim_history.specs.declared.fact.Status.{Status}
 use Rattle.claim_history.specs.declared.fact.Status.TheVariants as status
 use Rattle.claim_history.specs.declared.fact.ClaimFact.{ClaimFact}
 use Rattle.claim_history.specs.Facts.{Ledger, Filing, firms, is_registered, filings, filing_of, received_by, received, claim_fact, claim_facts, gained_by, gained, spent_by, spent, account_fact, account_facts}
-use Rattle.claim_history.specs.History.{State, with_act, answer, Refusals, refused_or, is_no_refusal, firm_refusals, file_refusals}
+use Rattle.claim_history.specs.States.{State, with_act}
+use Rattle.claim_history.specs.History.{answer, Refusals, refused_or, is_no_refusal, firm_refusals, file_refusals}
 use Rattle.claim_history.specs.declared.entry.Reply.TheVariants as reply
 use Rattle.claim_history.proofs.Rows.{NoneApplies}
 use Rattle.claim_book.specs.Tables.{funded, drawn, limited, offered, accounts_after, with_status, with_receipt, new_claim, claims_after}
 use Rattle.claim_book.proofs.Names.{name_flip, key_same, key_flip}
+use Rattle.setoff_model.specs.CutView.{OutcomeView}
+use Rattle.claim_history.specs.Acts.{is_publication}
+use Rattle.claim_history.specs.Facts.{Settled, amount_of, discharged, discharge_of, discharged_to, discharged_by}
+use Rattle.claim_book.specs.Settling.{settled_claim, settled_account}
 use Rattle.claim_book.proofs.Places.{found_any, map_map}
 use Rattle.claim_book.proofs.Sound.{IsSound, fund_other, draw_other, limit_other, offer_other}
 
@@ -34,11 +39,14 @@ more g a s n e = omega (arith, ints, e)
 less : (g a s n : ℕ) → n ≡ a + s → (pos g -ℤ pos s) -ℤ pos a ≡ pos g -ℤ pos n
 less g a s n e = omega (arith, ints, e)
 
+more_whole : (a : ℕ) (xs : List ℕ) (n : ℕ) → sum (a ∷ xs) + n ≡ a + (sum xs + n)
+more_whole a xs n = omega (arith, sum_by-cons (λ x. x) a xs)
+
 gains : (l : Ledger) (firm g : List ℕ) (amount : ℕ) → same_name g firm ≡ true → gained (with_act (act.Fund firm amount) l) g ≡ amount + gained l g
-gains l firm g amount e = rw e (sum_by-cons (λ x. x) amount (filter_map (gained_by g) l.acts))
+gains l firm g amount e = rw e (more_whole amount (filter_map (gained_by g) l.acts) (sum_by (discharged_to g) l.rounds))
 
 spends : (l : Ledger) (firm g : List ℕ) (amount : ℕ) → same_name g firm ≡ true → spent (with_act (act.Draw firm amount) l) g ≡ amount + spent l g
-spends l firm g amount e = rw e (sum_by-cons (λ x. x) amount (filter_map (spent_by g) l.acts))
+spends l firm g amount e = rw e (more_whole amount (filter_map (spent_by g) l.acts) (sum_by (discharged_by g) l.rounds))
 
 fund_row : (l : Ledger) (firm : List ℕ) (amount : ℕ) (g : List ℕ) (b : Bool) → same_name firm g ≡ b → funded firm amount (account_fact l g) ≡ account_fact (with_act (act.Fund firm amount) l) g
 fund_row l firm amount g true e =
@@ -74,8 +82,8 @@ withdraw_row : (l : Ledger) (key : Key) (f : Filing) (b : Bool) → same_key key
 withdraw_row l key f true e = let flipped : same_key f.key key ≡ true = key_flip f.key key ∙ e in rw (e, flipped) refl
 withdraw_row l key f false e = let flipped : same_key f.key key ≡ false = key_flip f.key key ∙ e in rw (e, flipped) refl
 
-receives : (l : Ledger) (key k : Key) (amount : ℕ) → same_key k key ≡ true → received (with_act (act.Receive key amount) l) k ≡ amount + received l k
-receives l key k amount e = rw e (sum_by-cons (λ x. x) amount (filter_map (received_by k) l.acts))
+receives : (l : Ledger) (key k : Key) (amount : ℕ) → same_key k key ≡ true → received (with_act (act.Receive key amount) l) k + discharged l k ≡ amount + (received l k + discharged l k)
+receives l key k amount e = rw e (more_whole amount (filter_map (received_by k) l.acts) (discharged l k))
 
 less_left : (whole r a n : ℕ) → n ≡ a + r → (whole - r) - a ≡ whole - n
 less_left whole r a n e = omega (arith, e)
@@ -83,7 +91,7 @@ less_left whole r a n e = omega (arith, e)
 receive_row : (l : Ledger) (key : Key) (amount : ℕ) (f : Filing) (b : Bool) → same_key key f.key ≡ b → with_receipt key amount (claim_fact l f) ≡ claim_fact (with_act (act.Receive key amount) l) f
 receive_row l key amount f true e =
     let m = with_act (act.Receive key amount) l in
-    rw e (ap (λ (n : ℕ). record (claim_fact l f) { left = n }) (less_left _ (received l f.key) amount (received m f.key) (receives l key f.key amount (key_flip f.key key ∙ e))))
+    rw e (ap (λ (n : ℕ). record (claim_fact l f) { left = n }) (less_left _ (received l f.key + discharged l f.key) amount (received m f.key + discharged l f.key) (receives l key f.key amount (key_flip f.key key ∙ e))))
 receive_row l key amount f false e = let flipped : same_key f.key key ≡ false = key_flip f.key key ∙ e in rw (e, flipped) refl
 
 -- ---- one more row
@@ -115,10 +123,13 @@ with_facts c to left = record c { status = to; left = left }
 whole : (amount r : ℕ) → r ≡ 0 → amount - r ≡ amount
 whole amount r e = omega (arith, e)
 
+both_zero : (r d : ℕ) → r ≡ 0 → d ≡ 0 → r + d ≡ 0
+both_zero r d e f = omega (arith, e, f)
+
 file_new : (l : Ledger) (key : Key) (debtor : List ℕ) (amount due : ℕ) → IsSound l → is_some (filing_of l key) ≡ false
     → claim_fact (with_act (act.File key debtor amount due) l) (filing key debtor amount due) ≡ new_claim key debtor amount due
 file_new l key debtor amount due inv none =
-    rw (key_same key) (ap₂ (with_facts (new_claim key debtor amount due)) (inv.3 key none).0 (whole amount (received l key) (inv.3 key none).1))
+    rw (key_same key) (ap₂ (with_facts (new_claim key debtor amount due)) (inv.3 key none).0 (whole amount (received l key + discharged l key) (both_zero _ _ (inv.3 key none).1 (inv.3 key none).2)))
 
 file_table : (l : Ledger) (key : Key) (debtor : List ℕ) (amount due : ℕ) → IsSound l → is_some (filing_of l key) ≡ false
     → claim_facts (with_act (act.File key debtor amount due) l) ≡ claims_after (act.File key debtor amount due) (claim_facts l)
@@ -143,24 +154,68 @@ none_applies [] otherwise good = tt
 none_applies (row ∷ rows) otherwise good =
     let parts = not_refused row.0 row.1 (refused_or rows otherwise) good in (parts.0, none_applies rows otherwise parts.1)
 
-pub tables : (s : State) (caller : ℕ) (a : Act) → IsSound s.ledger → is_no_refusal (answer s caller a) ≡ true
+pub tables : (s : State) (caller : ℕ) (a : Act) → is_publication a ≡ false → IsSound s.ledger → is_no_refusal (answer s caller a) ≡ true
     → (account_facts (with_act a s.ledger) ≡ accounts_after a (account_facts s.ledger)) × (claim_facts (with_act a s.ledger) ≡ claims_after a (claim_facts s.ledger))
-tables s caller (act.Firm firm) inv good = (firm_table s.ledger firm inv (none_applies (firm_refusals s firm) reply.Done good).0, refl)
-tables s caller (act.File key debtor amount due) inv good = (refl, file_table s.ledger key debtor amount due inv (none_applies (file_refusals s key debtor) reply.Done good).1.1.0)
-tables s caller (act.Confirm key debtor) inv good =
+tables s caller (act.Firm firm) apart inv good = (firm_table s.ledger firm inv (none_applies (firm_refusals s firm) reply.Done good).0, refl)
+tables s caller (act.File key debtor amount due) apart inv good = (refl, file_table s.ledger key debtor amount due inv (none_applies (file_refusals s key debtor) reply.Done good).1.1.0)
+tables s caller (act.Confirm key debtor) apart inv good =
     (refl, sym (map_map (with_status key status.Confirmed) (claim_fact s.ledger) (claim_fact (with_act (act.Confirm key debtor) s.ledger)) (reverse (filings s.ledger)) (λ f. confirm_row s.ledger key debtor f (same_key key f.key) refl)))
-tables s caller (act.Dispute key debtor) inv good =
+tables s caller (act.Dispute key debtor) apart inv good =
     (refl, sym (map_map (with_status key status.Disputed) (claim_fact s.ledger) (claim_fact (with_act (act.Dispute key debtor) s.ledger)) (reverse (filings s.ledger)) (λ f. dispute_row s.ledger key debtor f (same_key key f.key) refl)))
-tables s caller (act.Withdraw key) inv good =
+tables s caller (act.Withdraw key) apart inv good =
     (refl, sym (map_map (with_status key status.Withdrawn) (claim_fact s.ledger) (claim_fact (with_act (act.Withdraw key) s.ledger)) (reverse (filings s.ledger)) (λ f. withdraw_row s.ledger key f (same_key key f.key) refl)))
-tables s caller (act.Receive key amount) inv good =
+tables s caller (act.Receive key amount) apart inv good =
     (refl, sym (map_map (with_receipt key amount) (claim_fact s.ledger) (claim_fact (with_act (act.Receive key amount) s.ledger)) (reverse (filings s.ledger)) (λ f. receive_row s.ledger key amount f (same_key key f.key) refl)))
-tables s caller (act.Fund firm amount) inv good =
+tables s caller (act.Fund firm amount) apart inv good =
     (sym (map_map (funded firm amount) (account_fact s.ledger) (account_fact (with_act (act.Fund firm amount) s.ledger)) (reverse (firms s.ledger)) (λ g. fund_row s.ledger firm amount g (same_name firm g) refl)), refl)
-tables s caller (act.Draw firm amount) inv good =
+tables s caller (act.Draw firm amount) apart inv good =
     (sym (map_map (drawn firm amount) (account_fact s.ledger) (account_fact (with_act (act.Draw firm amount) s.ledger)) (reverse (firms s.ledger)) (λ g. draw_row s.ledger firm amount g (same_name firm g) refl)), refl)
-tables s caller (act.Limit firm credit ceiling) inv good =
+tables s caller (act.Limit firm credit ceiling) apart inv good =
     (sym (map_map (limited firm credit ceiling) (account_fact s.ledger) (account_fact (with_act (act.Limit firm credit ceiling) s.ledger)) (reverse (firms s.ledger)) (λ g. limit_row s.ledger firm credit ceiling g (same_name firm g) refl)), refl)
-tables s caller (act.Offer firm amount) inv good =
+tables s caller (act.Offer firm amount) apart inv good =
     (sym (map_map (offered firm amount) (account_fact s.ledger) (account_fact (with_act (act.Offer firm amount) s.ledger)) (reverse (firms s.ledger)) (λ g. offer_row s.ledger firm amount g (same_name firm g) refl)), refl)
-tables s caller (act.Position firm) inv good = (refl, refl)
+tables s caller (act.Position firm) apart inv good = (refl, refl)
+tables s caller (act.Close kind horizon) apart inv good = (refl, refl)
+tables s caller (act.Abandon) apart inv good = (refl, refl)
+tables s caller (act.Publish number outcome) apart inv good = absurd (true≢false apart)
+
+-- ---- a publication
+
+settled_left : (whole paid d n : ℕ) → n ≡ d + paid → (whole - paid) - d ≡ whole - n
+settled_left whole paid d n e = omega (arith, e)
+
+paid_more : (r d old n : ℕ) → n ≡ d + old → r + n ≡ d + (r + old)
+paid_more r d old n e = omega (arith, e)
+
+abbrev pub settled_with : Act → Settled → Ledger → Ledger
+settled_with a new l = record { acts = a ∷ l.acts; rounds = new ∷ l.rounds }
+
+claim_settled : (l : Ledger) (number : ℕ) (outcome : OutcomeView) (new : Settled) (f : Filing) → settled_claim new (claim_fact l f) ≡ claim_fact (settled_with (act.Publish number outcome) new l) f
+claim_settled l number outcome new f =
+    ap (λ (n : ℕ). record (claim_fact l f) { left = n })
+    (settled_left (amount_of (filing_of l f.key)) (received l f.key + discharged l f.key) (discharge_of f.key new) (received l f.key + sum_by (discharge_of f.key) (new ∷ l.rounds))
+    (paid_more (received l f.key) (discharge_of f.key new) (discharged l f.key) (sum_by (discharge_of f.key) (new ∷ l.rounds)) (sum_by-cons (discharge_of f.key) new l.rounds)))
+
+settled_balance : (g s i o m n : ℕ) → m ≡ i + g → n ≡ o + s → ((pos g -ℤ pos s) +ℤ pos i) -ℤ pos o ≡ pos m -ℤ pos n
+settled_balance g s i o m n e f = omega (arith, ints, e, f)
+
+one_more_round : (funds i old n : ℕ) → n ≡ i + old → funds + n ≡ i + (funds + old)
+one_more_round funds i old n e = omega (arith, e)
+
+account_settled : (l : Ledger) (number : ℕ) (outcome : OutcomeView) (new : Settled) (g : List ℕ) → settled_account new (account_fact l g) ≡ account_fact (settled_with (act.Publish number outcome) new l) g
+account_settled l number outcome new g =
+    let m = settled_with (act.Publish number outcome) new l in
+    ap (λ (z : ℤ). record (account_fact l g) { balance = z })
+    (settled_balance (gained l g) (spent l g) (discharged_to g new) (discharged_by g new) (gained m g) (spent m g)
+    (one_more_round _ (discharged_to g new) (sum_by (discharged_to g) l.rounds) (sum_by (discharged_to g) (new ∷ l.rounds)) (sum_by-cons (discharged_to g) new l.rounds))
+    (one_more_round _ (discharged_by g new) (sum_by (discharged_by g) l.rounds) (sum_by (discharged_by g) (new ∷ l.rounds)) (sum_by-cons (discharged_by g) new l.rounds)))
+
+-- the rows after a publication
+pub settled_tables : (l : Ledger) (number : ℕ) (outcome : OutcomeView) (new : Settled)
+    → (account_facts (settled_with (act.Publish number outcome) new l) ≡ map (settled_account new) (account_facts l)) × (claim_facts (settled_with (act.Publish number outcome) new l) ≡ map (settled_claim new) (claim_facts l))
+settled_tables l number outcome new =
+    let m = settled_with (act.Publish number outcome) new l in
+    (
+      sym (map_map (settled_account new) (account_fact l) (account_fact m) (reverse (firms l)) (account_settled l number outcome new)),
+      sym (map_map (settled_claim new) (claim_fact l) (claim_fact m) (reverse (filings l)) (claim_settled l number outcome new)),
+    )

@@ -1,13 +1,20 @@
 -- What a book holds, and what it finds of a name.
-use Rattle.std.specs.Prelude.{◌≡◌, ℕ, List, Option, Some, None, if◌then◌else◌}
+use Rattle.std.specs.Prelude.{◌≡◌, ℕ, Bool, List, Option, Some, None, is_some, true, false, if◌then◌else◌}
 use Rattle.std.specs.Option.{option_map}
 use Rattle.setoff_model.specs.declared.name.Key.{Key}
+use Rattle.setoff_model.specs.CutView.{CutView}
+use Rattle.claim_history.specs.declared.act.Act.{Act}
+use Rattle.claim_history.specs.declared.act.Act.TheVariants as act
 use Rattle.claim_history.specs.declared.entry.Entry.{Entry}
+use Rattle.claim_history.specs.declared.entry.Reply.{Reply}
+use Rattle.claim_history.specs.declared.entry.Reply.TheVariants as reply
+use Rattle.claim_book.specs.declared.round.KeptRound.{KeptRound}
 use Rattle.claim_history.specs.declared.fact.Position.{Position}
 use Rattle.claim_history.specs.declared.fact.ClaimFact.{ClaimFact}
 use Rattle.claim_history.specs.declared.fact.AccountFact.{AccountFact}
 use Rattle.claim_history.specs.Facts.{Ledger, is_registered, filing_of, claim_fact, claim_facts, account_fact, account_facts, position_of}
-use Rattle.claim_history.specs.History.{state_of, IsLegal, AreValid}
+use Rattle.claim_history.specs.States.{OpenRound, State, state_of}
+use Rattle.claim_history.specs.History.{is_accepted, IsLegal, AreValid}
 
 -- a history, and how many entries may be put at its end without taking memory
 pub record BookView : Type 0 where
@@ -18,12 +25,43 @@ pub record BookView : Type 0 where
 abbrev pub ledger_of : List Entry → Ledger
 ledger_of history = (state_of history).ledger
 
--- the history is legal, and the tables are what it says of claims and accounts
-pub record IsBook (entries : List Entry) (claims : List ClaimFact) (accounts : List AccountFact) : Type 0 where
+-- the open round as a book keeps it
+abbrev pub round_kept : Option KeptRound → Option OpenRound
+round_kept None = None
+round_kept (Some kept) = Some (record { owner = kept.owner; horizon = kept.horizon; cut = kept.cut })
+
+-- the history is legal, and the tables, the number of openings and the open round are what it comes to
+pub record IsBook (entries : List Entry) (claims : List ClaimFact) (accounts : List AccountFact) (openings : ℕ) (kept : Option KeptRound) : Type 0 where
   pub legal : IsLegal entries
   pub valid : AreValid entries
   pub claims_are : claims ≡ claim_facts (ledger_of entries)
   pub accounts_are : accounts ≡ account_facts (ledger_of entries)
+  pub openings_are : openings ≡ (state_of entries).openings
+  pub round_is : round_kept kept ≡ (state_of entries).open_round
+
+-- the reply abandons the open round
+abbrev pub is_abandoned : Reply → Bool
+is_abandoned (reply.Abandoned round) = true
+is_abandoned _ = false
+
+-- the act is a Close
+abbrev pub IsClose : Act → Type 0
+IsClose (act.Close kind horizon) = Unit {0}
+IsClose _ = ⊥
+
+-- for how many entries an act needs room: its own and, where a round is open or the act may open one, a publication
+abbrev pub room_for : State → Act → ℕ
+room_for s (act.Close kind horizon) = 2
+room_for s a = if is_some s.open_round then 2 else 1
+
+-- the cut of the open round
+abbrev pub open_cut_of : List Entry → Option CutView
+open_cut_of history = option_map (λ round. round.cut) (state_of history).open_round
+
+-- what a publication gives: the cut of the round that was open where its entry is accepted, else nothing
+abbrev pub GivesCut : Option OpenRound → Entry → Option CutView → Type 0
+GivesCut open_round e None = is_accepted e ≡ false
+GivesCut open_round e (Some cut) = (is_accepted e ≡ true) × ((round : OpenRound) × (open_round ≡ Some round) × (cut ≡ round.cut))
 
 -- the claim of this key, where one was filed
 abbrev pub claim_in : Ledger → Key → Option ClaimFact

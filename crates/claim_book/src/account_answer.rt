@@ -1,8 +1,10 @@
 //! The one reply to an act on a firm or its account.
 ghost use Rattle.std.specs.Prelude.{◌≡◌, ◌↔◌, pos, neg_ℤ, ◌+ℤ◌, ◌-ℤ◌, ◌<ℤ◌, IsTrue};
 ghost use Rattle.claim_history.specs.Facts.{is_registered, position_of};
-ghost use Rattle.claim_history.specs.History.{state_of, refused_or, firm_refusals, fund_refusals, draw_refusals, limit_refusals, offer_refusals, position_refusals};
+ghost use Rattle.claim_history.specs.States.{state_of};
+ghost use Rattle.claim_history.specs.History.{refused_or, firm_refusals, fund_refusals, draw_refusals, limit_refusals, offer_refusals, position_refusals};
 ghost use Rattle.claim_history.specs.Laws.{IsWithin};
+ghost use Rattle.claim_history.specs.History.{frozen as frozen_why};
 ghost use Rattle.claim_history.specs.declared.entry.Reply.TheVariants.{Done};
 ghost use Rattle.claim_history.specs.declared.entry.Reply.TheVariants as reply;
 ghost use Rattle.claim_book.specs.Book.{ledger_of};
@@ -37,6 +39,7 @@ pub fn answer_fund(book: &Book, firm: &Name, amount: u64) -> Reply
 {
     match book.account(*firm) {
         None => Reply::Refused(Why::UnknownFirm),
+        Some(_) if book.is_held(firm) => frozen(book),
         Some(account) if over_ceiling(&account, amount) => Reply::Refused(Why::OverCeiling),
         Some(_) => Reply::Done,
     }
@@ -48,6 +51,7 @@ pub fn answer_draw(book: &Book, firm: &Name, amount: u64) -> Reply
 {
     match book.account(*firm) {
         None => Reply::Refused(Why::UnknownFirm),
+        Some(_) if book.is_held(firm) => frozen(book),
         Some(account) if below_floor(&account, amount) => Reply::Refused(Why::BelowFloor),
         Some(_) => Reply::Done,
     }
@@ -59,6 +63,7 @@ pub fn answer_limit(book: &Book, firm: &Name, credit: u64, ceiling: u64) -> Repl
 {
     match book.account(*firm) {
         None => Reply::Refused(Why::UnknownFirm),
+        Some(_) if book.is_held(firm) => frozen(book),
         Some(account) if within_limits(&account, credit, ceiling) => Reply::Done,
         Some(_) => Reply::Refused(Why::LimitsExcludeBalance),
     }
@@ -68,10 +73,12 @@ pub fn answer_limit(book: &Book, firm: &Name, credit: u64, ceiling: u64) -> Repl
 pub fn answer_offer(book: &Book, firm: &Name) -> Reply
     ensures { result ≡ refused_or (offer_refusals (state_of book.now.history) firm.now) Done }
 {
-    if is_firm(book, firm) {
-        Reply::Done
-    } else {
+    if !is_firm(book, firm) {
         Reply::Refused(Why::UnknownFirm)
+    } else if book.is_held(firm) {
+        frozen(book)
+    } else {
+        Reply::Done
     }
 }
 
@@ -83,6 +90,15 @@ pub fn answer_position(book: &Book, firm: &Name) -> Reply
         None => Reply::Refused(Why::UnknownFirm),
         Some(position) => Reply::Position(position),
     }
+}
+
+// The open round holds it.
+fn frozen(book: &Book) -> Reply
+    ensures { result ≡ reply.Refused (frozen_why (state_of book.now.history)) }
+{
+    Reply::Refused(Why::Frozen {
+        round: book.open_number(),
+    })
 }
 
 // Whether the balance with the amount is above the ceiling.

@@ -5,9 +5,8 @@ ghost use Rattle.claim_history.specs.Acts.{is_valid};
 ghost use Rattle.claim_history.specs.History.{is_accepted};
 ghost use Rattle.claim_book.specs.Tables.{new_account, funded, drawn, limited, offered, accounts_after, FirmsOnce, AreSmall};
 
-use crate::same::same_names;
 use claim_history::{AccountFact, Act, Entry, accepted};
-use setoff_model::Name;
+use setoff_model::{Name, same_names};
 
 /// The place of a firm's account; None where the firm has none.
 pub fn account_place(accounts: &[AccountFact], firm: &Name) -> Option<usize>
@@ -56,7 +55,10 @@ pub fn change_accounts(accounts: &mut Vec<AccountFact>, entry: &Entry)
         | Act::Dispute { .. }
         | Act::Withdraw { .. }
         | Act::Receive { .. }
-        | Act::Position { .. } => {}
+        | Act::Position { .. }
+        | Act::Close { .. }
+        | Act::Abandon
+        | Act::Publish { .. } => {}
     }
 }
 

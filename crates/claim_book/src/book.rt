@@ -1,10 +1,15 @@
 //! A history with its claims and accounts.
-ghost use Rattle.std.specs.Prelude.{◌≡◌, ◌+◌, ◌≤◌, ◌++◌, ◌∷◌, [], OnOk, OnErr, true, All};
+ghost use Rattle.std.specs.Prelude.{ℕ, ◌≡◌, ◌<◌, ◌+◌, ◌≤◌, ◌++◌, ◌∷◌, [], length, IfOk, OnOk, OnErr, vec_len, vec_capacity, true, false, All};
+ghost use Rattle.std.specs.Option.{option_map};
+ghost use Rattle.setoff_model.specs.declared.kind.Kind.{Kind};
+ghost use Rattle.claim_history.specs.declared.act.Act.TheVariants as act;
 ghost use Rattle.claim_history.specs.Facts.{claim_facts, account_facts};
-ghost use Rattle.claim_history.specs.History.{answer_of, IsLegal, AreValid};
-ghost use Rattle.claim_history.specs.Acts.{is_valid};
-ghost use Rattle.claim_history.specs.Laws.{KeepLimits, KeepAmounts, IsWithin};
-ghost use Rattle.claim_book.specs.Book.{ledger_of, claim_in, account_in, position_in};
+ghost use Rattle.claim_history.specs.Cut.{cut_of};
+ghost use Rattle.claim_history.specs.States.{OpenRound, state_of, number_of, is_in_cut, is_held};
+ghost use Rattle.claim_history.specs.History.{answer_of, IsLegal, AreValid, MayFollow, is_accepted, is_opening};
+ghost use Rattle.claim_history.specs.Acts.{is_valid, is_publication};
+ghost use Rattle.claim_history.specs.Laws.{KeepLimits, KeepAmounts, IsWithin, OpenIsFrozen};
+ghost use Rattle.claim_book.specs.Book.{ledger_of, claim_in, account_in, position_in, room_for, open_cut_of, GivesCut};
 
 use crate::account_answer::{
     answer_draw, answer_firm, answer_fund, answer_limit, answer_offer, answer_position,
@@ -14,12 +19,17 @@ use crate::claim_answer::{
     answer_confirm, answer_dispute, answer_file, answer_receive, answer_withdraw,
 };
 use crate::claim_rows::{change_claims, find_claim, owed_by, owed_to};
-use claim_history::{AccountFact, Act, ClaimFact, Entry, Position, Reply};
-use setoff_model::{Key, Name};
+use crate::round::{
+    KeptRound, end_round, holds_claim, holds_firm, horizon_of, keep_round, outcome_in, take_cut,
+};
+use crate::round_answer::{answer_abandon, answer_close};
+use crate::settling::{settle_accounts, settle_claims};
+use claim_history::{AccountFact, Act, ClaimFact, Entry, Position, Reply, accepted};
+use setoff_model::{Cut, Key, Name};
 use std::alloc::{AllocError, Global};
 use std::marker::Model;
 
-/// The history in order of time, with each claim and each account as the history has it.
+/// The history in order of time, with each claim, each account and the open round as the history has them.
 ///
 /// The history is legal and each of its acts is valid. Beside it stands the room: how many entries may be applied
 /// without taking memory.
@@ -28,6 +38,8 @@ pub struct Book {
     entries: Vec<Entry>,
     claims: Vec<ClaimFact>,
     accounts: Vec<AccountFact>,
+    openings: u32,
+    kept: Option<KeptRound>,
 }
 
 impl Model for Book {
@@ -38,7 +50,7 @@ impl Model for Book {
 
     ghost view = { λ b. record { history = b.entries.items; room = min (vec_capacity b.entries - vec_len b.entries) (min (vec_capacity b.claims - vec_len b.claims) (vec_capacity b.accounts - vec_len b.accounts)) } };
 
-    ghost invariant = { λ b. IsBook b.entries.items b.claims.items b.accounts.items };
+    ghost invariant = { λ b. IsBook b.entries.items b.claims.items b.accounts.items b.openings b.kept };
 }
 
 impl Book {
@@ -51,31 +63,40 @@ impl Book {
             entries: Vec::new(alloc),
             claims: Vec::new(alloc),
             accounts: Vec::new(alloc),
+            openings: 0,
+            kept: None,
         }
     }
 
-    /// Makes the room that one entry of this act needs, and lowers no room that was made before.
+    /// Makes the room that one entry of this act needs and, where a round is open or the act is a Close, the room of one
+    /// publication beside it. It lowers no room that was made before.
     ///
-    /// The only error is that memory is missing. It comes only where there was no room, and leaves the history as before.
+    /// The only error is that memory is missing. It comes only where there was less room, and leaves the history as before.
     pub fn reserve(&mut self, act: &Act) -> Result<(), AllocError>
         ensures history { self.new.history ≡ self.old.history }
-        ensures room { OnOk result (1 ≤ self.new.room) }
+        ensures room { OnOk result (room_for (state_of self.old.history) act.now ≤ self.new.room) }
         ensures kept { self.old.room ≤ self.new.room }
-        ensures needed { OnErr result (self.old.room ≡ 0) }
+        ensures needed { OnErr result (self.old.room < room_for (state_of self.old.history) act.now) }
     {
-        let _ = act;
-        self.claims.reserve(1)?;
-        self.accounts.reserve(1)?;
-        self.entries.reserve(1)
+        let needed = match act {
+            Act::Close { .. } => 2,
+            _ if self.kept.is_some() => 2,
+            _ => 1,
+        };
+        self.claims.reserve(needed)?;
+        self.accounts.reserve(needed)?;
+        self.entries.reserve(needed)
     }
 
     /// The one reply of the history to a caller and an act. It takes no memory.
     ///
-    /// The refusals of the act's verb are tried in their order, and the first that applies is the reply.
+    /// The refusals of the act's verb are tried in their order, and the first that applies is the reply. The act is no
+    /// publication, and fewer than 2^32 - 1 rounds were opened.
     pub fn answer(&self, caller: u32, act: &Act) -> Reply
+        requires apart { is_publication act.now ≡ false }
+        requires few { (state_of self.now.history).openings < 4294967295 }
         ensures { result ≡ answer_of self.now.history caller act.now }
     {
-        let _ = caller;
         match act {
             Act::Firm { firm } => answer_firm(self, firm),
             Act::File { key, debtor, .. } => answer_file(self, key, debtor),
@@ -92,14 +113,47 @@ impl Book {
             } => answer_limit(self, firm, *credit, *ceiling),
             Act::Offer { firm, .. } => answer_offer(self, firm),
             Act::Position { firm } => answer_position(self, firm),
+            Act::Close { kind, horizon } => {
+                answer_close(self.openings, &self.kept, caller, *kind, horizon)
+            }
+            Act::Abandon => answer_abandon(&self.kept, caller),
+            Act::Publish { .. } => unreachable!(),
         }
     }
 
-    /// Puts an entry at the end. There is room for it, its act is valid, and its reply is that of the history. It takes no memory.
+    // Whether a claim is in the cut of the open round.
+    pub(crate) fn is_frozen(&self, key: &Key) -> bool
+        ensures { result ≡ is_in_cut (state_of self.now.history).open_round key.now }
+    {
+        holds_claim(&self.kept, key)
+    }
+
+    // Whether the open round holds the account of a firm.
+    pub(crate) fn is_held(&self, firm: &Name) -> bool
+        ensures { result ≡ is_held (state_of self.now.history).open_round firm.now }
+    {
+        holds_firm(&self.kept, firm)
+    }
+
+    // The number of the open round, 0 where none is open.
+    pub(crate) fn open_number(&self) -> u32
+        ensures { result ≡ number_of (state_of self.now.history).open_round }
+    {
+        match &self.kept {
+            None => 0,
+            Some(round) => round.cut.round(),
+        }
+    }
+
+    /// Puts an entry at the end that publishes nothing and opens no round. There is room for it, its act is valid, and it may
+    /// stand next: its reply is that of the history, or tells of a device that failed where the act would be accepted. It takes
+    /// no memory.
     pub fn apply(&mut self, entry: Entry)
-        requires room { 1 ≤ self.old.room }
+        requires room { room_for (state_of self.old.history) entry.act ≤ self.old.room }
         requires valid { is_valid entry.act ≡ true }
-        requires due { entry.reply ≡ answer_of self.old.history entry.caller entry.act }
+        requires apart { is_publication entry.act ≡ false }
+        requires no_opening { is_opening entry.reply ≡ false }
+        requires next { MayFollow self.old.history entry }
         ensures history { self.new.history ≡ self.old.history ++ entry ∷ [] }
         ensures room { self.old.room ≤ self.new.room + 1 }
     {
@@ -107,19 +161,101 @@ impl Book {
         let _act: &Act = &entry.act;
         change_claims(&mut self.claims, &entry);
         change_accounts(&mut self.accounts, &entry);
-        let _ = self.entries.push(entry);
+        end_round(&mut self.kept, entry.reply);
+        put_entry(&mut self.entries, entry);
+    }
+
+    /// Puts the entry of a Close at the end that opens a round, and keeps the cut of the round, which is that of the history so
+    /// far. The rest is as for `apply`.
+    pub fn apply_close(&mut self, entry: Entry, cut: Cut)
+        requires room { room_for (state_of self.old.history) entry.act ≤ self.old.room }
+        requires valid { is_valid entry.act ≡ true }
+        requires few { (state_of self.old.history).openings < 4294967295 }
+        requires opens { is_opening entry.reply ≡ true }
+        requires next { MayFollow self.old.history entry }
+        requires cut { (kind : Kind) (horizon : ℕ) → entry.act ≡ act.Close kind horizon → cut ≡ cut_of ((state_of self.old.history).openings + 1) (ledger_of self.old.history) kind horizon }
+        ensures history { self.new.history ≡ self.old.history ++ entry ∷ [] }
+        ensures room { self.old.room ≤ self.new.room + 1 }
+    {
+        let horizon = horizon_of(&entry.act);
+        let owner = entry.caller;
+        let round = KeptRound {
+            owner,
+            horizon,
+            cut,
+        };
+        keep_round(&mut self.kept, round);
+        self.openings += 1;
+        put_entry(&mut self.entries, entry);
+    }
+
+    /// Puts the entry of a publication at the end. Where it is accepted, claims and accounts are changed by its discharges, the
+    /// round is no longer open, and its cut is given; else None. There is room for an entry, its act is valid, and it may stand
+    /// next, as for `apply`. It takes no memory.
+    pub fn apply_publish(&mut self, entry: Entry) -> Option<Cut>
+        requires room { 1 ≤ self.old.room }
+        requires valid { is_valid entry.act ≡ true }
+        requires publishes { is_publication entry.act ≡ true }
+        requires next { MayFollow self.old.history entry }
+        ensures history { self.new.history ≡ self.old.history ++ entry ∷ [] }
+        ensures room { self.old.room ≤ self.new.room + 1 }
+        ensures cut { GivesCut (state_of self.old.history).open_round entry result }
+    {
+        if !accepted(&entry) {
+            put_entry(&mut self.entries, entry);
+            return None;
+        }
+        let cut = take_cut(&mut self.kept);
+        let discharges = outcome_in(&entry.act).discharges();
+        settle_claims(&mut self.claims, &cut, discharges);
+        settle_accounts(&mut self.accounts, &cut, discharges);
+        put_entry(&mut self.entries, entry);
+        Some(cut)
+    }
+
+    /// A copy of the cut of the open round; None exactly where no round is open. The only error is that memory is missing.
+    pub fn open_cut(&self, alloc: Global) -> Result<Option<Cut>, AllocError>
+        ensures { IfOk result (λ cut. cut ≡ open_cut_of self.now.history) }
+    {
+        let _ = alloc;
+        match &self.kept {
+            None => Ok(None),
+            Some(round) => Ok(Some(round.cut.clone()?)),
+        }
+    }
+
+    /// The number of the open round; None exactly where no round is open. It takes no memory.
+    pub fn open_round(&self) -> Option<u32>
+        ensures { result ≡ option_map (λ round. round.cut.round) (state_of self.now.history).open_round }
+    {
+        match &self.kept {
+            None => None,
+            Some(round) => Some(round.cut.round()),
+        }
+    }
+
+    /// The caller that owns the open round; None exactly where no round is open. It takes no memory.
+    pub fn owner(&self) -> Option<u32>
+        ensures { result ≡ option_map (λ round. round.owner) (state_of self.now.history).open_round }
+    {
+        match &self.kept {
+            None => None,
+            Some(round) => Some(round.owner),
+        }
     }
 
     /// The entries in order of time. It takes no memory.
     ///
-    /// The history is legal, each of its acts is valid, every account is within its limits, and no claim is received on above
-    /// its amount.
+    /// The history is legal, each of its acts is valid, every account is within its limits, no claim is received on and
+    /// discharged above its amount, and the cut of the open round is frozen. No more rounds were opened than there are entries.
     pub fn history(&self) -> &[Entry]
         ensures entries { result.now ≡ self.now.history }
         ensures legal { IsLegal self.now.history }
         ensures valid { AreValid self.now.history }
         ensures limits { KeepLimits (ledger_of self.now.history) }
         ensures amounts { KeepAmounts (ledger_of self.now.history) }
+        ensures frozen { OpenIsFrozen (state_of self.now.history) }
+        ensures openings { (state_of self.now.history).openings ≤ length self.now.history }
     {
         &self.entries
     }
@@ -171,4 +307,14 @@ impl Book {
             }),
         }
     }
+}
+
+// Puts an entry at the end of those that there is room for.
+fn put_entry(entries: &mut Vec<Entry>, entry: Entry)
+    requires { vec_len entries.old < vec_capacity entries.old }
+    ensures items { entries.new.items ≡ entries.old.items ++ entry ∷ [] }
+    ensures len { vec_len entries.new ≡ vec_len entries.old + 1 }
+    ensures capacity { vec_capacity entries.old ≤ vec_capacity entries.new }
+{
+    let _ = entries.push(entry);
 }

@@ -5,9 +5,8 @@ ghost use Rattle.claim_history.specs.Facts.{is_confirmed as confirmed};
 ghost use Rattle.claim_history.specs.History.{is_accepted};
 ghost use Rattle.claim_book.specs.Tables.{new_claim, with_status, with_receipt, claims_after, KeysOnce};
 
-use crate::same::{same_keys, same_names};
 use claim_history::{Act, ClaimFact, Day, Entry, Status, accepted};
-use setoff_model::{Key, Name};
+use setoff_model::{Key, Name, same_keys, same_names};
 
 /// The place of a claim; None where the key was never filed.
 pub fn claim_place(claims: &[ClaimFact], key: &Key) -> Option<usize>
@@ -83,7 +82,10 @@ pub fn change_claims(claims: &mut Vec<ClaimFact>, entry: &Entry)
         | Act::Draw { .. }
         | Act::Limit { .. }
         | Act::Offer { .. }
-        | Act::Position { .. } => {}
+        | Act::Position { .. }
+        | Act::Close { .. }
+        | Act::Abandon
+        | Act::Publish { .. } => {}
     }
 }
 

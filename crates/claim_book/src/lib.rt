@@ -6,7 +6,9 @@ mod account_rows;
 mod book;
 mod claim_answer;
 mod claim_rows;
-mod same;
+mod round;
+mod round_answer;
+mod settling;
 
 pub use book::Book;
 

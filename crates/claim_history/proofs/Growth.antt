@@ -3,10 +3,12 @@ use Rattle.std.specs.Prelude.{reverse}
 use Rattle.std.proofs.Common.{◌≡◌, ℕ, List, [], ◌∷◌, ◌++◌, refl, sym, ◌∙◌, ap, subst}
 use Rattle.std.proofs.lemmas.List.{reverse-append, reverse-reverse, append-nil}
 use Rattle.claim_history.specs.declared.act.Act.{Act}
+use Rattle.claim_history.specs.declared.act.Act.TheVariants as act
 use Rattle.claim_history.specs.declared.entry.Reply.{Reply}
 use Rattle.claim_history.specs.declared.entry.Reply.TheVariants as reply
 use Rattle.claim_history.specs.declared.entry.Entry.{Entry}
-use Rattle.claim_history.specs.History.{state, accepted_acts, IsLegalPast, Call, ask, replay_after}
+use Rattle.claim_history.specs.States.{State, open_as, state}
+use Rattle.claim_history.specs.History.{answer_of, MayFollow, Call, IsLegalPast, accepted_acts, ask, replay_after, replied}
 use Rattle.claim_history.specs.Laws.{ActsLaw, GrowthLaw, ReplayLaw}
 
 -- ---- the acts of the state
@@ -14,8 +16,13 @@ use Rattle.claim_history.specs.Laws.{ActsLaw, GrowthLaw, ReplayLaw}
 abbrev entry_of : ℕ → Act → Reply → Entry
 entry_of caller a r = record { caller = caller; act = a; reply = r }
 
+open_acts : (caller : ℕ) (a : Act) (s : State) → (open_as caller a s).ledger.acts ≡ a ∷ s.ledger.acts
+open_acts caller (act.Close kind horizon) s = refl
+open_acts caller a s = refl
+
 acts_step : (caller : ℕ) (a : Act) (r : Reply) (past : List Entry) → (state past).ledger.acts ≡ accepted_acts past → (state (entry_of caller a r ∷ past)).ledger.acts ≡ accepted_acts (entry_of caller a r ∷ past)
 acts_step caller a (reply.Refused w) past h = h
+acts_step caller a (reply.Opened round) past h = open_acts caller a (state past) ∙ ap (λ (acts : List Act). a ∷ acts) h
 acts_step caller a r past h = ap (λ (acts : List Act). a ∷ acts) h
 
 past_acts : (past : List Entry) → (state past).ledger.acts ≡ accepted_acts past
@@ -49,9 +56,13 @@ acts_law history = past_acts (reverse history) ∙ accepted_reverse history
 pub growth_law : GrowthLaw
 growth_law history e legal is = subst IsLegalPast (sym (reverse-append history (e ∷ []))) (is, legal)
 
-replay_is_legal : (calls : List Call) (past : List Entry) → IsLegalPast past → IsLegalPast (replay_after past calls)
+pub replay_is_legal : (calls : List Call) (past : List Entry) → IsLegalPast past → IsLegalPast (replay_after past calls)
 replay_is_legal [] past legal = legal
-replay_is_legal (call ∷ calls) past legal = replay_is_legal calls (ask past call) (refl, legal)
+replay_is_legal (call ∷ calls) past legal = replay_is_legal calls (ask past call) (replied refl, legal)
 
 pub replay_law : ReplayLaw
 replay_law calls = subst IsLegalPast (sym (reverse-reverse (replay_after [] calls))) (replay_is_legal calls [] tt)
+
+-- an entry with the one reply may stand next
+pub due_follows : (history : List Entry) (e : Entry) → e.reply ≡ answer_of history e.caller e.act → MayFollow history e
+due_follows history e is = replied is

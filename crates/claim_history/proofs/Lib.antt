@@ -1,12 +1,25 @@
 mod CivilDays
 pub mod Texts
-pub mod Growth
+pub mod Pasts
 pub mod Rows
 pub mod Steps
+pub mod Rounds
 pub mod Histories
+pub mod Filed
+pub mod Counting
+pub mod Publication
+pub mod Opening
+pub mod Net
+pub mod Owned
+pub mod Agreement
+pub mod Greatest
+pub mod Registered
+pub mod Replies
+pub mod Growth
 pub mod Sizes
 pub mod Formulas
-pub mod Worked
-pub mod Register
 pub mod Shapes
 pub mod Ranges
+pub mod Worked
+pub mod Register
+mod WorkedRounds

@@ -7,7 +7,8 @@ use Rattle.claim_history.specs.declared.entry.Reply.{Reply}
 use Rattle.claim_history.specs.declared.entry.Reply.TheVariants as reply
 use Rattle.claim_history.specs.declared.entry.Why.TheVariants as why
 use Rattle.claim_history.specs.Facts.{is_registered, filings, filing_of}
-use Rattle.claim_history.specs.History.{State, refused_or}
+use Rattle.claim_history.specs.States.{State}
+use Rattle.claim_history.specs.History.{refused_or}
 use Rattle.claim_history.specs.Register.{MayFile, FullRegister}
 
 -- the answer to a filing, by what it asks

@@ -7,12 +7,15 @@ use Rattle.std.proofs.Math.Seq.{take-append_seam, drop-append_seam}
 use Rattle.std.proofs.lemmas.Bool.{leb-true, ltb-true}
 use Rattle.setoff_model.specs.declared.name.Key.{Key}
 use Rattle.setoff_model.specs.Names.{is_name}
-use Rattle.setoff_model.specs.Texts.{cents_text}
+use Rattle.setoff_model.specs.declared.kind.Kind.{Kind}
+use Rattle.setoff_model.specs.declared.kind.Kind.TheVariants.{Plain, Funded}
+use Rattle.setoff_model.specs.Texts.{cents_text, kind_text}
 use Rattle.setoff_model.proofs.Spelling.{spelling_law}
 use Rattle.claim_history.specs.declared.act.Act.{Act}
 use Rattle.claim_history.specs.declared.act.Act.TheVariants as act
 use Rattle.claim_history.specs.Days.{day_text, last_day}
-use Rattle.claim_history.specs.Acts.{is_key, is_amount, is_claim_amount, is_day, is_valid, act_fields, ActTextsLaw}
+use Rattle.claim_history.specs.Acts.{ActTextsLaw, act_fields, is_amount, is_claim_amount, is_day, is_key, is_publication, is_request, is_valid}
+use Rattle.claim_history.proofs.Rows.{and_true}
 use Rattle.claim_history.proofs.CivilDays.{day_texts}
 
 record Shape : Type 0 where
@@ -39,6 +42,9 @@ shape_of (act.Draw firm amount) = shape (codes "DRAW") (firm ∷ []) (amount ∷
 shape_of (act.Limit firm credit ceiling) = shape (codes "LIMIT") (firm ∷ []) (credit ∷ ceiling ∷ []) []
 shape_of (act.Offer firm amount) = shape (codes "OFFER") (firm ∷ []) (amount ∷ []) []
 shape_of (act.Position firm) = shape (codes "POSITION") (firm ∷ []) [] []
+shape_of (act.Close kind horizon) = shape (codes "CLOSE") (kind_text kind ∷ []) [] (horizon ∷ [])
+shape_of (act.Abandon) = shape (codes "ABANDON") [] [] []
+shape_of (act.Publish round outcome) = shape (codes "PUBLISH") [] [] []
 
 abbrev name_at : Shape → ℕ → List ℕ
 name_at s k = get_or s.names k []
@@ -48,6 +54,10 @@ amount_at s k = get_or s.amounts k 0
 
 abbrev key_at : Shape → Key
 key_at s = record { creditor = name_at s 0; invoice = name_at s 1 }
+
+-- the kind of its word
+abbrev kind_from : List ℕ → Kind
+kind_from word = if bytes_eq word (codes "PLAIN") then Plain else Funded
 
 -- the act of a shape, by its verb
 abbrev act_from : Shape → Act
@@ -62,20 +72,26 @@ act_from s =
     else (if bytes_eq s.verb (codes "DRAW") then act.Draw (name_at s 0) (amount_at s 0)
     else (if bytes_eq s.verb (codes "LIMIT") then act.Limit (name_at s 0) (amount_at s 0) (amount_at s 1)
     else (if bytes_eq s.verb (codes "OFFER") then act.Offer (name_at s 0) (amount_at s 0)
-    else act.Position (name_at s 0))))))))))
+    else (if bytes_eq s.verb (codes "CLOSE") then act.Close (kind_from (name_at s 0)) (get_or s.days 0 0)
+    else (if bytes_eq s.verb (codes "ABANDON") then act.Abandon
+    else act.Position (name_at s 0))))))))))))
 
-act_again : (a : Act) → act_from (shape_of a) ≡ a
-act_again (act.Firm firm) = refl
-act_again (act.File key debtor amount due) = refl
-act_again (act.Confirm key debtor) = refl
-act_again (act.Dispute key debtor) = refl
-act_again (act.Withdraw key) = refl
-act_again (act.Receive key amount) = refl
-act_again (act.Fund firm amount) = refl
-act_again (act.Draw firm amount) = refl
-act_again (act.Limit firm credit ceiling) = refl
-act_again (act.Offer firm amount) = refl
-act_again (act.Position firm) = refl
+act_again : (a : Act) → is_publication a ≡ false → act_from (shape_of a) ≡ a
+act_again (act.Firm firm) p = refl
+act_again (act.File key debtor amount due) p = refl
+act_again (act.Confirm key debtor) p = refl
+act_again (act.Dispute key debtor) p = refl
+act_again (act.Withdraw key) p = refl
+act_again (act.Receive key amount) p = refl
+act_again (act.Fund firm amount) p = refl
+act_again (act.Draw firm amount) p = refl
+act_again (act.Limit firm credit ceiling) p = refl
+act_again (act.Offer firm amount) p = refl
+act_again (act.Position firm) p = refl
+act_again (act.Close Plain horizon) p = refl
+act_again (act.Close Funded horizon) p = refl
+act_again (act.Abandon) p = refl
+act_again (act.Publish round outcome) p = absurd (true≢false p)
 
 -- how many names and amounts a verb has
 abbrev name_count : List ℕ → ℕ
@@ -84,7 +100,8 @@ name_count verb =
     else (if bytes_eq verb (codes "CONFIRM") then 3
     else (if bytes_eq verb (codes "DISPUTE") then 3
     else (if bytes_eq verb (codes "WITHDRAW") then 2
-    else (if bytes_eq verb (codes "RECEIVE") then 2 else 1))))
+    else (if bytes_eq verb (codes "RECEIVE") then 2
+    else (if bytes_eq verb (codes "ABANDON") then 0 else 1)))))
 
 abbrev amount_count : List ℕ → ℕ
 amount_count verb =
@@ -93,7 +110,9 @@ amount_count verb =
     else (if bytes_eq verb (codes "DISPUTE") then 0
     else (if bytes_eq verb (codes "WITHDRAW") then 0
     else (if bytes_eq verb (codes "POSITION") then 0
-    else (if bytes_eq verb (codes "LIMIT") then 2 else 1)))))
+    else (if bytes_eq verb (codes "CLOSE") then 0
+    else (if bytes_eq verb (codes "ABANDON") then 0
+    else (if bytes_eq verb (codes "LIMIT") then 2 else 1)))))))
 
 -- an act's fields are its shape's, its lists are as long as its verb says, and its amounts and days are in range
 record IsShape (a : Act) (s : Shape) : Type 0 where
@@ -102,10 +121,6 @@ record IsShape (a : Act) (s : Shape) : Type 0 where
   amounts : length s.amounts ≡ amount_count s.verb
   small : (k : ℕ) → get_or s.amounts k 0 < 10 ^ 12
   days : (k : ℕ) → get_or s.days k 0 ≤ last_day
-
-both : (a b : Bool) → (a && b) ≡ true → (a ≡ true) × (b ≡ true)
-both true b h = (refl, h)
-both false b h = absurd (true≢false (sym h))
 
 none_small : (k : ℕ) → get_or [] k 0 < 10 ^ 12
 none_small k = omega arith
@@ -129,26 +144,29 @@ is_small : (a : ℕ) → is_amount a ≡ true → a < 10 ^ 12
 is_small a h = ltb-true a (10 ^ 12) h
 
 is_small_claim : (a : ℕ) → is_claim_amount a ≡ true → a < 10 ^ 12
-is_small_claim a h = is_small a (both (nat_le 1 a) (is_amount a) h).1
+is_small_claim a h = is_small a (and_true (nat_le 1 a) (is_amount a) h).1
 
-shape_is : (a : Act) → is_valid a ≡ true → IsShape a (shape_of a)
-shape_is (act.Firm firm) h = record { fields = refl; names = refl; amounts = refl; small = none_small; days = no_day }
-shape_is (act.File key debtor amount due) h =
-    let p = both (is_key key && is_name debtor && is_claim_amount amount) (is_day due) h in
-    let q = both (is_key key && is_name debtor) (is_claim_amount amount) p.0 in
+shape_is : (a : Act) → is_valid a ≡ true → is_publication a ≡ false → IsShape a (shape_of a)
+shape_is (act.Firm firm) h p = record { fields = refl; names = refl; amounts = refl; small = none_small; days = no_day }
+shape_is (act.File key debtor amount due) h apart =
+    let p = and_true (is_key key && is_name debtor && is_claim_amount amount) (is_day due) h in
+    let q = and_true (is_key key && is_name debtor) (is_claim_amount amount) p.0 in
     record { fields = refl; names = refl; amounts = refl; small = one_small amount (is_small_claim amount q.1); days = one_day due (leb-true due last_day p.1) }
-shape_is (act.Confirm key debtor) h = record { fields = refl; names = refl; amounts = refl; small = none_small; days = no_day }
-shape_is (act.Dispute key debtor) h = record { fields = refl; names = refl; amounts = refl; small = none_small; days = no_day }
-shape_is (act.Withdraw key) h = record { fields = refl; names = refl; amounts = refl; small = none_small; days = no_day }
-shape_is (act.Receive key amount) h = record { fields = refl; names = refl; amounts = refl; small = one_small amount (is_small_claim amount (both (is_key key) (is_claim_amount amount) h).1); days = no_day }
-shape_is (act.Fund firm amount) h = record { fields = refl; names = refl; amounts = refl; small = one_small amount (is_small_claim amount (both (is_name firm) (is_claim_amount amount) h).1); days = no_day }
-shape_is (act.Draw firm amount) h = record { fields = refl; names = refl; amounts = refl; small = one_small amount (is_small_claim amount (both (is_name firm) (is_claim_amount amount) h).1); days = no_day }
-shape_is (act.Limit firm credit ceiling) h =
-    let p = both (is_name firm && is_amount credit) (is_amount ceiling) h in
-    let q = both (is_name firm) (is_amount credit) p.0 in
+shape_is (act.Confirm key debtor) h p = record { fields = refl; names = refl; amounts = refl; small = none_small; days = no_day }
+shape_is (act.Dispute key debtor) h p = record { fields = refl; names = refl; amounts = refl; small = none_small; days = no_day }
+shape_is (act.Withdraw key) h p = record { fields = refl; names = refl; amounts = refl; small = none_small; days = no_day }
+shape_is (act.Receive key amount) h p = record { fields = refl; names = refl; amounts = refl; small = one_small amount (is_small_claim amount (and_true (is_key key) (is_claim_amount amount) h).1); days = no_day }
+shape_is (act.Fund firm amount) h p = record { fields = refl; names = refl; amounts = refl; small = one_small amount (is_small_claim amount (and_true (is_name firm) (is_claim_amount amount) h).1); days = no_day }
+shape_is (act.Draw firm amount) h p = record { fields = refl; names = refl; amounts = refl; small = one_small amount (is_small_claim amount (and_true (is_name firm) (is_claim_amount amount) h).1); days = no_day }
+shape_is (act.Limit firm credit ceiling) h apart =
+    let p = and_true (is_name firm && is_amount credit) (is_amount ceiling) h in
+    let q = and_true (is_name firm) (is_amount credit) p.0 in
     record { fields = refl; names = refl; amounts = refl; small = two_small credit ceiling (is_small credit q.1) (is_small ceiling p.1); days = no_day }
-shape_is (act.Offer firm amount) h = record { fields = refl; names = refl; amounts = refl; small = one_small amount (is_small amount (both (is_name firm) (is_amount amount) h).1); days = no_day }
-shape_is (act.Position firm) h = record { fields = refl; names = refl; amounts = refl; small = none_small; days = no_day }
+shape_is (act.Offer firm amount) h p = record { fields = refl; names = refl; amounts = refl; small = one_small amount (is_small amount (and_true (is_name firm) (is_amount amount) h).1); days = no_day }
+shape_is (act.Position firm) h p = record { fields = refl; names = refl; amounts = refl; small = none_small; days = no_day }
+shape_is (act.Close kind horizon) h p = record { fields = refl; names = refl; amounts = refl; small = none_small; days = one_day horizon (leb-true horizon last_day h) }
+shape_is (act.Abandon) h p = record { fields = refl; names = refl; amounts = refl; small = none_small; days = no_day }
+shape_is (act.Publish round outcome) h p = absurd (true≢false p)
 
 -- lists of one length and one text are the same
 
@@ -194,5 +212,20 @@ same_shape a b s t p q e =
     (same_amounts s.amounts t.amounts p.small q.small (cut_front (map cents_text s.amounts) _ (map cents_text t.amounts) _ sums last))
     (same_days s.days t.days p.days q.days (cut_back (map cents_text s.amounts) _ (map cents_text t.amounts) _ sums last))
 
+-- ---- requests
+
+-- a request is valid
+pub request_valid : (a : Act) → is_request a ≡ true → is_valid a ≡ true
+request_valid (act.Publish round outcome) h = absurd (true≢false (sym h))
+request_valid a h = h
+
+-- and no publication
+pub request_apart : (a : Act) → is_request a ≡ true → is_publication a ≡ false
+request_apart (act.Publish round outcome) h = absurd (true≢false (sym h))
+request_apart a h = refl
+
 pub act_texts_law : ActTextsLaw
-act_texts_law a b va vb e = sym (act_again a) ∙ ap act_from (same_shape a b (shape_of a) (shape_of b) (shape_is a va) (shape_is b vb) e) ∙ act_again b
+act_texts_law a b va vb e =
+    let pa = request_apart a va in
+    let pb = request_apart b vb in
+    sym (act_again a pa) ∙ ap act_from (same_shape a b (shape_of a) (shape_of b) (shape_is a (request_valid a va) pa) (shape_is b (request_valid b vb) pb) e) ∙ act_again b pb

@@ -10,10 +10,11 @@ use Rattle.claim_history.specs.declared.entry.Reply.{Reply}
 use Rattle.claim_history.specs.declared.entry.Reply.TheVariants as reply
 use Rattle.claim_history.specs.declared.entry.Why.TheVariants as why
 use Rattle.claim_history.specs.declared.fact.Status.TheVariants as status
-use Rattle.claim_history.specs.Acts.{is_valid, act_text}
+use Rattle.claim_history.specs.Acts.{act_text, is_valid}
+use Rattle.claim_history.specs.Facts.{account_facts, claim_facts, filings, left_of, status_of}
+use Rattle.claim_history.specs.States.{state_of}
+use Rattle.claim_history.specs.History.{Call, accepted_acts, answer_of, replay_of}
 use Rattle.claim_history.specs.Days.{date_of}
-use Rattle.claim_history.specs.Facts.{filings, status_of, left_of, claim_facts, account_facts}
-use Rattle.claim_history.specs.History.{Call, state_of, answer_of, accepted_acts, replay_of}
 
 abbrev A : List ℕ
 A = codes "A"
@@ -32,7 +33,7 @@ abbrev by_one : Act → Call
 by_one a = record { caller = 1; act = a }
 
 -- what each call of a list is replied
-abbrev replies : List Call → List Reply
+abbrev pub replies : List Call → List Reply
 replies calls = map (λ (e : Entry). e.reply) (replay_of calls)
 
 -- ---- registrations
@@ -225,7 +226,7 @@ received_withdrawn_open = refl
 
 -- ---- positions
 
-abbrev position : ℤ → ℕ → ℕ → Reply
+abbrev pub position : ℤ → ℕ → ℕ → Reply
 position balance receivable payable = reply.Position (record { balance = balance; receivable = receivable; payable = payable })
 
 new_position : reply_after two_firms (act.Position A) ≡ position (pos 0) 0 0

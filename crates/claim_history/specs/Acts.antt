@@ -1,9 +1,10 @@
 -- What may be asked, and its text.
-use Rattle.std.specs.Prelude.{ℕ, Bool, ◌&&◌, nat_le, nat_lt, List, [], ◌∷◌, ◌^◌, codes, ◌≡◌, true}
-use Rattle.std.specs.List.{join_with_byte}
+use Rattle.std.specs.Prelude.{ℕ, Bool, true, false, ◌&&◌, nat_le, nat_lt, List, [], ◌∷◌, ◌^◌, codes, decimal, length, unsigned_abs, ◌≡◌}
+use Rattle.std.specs.List.{join_with_byte, list_all}
 use Rattle.setoff_model.specs.declared.name.Key.{Key}
 use Rattle.setoff_model.specs.Names.{is_name}
-use Rattle.setoff_model.specs.Texts.{cents_text}
+use Rattle.setoff_model.specs.CutView.{OutcomeView}
+use Rattle.setoff_model.specs.Texts.{cents_text, kind_text}
 use Rattle.claim_history.specs.Days.{last_day, day_text}
 use Rattle.claim_history.specs.declared.act.Act.{Act}
 use Rattle.claim_history.specs.declared.act.Act.TheVariants as act
@@ -23,6 +24,17 @@ is_claim_amount cents = nat_le 1 cents && is_amount cents
 abbrev pub is_day : ℕ → Bool
 is_day number = nat_le number last_day
 
+-- the number of a round, from 1
+abbrev pub is_round : ℕ → Bool
+is_round round = nat_le 1 round && nat_lt round (2 ^ 32)
+
+-- at most 262144 discharges of 0.00 to 9999999999.99, and at most 16384 prices, each from -n to n for n prices
+abbrev pub is_outcome : OutcomeView → Bool
+is_outcome outcome =
+    nat_le (length outcome.discharges) 262144 && nat_le (length outcome.prices) 16384
+    && list_all is_amount outcome.discharges
+    && list_all (λ p. nat_le (unsigned_abs p) (length outcome.prices)) outcome.prices
+
 -- every field is in its range
 abbrev pub is_valid : Act → Bool
 is_valid (act.Firm firm) = is_name firm
@@ -36,8 +48,21 @@ is_valid (act.Draw firm amount) = is_name firm && is_claim_amount amount
 is_valid (act.Limit firm credit ceiling) = is_name firm && is_amount credit && is_amount ceiling
 is_valid (act.Offer firm amount) = is_name firm && is_amount amount
 is_valid (act.Position firm) = is_name firm
+is_valid (act.Close kind horizon) = is_day horizon
+is_valid (act.Abandon) = true
+is_valid (act.Publish round outcome) = is_round round && is_outcome outcome
 
--- the verb and its fields
+-- the act publishes a round
+abbrev pub is_publication : Act → Bool
+is_publication (act.Publish round outcome) = true
+is_publication _ = false
+
+-- what a line of requests can ask for: every field is in its range, and it is no publication
+abbrev pub is_request : Act → Bool
+is_request (act.Publish round outcome) = false
+is_request a = is_valid a
+
+-- the verb and its fields; of a publication the number of its round alone
 abbrev pub act_fields : Act → List (List ℕ)
 act_fields (act.Firm firm) = codes "FIRM" ∷ firm ∷ []
 act_fields (act.File key debtor amount due) = codes "FILE" ∷ key.creditor ∷ key.invoice ∷ debtor ∷ cents_text amount ∷ day_text due ∷ []
@@ -50,11 +75,14 @@ act_fields (act.Draw firm amount) = codes "DRAW" ∷ firm ∷ cents_text amount 
 act_fields (act.Limit firm credit ceiling) = codes "LIMIT" ∷ firm ∷ cents_text credit ∷ cents_text ceiling ∷ []
 act_fields (act.Offer firm amount) = codes "OFFER" ∷ firm ∷ cents_text amount ∷ []
 act_fields (act.Position firm) = codes "POSITION" ∷ firm ∷ []
+act_fields (act.Close kind horizon) = codes "CLOSE" ∷ kind_text kind ∷ day_text horizon ∷ []
+act_fields (act.Abandon) = codes "ABANDON" ∷ []
+act_fields (act.Publish round outcome) = codes "PUBLISH" ∷ decimal round ∷ []
 
 -- with single spaces between them
 abbrev pub act_text : Act → List ℕ
 act_text a = join_with_byte 32 (act_fields a)
 
--- two valid acts have two texts
+-- two acts that can be asked for have two texts
 abbrev pub ActTextsLaw : Type 0
-ActTextsLaw = (a b : Act) → is_valid a ≡ true → is_valid b ≡ true → act_fields a ≡ act_fields b → a ≡ b
+ActTextsLaw = (a b : Act) → is_request a ≡ true → is_request b ≡ true → act_fields a ≡ act_fields b → a ≡ b

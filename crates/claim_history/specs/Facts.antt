@@ -1,8 +1,12 @@
--- What accepted acts say of claims and accounts: filters and sums over the whole list of them, newest first.
--- Amounts are cents.
-use Rattle.std.specs.Prelude.{ℕ, ◌-◌, ◌^◌, Bool, true, false, ◌&&◌, List, [], ◌∷◌, map, filter, reverse, find, filter_map, sum, sum_by, Option, Some, None, ℤ, pos, ◌-ℤ◌, if◌then◌else◌}
+-- What accepted acts and published rounds say of claims and accounts: filters and sums over the whole lists of them, newest
+-- first. Amounts are cents.
+use Rattle.std.specs.Prelude.{ℕ, ◌+◌, ◌-◌, ◌^◌, Bool, true, false, ◌&&◌, List, [], ◌∷◌, map, filter, reverse, find, filter_map, sum, sum_by, position, slice_index, Option, Some, None, ℤ, pos, ◌-ℤ◌, if◌then◌else◌}
 use Rattle.std.specs.List.{list_any}
 use Rattle.setoff_model.specs.declared.name.Key.{Key}
+use Rattle.setoff_model.specs.declared.cut.Party.{Party}
+use Rattle.setoff_model.specs.declared.cut.CutClaim.{CutClaim}
+use Rattle.setoff_model.specs.CutView.{CutView, obligations}
+use Rattle.setoff_model.specs.Setoff.{inflow, outflow}
 use Rattle.setoff_model.specs.Same.{same_name, same_key}
 use Rattle.claim_history.specs.declared.act.Act.{Act}
 use Rattle.claim_history.specs.declared.act.Act.TheVariants as act
@@ -13,9 +17,15 @@ use Rattle.claim_history.specs.declared.fact.Position.{Position}
 use Rattle.claim_history.specs.declared.fact.ClaimFact.{ClaimFact}
 use Rattle.claim_history.specs.declared.fact.AccountFact.{AccountFact}
 
--- what was accepted
+-- a published round: its cut, and one discharge for each claim of it
+pub record Settled : Type 0 where
+  pub cut : CutView
+  pub discharges : List ℕ
+
+-- what was accepted, and the rounds that were published
 pub record Ledger : Type 0 where
   pub acts : List Act
+  pub rounds : List Settled
 
 -- the first, or the other where there is none
 abbrev pub first_or : {A : Type 0} → A → List A → A
@@ -89,9 +99,26 @@ abbrev pub amount_of : Option Filing → ℕ
 amount_of None = 0
 amount_of (Some filing) = filing.amount
 
--- the open amount: the amount less what was received
+-- the number at a place, 0 where there is no place
+abbrev pub at_place : List ℕ → Option ℕ → ℕ
+at_place xs None = 0
+at_place xs (Some p) = slice_index xs p
+
+-- the place of the claim in a cut
+abbrev pub claim_place : List CutClaim → Key → Option ℕ
+claim_place claims key = position (λ c. same_key key c.key) claims
+
+-- what the round discharged of the claim
+abbrev pub discharge_of : Key → Settled → ℕ
+discharge_of key round = at_place round.discharges (claim_place round.cut.claims key)
+
+-- the sum of what all published rounds discharged of the claim
+abbrev pub discharged : Ledger → Key → ℕ
+discharged l key = sum_by (discharge_of key) l.rounds
+
+-- the open amount: the amount less what was received and what was discharged
 abbrev pub left_of : Ledger → Key → ℕ
-left_of l key = amount_of (filing_of l key) - received l key
+left_of l key = amount_of (filing_of l key) - (received l key + discharged l key)
 
 -- what is known of a filed claim
 abbrev pub claim_fact : Ledger → Filing → ClaimFact
@@ -103,6 +130,23 @@ claim_facts l = map (claim_fact l) (reverse (filings l))
 
 -- ---- accounts
 
+-- the place of the firm among the parties of a cut
+abbrev pub party_place : List Party → List ℕ → Option ℕ
+party_place parties firm = position (λ p. same_name firm p.firm) parties
+
+-- a flow at a place, 0 where there is no place
+abbrev pub flow_of : (ℕ → ℕ) → Option ℕ → ℕ
+flow_of flow None = 0
+flow_of flow (Some p) = flow p
+
+-- what the round discharged towards the firm
+abbrev pub discharged_to : List ℕ → Settled → ℕ
+discharged_to firm round = flow_of (inflow (obligations round.cut) round.discharges) (party_place round.cut.parties firm)
+
+-- what the round discharged by the firm
+abbrev pub discharged_by : List ℕ → Settled → ℕ
+discharged_by firm round = flow_of (outflow (obligations round.cut) round.discharges) (party_place round.cut.parties firm)
+
 -- what an act puts into the firm's account
 abbrev pub gained_by : List ℕ → Act → Option ℕ
 gained_by firm (act.Fund other amount) = if same_name firm other then Some amount else None
@@ -113,15 +157,15 @@ abbrev pub spent_by : List ℕ → Act → Option ℕ
 spent_by firm (act.Draw other amount) = if same_name firm other then Some amount else None
 spent_by firm _ = None
 
--- the sum of all funds
+-- the sum of all funds, and of what published rounds discharged towards the firm
 abbrev pub gained : Ledger → List ℕ → ℕ
-gained l firm = sum (filter_map (gained_by firm) l.acts)
+gained l firm = sum (filter_map (gained_by firm) l.acts) + sum_by (discharged_to firm) l.rounds
 
--- the sum of all draws
+-- the sum of all draws, and of what published rounds discharged by the firm
 abbrev pub spent : Ledger → List ℕ → ℕ
-spent l firm = sum (filter_map (spent_by firm) l.acts)
+spent l firm = sum (filter_map (spent_by firm) l.acts) + sum_by (discharged_by firm) l.rounds
 
--- the funds less the draws
+-- the first sum less the second
 abbrev pub balance_of : Ledger → List ℕ → ℤ
 balance_of l firm = pos (gained l firm) -ℤ pos (spent l firm)
 

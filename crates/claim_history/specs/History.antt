@@ -1,7 +1,12 @@
 -- Histories: what was asked, by whom, and the one reply.
 -- A past is a list of entries, newest first. The history in order of time is its reverse.
-use Rattle.std.specs.Prelude.{◌≡◌, ℕ, ◌+◌, Bool, true, false, not, ◌&&◌, ◌||◌, nat_le, nat_lt, List, All, [], ◌∷◌, length, map, filter, reverse, Option, Some, None, is_some, if◌then◌else◌}
+use Rattle.std.specs.Prelude.{◌≡◌, ℕ, ◌+◌, ◌<◌, ◌≤◌, max, Bool, true, false, not, ◌&&◌, ◌||◌, ◌==◌, nat_le, nat_lt, List, All, [], ◌∷◌, length, map, filter, reverse, Option, Some, None, is_some, ◌⊎◌, if◌then◌else◌}
 use Rattle.setoff_model.specs.declared.name.Key.{Key}
+use Rattle.setoff_model.specs.declared.kind.Kind.{Kind}
+use Rattle.setoff_model.specs.declared.kind.Kind.TheVariants.{Plain, Funded}
+use Rattle.setoff_model.specs.CutView.{OutcomeView, obligations}
+use Rattle.setoff_model.specs.Setoff.{total_of}
+use Rattle.setoff_model.specs.ProofTest.{is_proved}
 use Rattle.setoff_model.specs.Same.{same_name}
 use Rattle.claim_history.specs.declared.act.Act.{Act}
 use Rattle.claim_history.specs.declared.act.Act.TheVariants as act
@@ -14,39 +19,7 @@ use Rattle.claim_history.specs.declared.entry.Why.TheVariants as why
 use Rattle.claim_history.specs.declared.entry.Entry.{Entry}
 use Rattle.claim_history.specs.Acts.{is_valid}
 use Rattle.claim_history.specs.Facts.{Ledger, Filing, firms, is_registered, filings, filing_of, status_of, is_confirmed, left_of, gained, spent, limits_of, position_of}
-
--- ---- what a past comes to
-
--- what counts of a past: its ledger
-pub record State : Type 0 where
-  pub ledger : Ledger
-
--- nothing was accepted
-abbrev pub empty : State
-empty = record { ledger = record { acts = [] } }
-
--- one more accepted act
-abbrev pub with_act : Act → Ledger → Ledger
-with_act a l = record { acts = a ∷ l.acts }
-
--- the state after an accepted act
-abbrev pub accept : Act → State → State
-accept a s = record { ledger = with_act a s.ledger }
-
--- a refusal changes nothing
-abbrev pub after : ℕ → Act → Reply → State → State
-after caller a reply.Done s = accept a s
-after caller a (reply.Position position) s = accept a s
-after caller a (reply.Refused w) s = s
-
--- the state that a past comes to
-abbrev pub state : List Entry → State
-state [] = empty
-state (e ∷ past) = after e.caller e.act e.reply (state past)
-
--- the state that a history comes to
-abbrev pub state_of : List Entry → State
-state_of history = state (reverse history)
+use Rattle.claim_history.specs.States.{OpenRound, State, state, state_of, number_of, is_in_cut, is_held}
 
 -- ---- the one reply
 
@@ -58,6 +31,10 @@ Refusals = List (Bool × Why)
 abbrev pub refused_or : Refusals → Reply → Reply
 refused_or [] otherwise = otherwise
 refused_or (row ∷ rows) otherwise = if row.0 then reply.Refused row.1 else refused_or rows otherwise
+
+-- the open round holds it
+abbrev pub frozen : State → Why
+frozen s = why.Frozen (number_of s.open_round)
 
 -- the firm is not registered
 abbrev pub is_unknown : State → List ℕ → Bool
@@ -119,54 +96,61 @@ confirm_refusals s key debtor =
     ∷ (is_confirmed (status_of s.ledger key) || is_withdrawn (status_of s.ledger key), why.WrongState)
     ∷ []
 
--- a filed claim, by its debtor, unless it is disputed or withdrawn
+-- a filed claim, by its debtor, unless it is disputed or withdrawn, or in the open cut
 abbrev pub dispute_refusals : State → Key → List ℕ → Refusals
 dispute_refusals s key debtor =
     (is_unfiled s key, why.UnknownClaim)
     ∷ (is_other_debtor (filing_of s.ledger key) debtor, why.NotDebtor)
     ∷ (is_disputed (status_of s.ledger key) || is_withdrawn (status_of s.ledger key), why.WrongState)
+    ∷ (is_in_cut s.open_round key, frozen s)
     ∷ []
 
--- a filed claim, once
+-- a filed claim, once, unless it is in the open cut
 abbrev pub withdraw_refusals : State → Key → Refusals
 withdraw_refusals s key =
     (is_unfiled s key, why.UnknownClaim)
     ∷ (is_withdrawn (status_of s.ledger key), why.WrongState)
+    ∷ (is_in_cut s.open_round key, frozen s)
     ∷ []
 
--- at most the open amount of a filed claim, unless it is withdrawn
+-- at most the open amount of a filed claim, unless it is withdrawn, or in the open cut
 abbrev pub receive_refusals : State → Key → ℕ → Refusals
 receive_refusals s key amount =
     (is_unfiled s key, why.UnknownClaim)
     ∷ (is_withdrawn (status_of s.ledger key), why.WrongState)
+    ∷ (is_in_cut s.open_round key, frozen s)
     ∷ (nat_lt (left_of s.ledger key) amount, why.OverOpen)
     ∷ []
 
--- a registered firm, up to its ceiling
+-- a registered firm that the open round does not hold, up to its ceiling
 abbrev pub fund_refusals : State → List ℕ → ℕ → Refusals
 fund_refusals s firm amount =
     (is_unknown s firm, why.UnknownFirm)
+    ∷ (is_held s.open_round firm, frozen s)
     ∷ (is_over_ceiling s.ledger firm amount, why.OverCeiling)
     ∷ []
 
--- a registered firm, down to its credit
+-- a registered firm that the open round does not hold, down to its credit
 abbrev pub draw_refusals : State → List ℕ → ℕ → Refusals
 draw_refusals s firm amount =
     (is_unknown s firm, why.UnknownFirm)
+    ∷ (is_held s.open_round firm, frozen s)
     ∷ (is_below_floor s.ledger firm amount, why.BelowFloor)
     ∷ []
 
--- a registered firm, with limits that its balance keeps
+-- a registered firm that the open round does not hold, with limits that its balance keeps
 abbrev pub limit_refusals : State → List ℕ → ℕ → ℕ → Refusals
 limit_refusals s firm credit ceiling =
     (is_unknown s firm, why.UnknownFirm)
+    ∷ (is_held s.open_round firm, frozen s)
     ∷ (not (keeps_limits s.ledger firm credit ceiling), why.LimitsExcludeBalance)
     ∷ []
 
--- a registered firm
+-- a registered firm that the open round does not hold
 abbrev pub offer_refusals : State → List ℕ → Refusals
 offer_refusals s firm =
     (is_unknown s firm, why.UnknownFirm)
+    ∷ (is_held s.open_round firm, frozen s)
     ∷ []
 
 -- a registered firm
@@ -174,6 +158,53 @@ abbrev pub position_refusals : State → List ℕ → Refusals
 position_refusals s firm =
     (is_unknown s firm, why.UnknownFirm)
     ∷ []
+
+-- the kinds are one
+abbrev pub same_kind : Kind → Kind → Bool
+same_kind Plain Plain = true
+same_kind Funded Funded = true
+same_kind _ _ = false
+
+-- a CLOSE continues the open round where it is its owner's, of its kind and horizon
+abbrev pub continues : OpenRound → ℕ → Kind → ℕ → Bool
+continues round caller kind horizon = round.owner == caller && same_kind round.cut.kind kind && round.horizon == horizon
+
+-- while a round is open, only to continue it
+abbrev pub close_refusals : OpenRound → ℕ → Kind → ℕ → Refusals
+close_refusals round caller kind horizon =
+    (not (continues round caller kind horizon), why.RoundOpen round.cut.round)
+    ∷ []
+
+-- by the owner of the open round, or by the bureau itself
+abbrev pub abandon_refusals : OpenRound → ℕ → Refusals
+abandon_refusals round caller =
+    (not (round.owner == caller) && not (caller == 0), why.NotOwner round.cut.round)
+    ∷ []
+
+-- of the open round, by its owner, with prices that prove the discharges
+abbrev pub publish_refusals : OpenRound → ℕ → ℕ → OutcomeView → Refusals
+publish_refusals round caller number outcome =
+    (not (round.cut.round == number), why.NoRound)
+    ∷ (not (round.owner == caller), why.NotOwner round.cut.round)
+    ∷ (not (is_proved (obligations round.cut) outcome.discharges outcome.prices), why.NotProved)
+    ∷ []
+
+-- a CLOSE opens the next round where none is open
+abbrev pub close_answer : ℕ → Option OpenRound → ℕ → Kind → ℕ → Reply
+close_answer openings None caller kind horizon = reply.Opened (openings + 1)
+close_answer openings (Some round) caller kind horizon =
+    refused_or (close_refusals round caller kind horizon) (reply.Continued round.cut.round)
+
+-- an ABANDON ends the open round
+abbrev pub abandon_answer : Option OpenRound → ℕ → Reply
+abandon_answer None caller = reply.Refused why.NoRound
+abandon_answer (Some round) caller = refused_or (abandon_refusals round caller) (reply.Abandoned round.cut.round)
+
+-- a publication ends the open round
+abbrev pub publish_answer : Option OpenRound → ℕ → ℕ → OutcomeView → Reply
+publish_answer None caller number outcome = reply.Refused why.NoRound
+publish_answer (Some round) caller number outcome =
+    refused_or (publish_refusals round caller number outcome) (reply.Published (total_of outcome.discharges))
 
 -- the one reply of a state to a caller and an act
 abbrev pub answer : State → ℕ → Act → Reply
@@ -188,6 +219,9 @@ answer s caller (act.Draw firm amount) = refused_or (draw_refusals s firm amount
 answer s caller (act.Limit firm credit ceiling) = refused_or (limit_refusals s firm credit ceiling) reply.Done
 answer s caller (act.Offer firm amount) = refused_or (offer_refusals s firm) reply.Done
 answer s caller (act.Position firm) = refused_or (position_refusals s firm) (reply.Position (position_of s.ledger firm))
+answer s caller (act.Close kind horizon) = close_answer s.openings s.open_round caller kind horizon
+answer s caller (act.Abandon) = abandon_answer s.open_round caller
+answer s caller (act.Publish number outcome) = publish_answer s.open_round caller number outcome
 
 -- the one reply of a history to a caller and an act
 abbrev pub answer_of : List Entry → ℕ → Act → Reply
@@ -204,16 +238,49 @@ is_no_refusal _ = true
 abbrev pub is_accepted : Entry → Bool
 is_accepted e = is_no_refusal e.reply
 
+-- the reply opens a round
+abbrev pub is_opening : Reply → Bool
+is_opening (reply.Opened round) = true
+is_opening _ = false
+
 -- the acts that were accepted, in the order of the list
 abbrev pub accepted_acts : List Entry → List Act
 accepted_acts entries = map (λ e. e.act) (filter is_accepted entries)
 
 -- ---- legal histories
 
--- each entry has the reply of the entries before it
+-- the second count of a reply that tells of a device
+abbrev pub second_count : Reply → ℕ
+second_count (reply.Refused (why.Device before counted)) = counted
+second_count _ = 0
+
+-- the greatest second count of the replies
+abbrev pub last_count : List Entry → ℕ
+last_count [] = 0
+last_count (e ∷ past) = max (second_count e.reply) (last_count past)
+
+-- the device failed at an act that would have been accepted: its count rose, or stood at its last value
+pub record IsDeviceReply (counted : ℕ) (due got : Reply) : Type 0 where
+  pub before : ℕ
+  pub after : ℕ
+  pub is : got ≡ reply.Refused (why.Device before after)
+  pub accepted : is_no_refusal due ≡ true
+  pub rose : (before < after) ⊎ ((before ≡ 18446744073709551615) × (after ≡ 18446744073709551615))
+  pub later : counted ≤ before
+
+-- the reply is the one that is due, or the device failed
+pub data IsReply (counted : ℕ) (due got : Reply) : Type 0 where
+  replied : got ≡ due → IsReply counted due got
+  failed : IsDeviceReply counted due got → IsReply counted due got
+
+-- each entry has the reply of the entries before it, or the device failed
 abbrev pub IsLegalPast : List Entry → Type 0
 IsLegalPast [] = Unit {0}
-IsLegalPast (e ∷ past) = (e.reply ≡ answer (state past) e.caller e.act) × IsLegalPast past
+IsLegalPast (e ∷ past) = IsReply (last_count past) (answer (state past) e.caller e.act) e.reply × IsLegalPast past
+
+-- the entry may stand next: its reply is the one that is due, or the device failed
+abbrev pub MayFollow : List Entry → Entry → Type 0
+MayFollow history e = IsReply (last_count (reverse history)) (answer_of history e.caller e.act) e.reply
 
 -- the same of a history in order of time
 abbrev pub IsLegal : List Entry → Type 0

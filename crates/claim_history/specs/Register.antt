@@ -6,7 +6,8 @@ use Rattle.claim_history.specs.declared.act.Act.TheVariants as act
 use Rattle.claim_history.specs.declared.entry.Reply.TheVariants as reply
 use Rattle.claim_history.specs.declared.entry.Why.TheVariants as why
 use Rattle.claim_history.specs.Facts.{is_registered, filings, filing_of}
-use Rattle.claim_history.specs.History.{State, answer}
+use Rattle.claim_history.specs.States.{State}
+use Rattle.claim_history.specs.History.{answer}
 
 -- creditor and debtor are two registered firms
 pub record MayFile (s : State) (key : Key) (debtor : List ℕ) : Type 0 where

@@ -1,13 +1,14 @@
 //! What is asked of the bureau.
-ghost use Rattle.std.specs.Prelude.{◌≡◌, ◌&&◌};
+ghost use Rattle.std.specs.Prelude.{◌≡◌, ◌&&◌, nat_le, unsigned_abs};
+ghost use Rattle.std.specs.List.{list_all};
 ghost use Rattle.setoff_model.specs.Names.{is_name};
-ghost use Rattle.claim_history.specs.Acts.{is_key, is_amount, is_claim_amount, is_day, is_valid, ActTextsLaw};
+ghost use Rattle.claim_history.specs.Acts.{is_key, is_amount, is_claim_amount, is_day, is_round, is_outcome, is_valid, is_publication, ActTextsLaw};
 
 use crate::day::Day;
-use setoff_model::{Key, Name};
+use setoff_model::{Key, Kind, Name, Outcome};
 
 /// What a caller asks. Amounts are cents.
-#[derive(Clone, Debug, PartialEq, Eq, Drop)]
+#[derive(Clone, Debug, Drop)]
 pub enum Act {
     /// Registers a firm.
     Firm {
@@ -65,11 +66,26 @@ pub enum Act {
     Position {
         firm: Name,
     },
+    /// Opens a round of a kind, whose cut has the claims that are due on or before the horizon; or continues the one
+    /// that its caller opened with this kind and horizon.
+    Close {
+        kind: Kind,
+        horizon: Day,
+    },
+    /// Ends the open round without a publication.
+    Abandon,
+    /// Publishes the open round, which has this number, with what was found of its cut. It is no verb of the input.
+    Publish {
+        round: u32,
+        outcome: Outcome,
+    },
 }
 
 impl Act {
     /// Whether every field is in its range. The amounts of a File, a Receive, a Fund and a Draw are 1 to 999,999,999,999
-    /// cents, those of a Limit and an Offer 0 to 999,999,999,999 cents. Names and days are in their ranges by their types.
+    /// cents, those of a Limit and an Offer 0 to 999,999,999,999 cents. A Publish has a round from 1 on, at most 262,144
+    /// discharges of 0 to 999,999,999,999 cents, and at most 16,384 prices, each from -n to n for n prices. Names and days
+    /// are in their ranges by their types.
     pub fn valid(&self) -> bool
         ensures { result ≡ is_valid self.now }
     {
@@ -95,8 +111,43 @@ impl Act {
                 ceiling,
             } => firm_is_valid(firm) && is_cents(*credit) && is_cents(*ceiling),
             Act::Offer { firm, amount } => firm_is_valid(firm) && is_cents(*amount),
+            Act::Close { horizon, .. } => day_is_valid(horizon),
+            Act::Abandon => true,
+            Act::Publish { round, outcome } => *round >= 1 && outcome_is_valid(outcome),
         }
     }
+
+    /// Whether it is the publication of a round, which no line of the input can ask for.
+    pub fn publishes(&self) -> bool
+        ensures { result ≡ is_publication self.now }
+    {
+        matches!(self, Act::Publish { .. })
+    }
+}
+
+// Few enough discharges and prices, each in its range.
+fn outcome_is_valid(outcome: &Outcome) -> bool
+    ensures { result ≡ is_outcome outcome.now }
+{
+    let discharges = outcome.discharges();
+    let prices = outcome.prices();
+    discharges.len() <= 262_144
+        && prices.len() <= 16_384
+        && are_cents(discharges)
+        && are_near(prices, prices.len())
+}
+
+fn are_cents(amounts: &[u64]) -> bool
+    ensures { result ≡ list_all is_amount amounts.now }
+{
+    amounts.iter().all(|amount| is_cents(*amount))
+}
+
+// Whether each price is from -n to n.
+fn are_near(prices: &[i64], n: usize) -> bool
+    ensures { result ≡ list_all (λ p. nat_le (unsigned_abs p) n) prices.now }
+{
+    prices.iter().all(|price| price.unsigned_abs() <= n as u64)
 }
 
 fn is_cents(amount: u64) -> bool
@@ -111,8 +162,8 @@ fn is_payment(amount: u64) -> bool
     1 <= amount && is_cents(amount)
 }
 
-/// Two valid acts have two texts, so an act that is written is read back to the same act. A law, which does nothing when it is
-/// called.
+/// Two valid acts that are no publications have two texts, so an act that is written is read back to the same act. A law, which
+/// does nothing when it is called.
 pub fn each_act_has_its_own_text()
     ensures law { ActTextsLaw }
 {}
@@ -127,8 +178,14 @@ fn firm_is_valid(firm: &Name) -> bool
 fn file_is_valid(key: &Key, debtor: &Name, amount: u64, due: &Day) -> bool
     ensures { result ≡ (is_key key.now && is_name debtor.now && is_claim_amount amount && is_day due.now) }
 {
-    let _ = due.number();
-    confirm_is_valid(key, debtor) && is_payment(amount)
+    confirm_is_valid(key, debtor) && is_payment(amount) && day_is_valid(due)
+}
+
+fn day_is_valid(day: &Day) -> bool
+    ensures { result ≡ is_day day.now }
+{
+    let _ = day.number();
+    true
 }
 
 fn confirm_is_valid(key: &Key, debtor: &Name) -> bool

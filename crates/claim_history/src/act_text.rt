@@ -1,16 +1,16 @@
 //! The text of what is asked.
-ghost use Rattle.std.specs.Prelude.{◌≡◌, ◌+◌, ◌≤◌, ◌<◌, ◌^◌, ◌++◌, ◌∷◌, [], codes, length, vec_len, vec_capacity, true};
+ghost use Rattle.std.specs.Prelude.{◌≡◌, ◌+◌, ◌≤◌, ◌<◌, ◌^◌, ◌++◌, ◌∷◌, [], codes, decimal, length, vec_len, vec_capacity, true};
 ghost use Rattle.std.specs.List.{join_with_byte};
-ghost use Rattle.setoff_model.specs.Texts.{cents_text};
+ghost use Rattle.setoff_model.specs.Texts.{cents_text, kind_text};
 ghost use Rattle.claim_history.specs.Days.{day_text};
 ghost use Rattle.claim_history.specs.Acts.{is_valid, act_text};
 
 use crate::act::Act;
 use crate::day::Day;
-use setoff_model::{Key, Name, put, write_cents};
+use setoff_model::{Key, Kind, Name, put, write_cents, write_number};
 
 /// Writes the verb and its fields with single spaces between them, and no line's end: at most 80 bytes, into a buffer
-/// that has room. It takes no memory.
+/// that has room. Of a publication the number of its round is written alone. It takes no memory.
 pub fn write_act(buffer: &mut Vec<u8>, act: &Act)
     requires valid { is_valid act.now ≡ true }
     requires spare { vec_len buffer.old + 160 ≤ vec_capacity buffer.old }
@@ -39,6 +39,9 @@ pub fn write_act(buffer: &mut Vec<u8>, act: &Act)
         } => write_limit(buffer, firm, *credit, *ceiling),
         Act::Offer { firm, amount } => write_account_act(buffer, b"OFFER ", firm, *amount),
         Act::Position { firm } => write_firm(buffer, b"POSITION ", firm),
+        Act::Close { kind, horizon } => write_close(buffer, *kind, horizon),
+        Act::Abandon => put(buffer, b"ABANDON"),
+        Act::Publish { round, .. } => write_publish(buffer, *round),
     }
 }
 
@@ -127,6 +130,40 @@ fn write_limit(buffer: &mut Vec<u8>, firm: &Name, credit: u64, ceiling: u64)
     write_account_act(buffer, b"LIMIT ", firm, credit);
     put(buffer, b" ");
     write_cents(buffer, u128::from(ceiling));
+}
+
+fn write_close(buffer: &mut Vec<u8>, kind: Kind, horizon: &Day)
+    requires spare { vec_len buffer.old + 160 ≤ vec_capacity buffer.old }
+    ensures text { buffer.new.items ≡ buffer.old.items ++ join_with_byte 32 (codes "CLOSE" ∷ kind_text kind ∷ day_text horizon.now ∷ []) }
+    ensures len { vec_len buffer.new ≤ vec_len buffer.old + 80 }
+    ensures room { vec_capacity buffer.old ≤ vec_capacity buffer.new }
+{
+    match kind {
+        Kind::Plain => write_day(buffer, b"CLOSE PLAIN ", horizon),
+        Kind::Funded => write_day(buffer, b"CLOSE FUNDED ", horizon),
+    }
+}
+
+// Words with a space after each, and a day.
+fn write_day(buffer: &mut Vec<u8>, words: &[u8], day: &Day)
+    requires spare { vec_len buffer.old + 160 ≤ vec_capacity buffer.old }
+    requires words { length words.now ≤ 20 }
+    ensures text { buffer.new.items ≡ buffer.old.items ++ (words.now ++ day_text day.now) }
+    ensures len { vec_len buffer.new ≤ vec_len buffer.old + 80 }
+    ensures room { vec_capacity buffer.old ≤ vec_capacity buffer.new }
+{
+    put(buffer, words);
+    day.write(buffer);
+}
+
+fn write_publish(buffer: &mut Vec<u8>, round: u32)
+    requires spare { vec_len buffer.old + 160 ≤ vec_capacity buffer.old }
+    ensures text { buffer.new.items ≡ buffer.old.items ++ join_with_byte 32 (codes "PUBLISH" ∷ decimal round ∷ []) }
+    ensures len { vec_len buffer.new ≤ vec_len buffer.old + 80 }
+    ensures room { vec_capacity buffer.old ≤ vec_capacity buffer.new }
+{
+    put(buffer, b"PUBLISH ");
+    write_number(buffer, i128::from(round));
 }
 
 // Creditor and invoice.

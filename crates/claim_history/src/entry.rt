@@ -5,7 +5,7 @@ ghost use Rattle.claim_history.specs.History.{is_accepted};
 use crate::act::Act;
 use crate::fact::Position;
 
-/// Why an act is refused. The refusals have the numbers 1 to 9 and 11 to 14 in this order.
+/// Why an act is refused. The refusals have the numbers 1 to 19 in this order.
 #[derive(Clone, Copy, PartialEq, Eq, Debug)]
 pub enum Why {
     /// The firm is registered.
@@ -26,6 +26,8 @@ pub enum Why {
     NotDebtor,
     /// The claim's status is one in which the act has no place.
     WrongState,
+    /// The open round holds the claim in its cut or, where it is Funded, the firm among its parties.
+    Frozen { round: u32 },
     /// The amount is above the claim's open amount.
     OverOpen,
     /// The balance and the amount together are above the ceiling.
@@ -34,6 +36,17 @@ pub enum Why {
     BelowFloor,
     /// The balance is not within the new limits.
     LimitsExcludeBalance,
+    /// A round is open, and this Close does not continue it.
+    RoundOpen { round: u32 },
+    /// No round is open, or none of the number that is named.
+    NoRound,
+    /// The open round has another owner.
+    NotOwner { round: u32 },
+    /// The act would be accepted, and the device failed: its count of faults stood at the first number before, and at the
+    /// second after.
+    Device { before: u64, after: u64 },
+    /// The prices do not prove the discharges for the cut of the round.
+    NotProved,
 }
 
 /// What the bureau replies to an act.
@@ -43,14 +56,22 @@ pub enum Reply {
     Done,
     /// The act is accepted, and this is the firm's position.
     Position(Position),
+    /// The round of this number was opened.
+    Opened { round: u32 },
+    /// The open round, of this number, goes on with its cut.
+    Continued { round: u32 },
+    /// The open round was published, and this is the sum of its discharges, in cents.
+    Published { total: u64 },
+    /// The open round, of this number, was abandoned.
+    Abandoned { round: u32 },
     /// The act is refused and changes nothing.
     Refused(Why),
 }
 
 /// One entry of the history: what was asked, by which caller, and the reply.
-#[derive(Clone, Debug, PartialEq, Eq, Drop)]
+#[derive(Clone, Debug, Drop)]
 pub struct Entry {
-    /// Who asked: the number of a lane.
+    /// Who asked: the number of a lane, or 0 for the bureau itself.
     pub caller: u32,
     /// What was asked.
     pub act: Act,

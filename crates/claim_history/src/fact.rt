@@ -46,7 +46,7 @@ pub struct ClaimFact {
     pub status: Status,
     /// The amount as filed.
     pub amount: u64,
-    /// The open amount: the amount less what was received.
+    /// The open amount: the amount less what was received and what rounds discharged.
     pub left: u64,
     /// The day on which the claim is due.
     pub due: Day,
@@ -57,7 +57,7 @@ pub struct ClaimFact {
 pub struct AccountFact {
     /// Whose account it is.
     pub firm: Name,
-    /// The funds less the draws.
+    /// The funds less the draws, and what rounds discharged towards the firm less what they discharged by it.
     pub balance: i64,
     /// How far the balance may fall below zero.
     pub credit: u64,

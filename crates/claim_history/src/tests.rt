@@ -1,10 +1,9 @@
-ghost use Rattle.claim_history.specs.History.{IsLegal, AreValid};
-
 use crate::{
-    Act, Day, Entry, Position, Reply, Why, accepted, full_register_refuses_claims,
-    legal_history_grows, limits_hold, plain_answer, state_is_of_the_history, write_act,
+    Act, Day, Entry, Reply, Why, accepted, full_register_refuses_claims, legal_history_grows,
+    limits_hold, open_cut_is_frozen, owned_round_stays_open, publication_keeps_net_positions,
+    publications_are_greatest, state_is_of_the_history, write_act,
 };
-use setoff_model::{Key, Name};
+use setoff_model::{Key, Kind, Name, Outcome};
 use std::alloc::{AllocError, Global};
 
 // What the acts below are made of: B's claim I-1 against A, due on 31 January 2025.
@@ -78,133 +77,17 @@ fn limit(firm: Name, credit: u64, ceiling: u64) -> Act {
     }
 }
 
-fn position(balance: i64, receivable: u64, payable: u64) -> Reply {
-    Reply::Position(Position {
-        balance,
-        receivable,
-        payable,
+fn close(kind: Kind, horizon: Day) -> Act {
+    Act::Close { kind, horizon }
+}
+
+fn publication(alloc: Global, discharge: u64, price: i64) -> Result<Act, AllocError> {
+    let discharges = vec![in alloc; discharge]?;
+    let prices = vec![in alloc; price]?;
+    Ok(Act::Publish {
+        round: 12,
+        outcome: Outcome::new(discharges, prices),
     })
-}
-
-// Asks a valid act, and leaves out any other.
-fn ask(history: &mut Vec<Entry>, act: Act) -> Result<(), AllocError>
-    requires legal { IsLegal history.old.items }
-    requires valid { AreValid history.old.items }
-    ensures legal { IsLegal history.new.items }
-    ensures valid { AreValid history.new.items }
-{
-    if !act.valid() {
-        return Ok(());
-    }
-    legal_history_grows();
-    full_register_refuses_claims();
-    let reply = plain_answer(history, 1, &act);
-    history.push(Entry {
-        caller: 1,
-        act,
-        reply,
-    })?;
-    Ok(())
-}
-
-fn replayed(alloc: Global, acts: Vec<Act>) -> Result<Vec<Entry>, AllocError> {
-    let mut history = Vec::new(alloc);
-    for act in acts {
-        ask(&mut history, act)?;
-    }
-    Ok(history)
-}
-
-fn are_replies(history: &[Entry], due: &[Reply]) -> bool {
-    history.len() == due.len()
-        && history
-            .iter()
-            .zip(due.iter())
-            .all(|(entry, reply)| entry.reply == *reply)
-}
-
-#[test]
-fn replies(rt: HostRuntime) {
-    let parts = make_parts().expect(&rt, "names and a day");
-    let acts = vec![in rt.alloc();
-        Act::Firm { firm: parts.a },
-        Act::Firm { firm: parts.b },
-        Act::Firm { firm: parts.a },
-        file(&parts, 1_000),
-        file(&parts, 1_000),
-        confirm(&parts),
-        confirm(&parts),
-        receive(&parts, 1_001),
-        receive(&parts, 400),
-        Act::Position { firm: parts.b },
-        dispute(&parts),
-        Act::Position { firm: parts.b },
-        Act::Withdraw { key: parts.key },
-        receive(&parts, 1),
-    ];
-    let history = replayed(rt.alloc(), acts.expect(&rt, "memory")).expect(&rt, "memory");
-    let due = [
-        Reply::Done,
-        Reply::Done,
-        Reply::Refused(Why::FirmExists),
-        Reply::Done,
-        Reply::Refused(Why::ClaimExists),
-        Reply::Done,
-        Reply::Refused(Why::WrongState),
-        Reply::Refused(Why::OverOpen),
-        Reply::Done,
-        position(0, 600, 0),
-        Reply::Done,
-        position(0, 0, 0),
-        Reply::Done,
-        Reply::Refused(Why::WrongState),
-    ];
-    assert!(rt; are_replies(&history, &due));
-    assert!(rt; history.iter().filter(|entry| accepted(entry)).count() == 9);
-}
-
-#[test]
-fn account_limits(rt: HostRuntime) {
-    let parts = make_parts().expect(&rt, "names and a day");
-    let acts = vec![in rt.alloc();
-        Act::Firm { firm: parts.a },
-        limit(parts.a, 5_000, 10_000),
-        draw(parts.a, 5_000),
-        draw(parts.a, 1),
-        Act::Position { firm: parts.a },
-        fund(parts.a, 15_001),
-        fund(parts.a, 15_000),
-        limit(parts.a, 0, 9_999),
-        Act::Offer {
-            firm: parts.a,
-            amount: 9_000
-        },
-        Act::Position { firm: parts.a },
-        fund(parts.b, 500),
-        Act::Firm { firm: parts.b },
-        fund(parts.b, 500),
-        Act::Position { firm: parts.b },
-    ];
-    let history = replayed(rt.alloc(), acts.expect(&rt, "memory")).expect(&rt, "memory");
-    let due = [
-        Reply::Done,
-        Reply::Done,
-        Reply::Done,
-        Reply::Refused(Why::BelowFloor),
-        position(-5_000, 0, 0),
-        Reply::Refused(Why::OverCeiling),
-        Reply::Done,
-        Reply::Refused(Why::LimitsExcludeBalance),
-        Reply::Done,
-        position(10_000, 0, 0),
-        Reply::Refused(Why::UnknownFirm),
-        Reply::Done,
-        Reply::Done,
-        position(500, 0, 0),
-    ];
-    assert!(rt; are_replies(&history, &due));
-    state_is_of_the_history();
-    limits_hold();
 }
 
 fn text_of(alloc: Global, act: &Act) -> Result<Vec<u8>, AllocError> {
@@ -220,7 +103,9 @@ fn texts(rt: HostRuntime) {
     let parts = make_parts().expect(&rt, "names and a day");
     let key = parts.key;
     let firm = parts.a;
-    let texts: [(Act, &[u8]); 11] = [
+    let horizon = parts.due;
+    let publish = publication(rt.alloc(), 700, 1).expect(&rt, "memory");
+    let texts: [(Act, &[u8]); 15] = [
         (Act::Firm { firm }, b"FIRM A"),
         (file(&parts, 1_000), b"FILE B I-1 A 10.00 2025-01-31"),
         (confirm(&parts), b"CONFIRM B I-1 A"),
@@ -232,6 +117,10 @@ fn texts(rt: HostRuntime) {
         (limit(firm, 0, 9_999), b"LIMIT A 0.00 99.99"),
         (Act::Offer { firm, amount: 50 }, b"OFFER A 0.50"),
         (Act::Position { firm }, b"POSITION A"),
+        (close(Kind::Plain, horizon), b"CLOSE PLAIN 2025-01-31"),
+        (close(Kind::Funded, horizon), b"CLOSE FUNDED 2025-01-31"),
+        (Act::Abandon, b"ABANDON"),
+        (publish, b"PUBLISH 12"),
     ];
     for (act, text) in texts.iter() {
         let written = text_of(rt.alloc(), act).expect(&rt, "memory");
@@ -248,4 +137,39 @@ fn ranges(rt: HostRuntime) {
     assert!(rt;
         !limit(parts.a, 0, 1_000_000_000_000).valid() && limit(parts.a, 999_999_999_999, 0).valid()
     );
+    let least = publication(rt.alloc(), 999_999_999_999, -1).expect(&rt, "memory");
+    let too_much = publication(rt.alloc(), 1_000_000_000_000, 1).expect(&rt, "memory");
+    let too_dear = publication(rt.alloc(), 0, 2).expect(&rt, "memory");
+    assert!(rt; least.valid() && least.publishes() && !too_much.valid() && !too_dear.valid());
+    assert!(rt; Act::Abandon.valid() && !Act::Abandon.publishes());
+}
+
+#[test]
+fn acceptance(rt: HostRuntime) {
+    let entry = |reply| Entry {
+        caller: 1,
+        act: Act::Abandon,
+        reply,
+    };
+    assert!(rt; accepted(&entry(Reply::Abandoned { round: 1 })));
+    assert!(rt; accepted(&entry(Reply::Published { total: 0 })));
+    assert!(rt; !accepted(&entry(Reply::Refused(Why::NoRound))));
+    assert!(rt;
+        !accepted(&entry(Reply::Refused(Why::Device {
+            before: 0,
+            after: 1
+        })))
+    );
+}
+
+#[test]
+fn laws() {
+    state_is_of_the_history();
+    legal_history_grows();
+    limits_hold();
+    open_cut_is_frozen();
+    owned_round_stays_open();
+    publication_keeps_net_positions();
+    publications_are_greatest();
+    full_register_refuses_claims();
 }

@@ -4,14 +4,14 @@ use Rattle.std.specs.Prelude.{All, AllPairs}
 use Rattle.std.specs.Str.Lines.{lines}
 use Rattle.std.proofs.lemmas.List.Elements.{All-nil, All-cons}
 use Rattle.std.proofs.lemmas.List.Kept.{AllPairs-cons}
-use Rattle.claim_history.specs.Acts.{is_valid}
+use Rattle.claim_history.specs.Acts.{is_request}
 use Rattle.request_text.specs.declared.request.Request.{Request}
 use Rattle.request_text.specs.Grammar.{AreRequests, IsRequestText}
 use Rattle.request_text.specs.Batches.{AreInOrder}
 
 -- each request has a line from this number on, lane 1 and a valid act
 each : (P : Request → Type 0) (number : ℕ) (lines : List (List ℕ)) (requests : List Request) → AreRequests number lines requests
-    → ((r : Request) → number ≤ r.line → r.lane ≡ 1 → is_valid r.act ≡ true → P r) → All P requests
+    → ((r : Request) → number ≤ r.line → r.lane ≡ 1 → is_request r.act ≡ true → P r) → All P requests
 each P number [] [] h f = All-nil P
 each P number [] (r ∷ requests) h f = absurd h
 each P number (line ∷ lines) [] h f = absurd h
@@ -32,5 +32,5 @@ pub in_order : (bytes : List ℕ) (requests : List Request) → IsRequestText by
 in_order bytes requests h = record {
   rising = rising 1 (lines bytes) requests h;
   lanes = each (λ r. (1 ≤ r.lane) × (r.lane ≤ 16)) 1 (lines bytes) requests h (λ r low lane valid. (omega (arith, lane), omega (arith, lane)));
-  valid = each (λ r. is_valid r.act ≡ true) 1 (lines bytes) requests h (λ r low lane valid. valid);
+  valid = each (λ r. is_request r.act ≡ true) 1 (lines bytes) requests h (λ r low lane valid. valid);
 }

@@ -8,7 +8,7 @@ use Rattle.text_lines.proofs.Joining.{join_law}
 use Rattle.text_lines.proofs.Visible.{known, visible_law, ended_law}
 use Rattle.claim_history.specs.declared.act.Act.{Act}
 use Rattle.claim_history.specs.declared.act.Act.TheVariants as act
-use Rattle.claim_history.specs.Acts.{is_valid, act_fields, act_text}
+use Rattle.claim_history.specs.Acts.{is_request, act_fields, act_text}
 use Rattle.claim_history.proofs.Shapes.{act_texts_law}
 use Rattle.request_text.specs.declared.request.Request.{Request}
 use Rattle.request_text.specs.Grammar.{line_fields, IsLine, AreRequests, IsRequestText, request_line, numbered, ReadBackLaw}
@@ -17,21 +17,21 @@ use Rattle.request_text.proofs.Words.{fields_visible, cut_fields}
 abbrev whole_line : Act → List ℕ
 whole_line a = line_of (line_fields a)
 
-rest_of : (a : Act) (acts : List Act) → All (λ (x : Act). is_valid x ≡ true) (a ∷ acts) → All (λ (x : Act). is_valid x ≡ true) acts
+rest_of : (a : Act) (acts : List Act) → All (λ (x : Act). is_request x ≡ true) (a ∷ acts) → All (λ (x : Act). is_request x ≡ true) acts
 rest_of a acts h = λ k d lt. h (suc k) d (omega (arith, lt))
 
-lines_of_acts : (acts : List Act) → All (λ (x : Act). is_valid x ≡ true) acts → lines (flat_map request_line acts) ≡ map whole_line acts
+lines_of_acts : (acts : List Act) → All (λ (x : Act). is_request x ≡ true) acts → lines (flat_map request_line acts) ≡ map whole_line acts
 lines_of_acts [] h = refl
 lines_of_acts (a ∷ acts) h =
     ap lines (flat_map-cons request_line a acts)
     ∙ ended_law (codes "1") (act_fields a) (flat_map request_line acts) (known (codes "1") refl) (fields_visible visible_law a (h 0 a (omega arith)))
     ∙ ap (λ (ls : List (List ℕ)). whole_line a ∷ ls) (lines_of_acts acts (rest_of a acts h))
 
-are_requests : (number : ℕ) (acts : List Act) → All (λ (x : Act). is_valid x ≡ true) acts → AreRequests number (map whole_line acts) (numbered number acts)
+are_requests : (number : ℕ) (acts : List Act) → All (λ (x : Act). is_request x ≡ true) acts → AreRequests number (map whole_line acts) (numbered number acts)
 are_requests number [] h = tt
 are_requests number (a ∷ acts) h = (refl, refl, (h 0 a (omega arith), refl), are_requests (number + 1) acts (rest_of a acts h))
 
-written : (acts : List Act) → All (λ (x : Act). is_valid x ≡ true) acts → IsRequestText (flat_map request_line acts) (numbered 1 acts)
+written : (acts : List Act) → All (λ (x : Act). is_request x ≡ true) acts → IsRequestText (flat_map request_line acts) (numbered 1 acts)
 written acts h = subst (λ (ls : List (List ℕ)). AreRequests 1 ls (numbered 1 acts)) (sym (lines_of_acts acts h)) (are_requests 1 acts h)
 
 same_act : (line : List ℕ) (a b : Act) → IsLine line a → IsLine line b → a ≡ b
@@ -73,6 +73,9 @@ line_of_act (act.Draw firm amount) = refl
 line_of_act (act.Limit firm credit ceiling) = refl
 line_of_act (act.Offer firm amount) = refl
 line_of_act (act.Position firm) = refl
+line_of_act (act.Close kind horizon) = refl
+line_of_act (act.Abandon) = refl
+line_of_act (act.Publish round outcome) = refl
 
 pub line_written : (old one two three : List ℕ) (a : Act) → one ≡ old ++ codes "1 " → two ≡ one ++ act_text a → three ≡ two ++ codes "\n" → three ≡ old ++ request_line a
 line_written old one two three a p q r =

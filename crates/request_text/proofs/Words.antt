@@ -5,7 +5,9 @@ use Rattle.std.specs.List.{AllByRecursion}
 use Rattle.std.proofs.lemmas.Bool.{leb-true, ltb-true}
 use Rattle.setoff_model.specs.declared.name.Key.{Key}
 use Rattle.setoff_model.specs.Names.{is_name}
-use Rattle.setoff_model.specs.Texts.{cents_text}
+use Rattle.setoff_model.specs.declared.kind.Kind.{Kind}
+use Rattle.setoff_model.specs.declared.kind.Kind.TheVariants.{Plain, Funded}
+use Rattle.setoff_model.specs.Texts.{cents_text, kind_text}
 use Rattle.setoff_model.proofs.Spelling.{spelling_law}
 use Rattle.text_lines.specs.Fields.{fields, line_of, HasNoSpace, JoinLaw, IsVisible, VisibleLaw}
 use Rattle.text_lines.proofs.Spaces.{known_no_space, no_space_of}
@@ -13,7 +15,7 @@ use Rattle.text_lines.proofs.Visible.{known, join, two}
 use Rattle.claim_history.specs.declared.act.Act.{Act}
 use Rattle.claim_history.specs.declared.act.Act.TheVariants as act
 use Rattle.claim_history.specs.Days.{day_text, date_of, two_digits}
-use Rattle.claim_history.specs.Acts.{is_valid, is_key, is_amount, is_claim_amount, is_day, act_fields}
+use Rattle.claim_history.specs.Acts.{is_request, is_key, is_amount, is_claim_amount, is_day, act_fields}
 use Rattle.request_text.specs.declared.error.LineCause.{LineCause}
 use Rattle.request_text.specs.Grammar.{AreNoArgs, AreFields, AreNoFields, IsLine, IsNoLine, line_fields}
 
@@ -56,6 +58,9 @@ no_ceiling firm credit ceiling h (act.Draw firm₂ amount₂) valid e = absurd c
 no_ceiling firm credit ceiling h (act.Limit f c d) valid e = h d (both (is_name f && is_amount c) (is_amount d) valid).1 (ap (λ (fs : List (List ℕ)). get_or fs 3 []) e)
 no_ceiling firm credit ceiling h (act.Offer firm₂ amount₂) valid e = absurd cc
 no_ceiling firm credit ceiling h (act.Position firm₂) valid e = absurd cc
+no_ceiling firm credit ceiling h (act.Close kind₂ horizon₂) valid e = absurd cc
+no_ceiling firm credit ceiling h (act.Abandon) valid e = absurd cc
+no_ceiling firm credit ceiling h (act.Publish round₂ outcome₂) valid e = absurd cc
 
 -- the fields of an act are visible
 
@@ -85,7 +90,11 @@ amount_visible law cents h = law.cents cents (omega (arith, ltb-true cents (10 ^
 claim_amount_visible : VisibleLaw → (cents : ℕ) → is_claim_amount cents ≡ true → IsVisible (cents_text cents)
 claim_amount_visible law cents h = amount_visible law cents (both (nat_le 1 cents) (is_amount cents) h).1
 
-pub fields_visible : VisibleLaw → (a : Act) → is_valid a ≡ true → AllByRecursion IsVisible (act_fields a)
+kind_visible : (kind : Kind) → IsVisible (kind_text kind)
+kind_visible Plain = known (codes "PLAIN") refl
+kind_visible Funded = known (codes "FUNDED") refl
+
+pub fields_visible : VisibleLaw → (a : Act) → is_request a ≡ true → AllByRecursion IsVisible (act_fields a)
 fields_visible law (act.Firm firm) h = (known (codes "FIRM") refl, (law.names firm h, tt))
 fields_visible law (act.File key debtor amount due) h =
     let p = both (is_key key && is_name debtor && is_claim_amount amount) (is_day due) h in
@@ -123,12 +132,16 @@ fields_visible law (act.Offer firm amount) h =
     (known (codes "OFFER") refl, (law.names firm r.0, (amount_visible law amount r.1, tt)))
 fields_visible law (act.Position firm) h = (known (codes "POSITION") refl, (law.names firm h, tt))
 
+fields_visible law (act.Close kind horizon) h = (known (codes "CLOSE") refl, (kind_visible kind, (day_visible horizon, tt)))
+fields_visible law (act.Abandon) h = (known (codes "ABANDON") refl, tt)
+fields_visible law (act.Publish round outcome) h = absurd cc
+
 no_spaces : (fs : List (List ℕ)) → AllByRecursion IsVisible fs → AllByRecursion HasNoSpace fs
 no_spaces [] h = tt
 no_spaces (f ∷ fs) h = (no_space_of f h.0, no_spaces fs h.1)
 
 -- the fields of a line are cut out of it again
-pub cut_fields : JoinLaw → VisibleLaw → (a : Act) → is_valid a ≡ true → fields (line_of (line_fields a)) ≡ line_fields a
+pub cut_fields : JoinLaw → VisibleLaw → (a : Act) → is_request a ≡ true → fields (line_of (line_fields a)) ≡ line_fields a
 cut_fields law visible a valid = law.cut (codes "1") (act_fields a) (known_no_space (codes "1") refl) (no_spaces (act_fields a) (fields_visible visible a valid))
 
 -- a line is read by its fields

@@ -3,17 +3,17 @@ use Rattle.std.specs.Prelude.{◌≡◌, ℕ, ◌+◌, true, List, [], ◌∷◌
 use Rattle.std.specs.Str.Lines.{lines}
 use Rattle.text_lines.specs.Fields.{line_of}
 use Rattle.claim_history.specs.declared.act.Act.{Act}
-use Rattle.claim_history.specs.Acts.{is_valid, act_fields}
+use Rattle.claim_history.specs.Acts.{is_request, act_fields}
 use Rattle.request_text.specs.declared.error.RequestError.{RequestError}
 use Rattle.request_text.specs.declared.error.RequestError.TheVariants as errors
 use Rattle.request_text.specs.declared.request.Request.{Request}
 
 -- a verb and the fields after it that are an act's, and those that are no act's
 abbrev pub AreArgs : List ℕ → List (List ℕ) → Act → Type 0
-AreArgs verb args act = (is_valid act ≡ true) × (verb ∷ args ≡ act_fields act)
+AreArgs verb args act = (is_request act ≡ true) × (verb ∷ args ≡ act_fields act)
 
 abbrev pub AreNoArgs : List ℕ → List (List ℕ) → Type 0
-AreNoArgs verb args = (act : Act) → is_valid act ≡ true → verb ∷ args ≡ act_fields act → ⊥
+AreNoArgs verb args = (act : Act) → is_request act ≡ true → verb ∷ args ≡ act_fields act → ⊥
 
 -- the lane and the act's fields
 abbrev pub line_fields : Act → List (List ℕ)
@@ -21,18 +21,18 @@ line_fields act = codes "1" ∷ act_fields act
 
 -- fields that are an act's, and fields that are no act's
 abbrev pub AreFields : List (List ℕ) → Act → Type 0
-AreFields fields act = (is_valid act ≡ true) × (fields ≡ line_fields act)
+AreFields fields act = (is_request act ≡ true) × (fields ≡ line_fields act)
 
 abbrev pub AreNoFields : List (List ℕ) → Type 0
-AreNoFields fields = (act : Act) → is_valid act ≡ true → fields ≡ line_fields act → ⊥
+AreNoFields fields = (act : Act) → is_request act ≡ true → fields ≡ line_fields act → ⊥
 
 -- a line is an act's fields with single spaces between them
 abbrev pub IsLine : List ℕ → Act → Type 0
-IsLine line act = (is_valid act ≡ true) × (line ≡ line_of (line_fields act))
+IsLine line act = (is_request act ≡ true) × (line ≡ line_of (line_fields act))
 
 -- no act has this line
 abbrev pub IsNoLine : List ℕ → Type 0
-IsNoLine line = (act : Act) → is_valid act ≡ true → line ≡ line_of (line_fields act) → ⊥
+IsNoLine line = (act : Act) → is_request act ≡ true → line ≡ line_of (line_fields act) → ⊥
 
 -- each line is a request's, numbered on
 abbrev pub AreRequests : ℕ → List (List ℕ) → List Request → Type 0
@@ -77,5 +77,5 @@ numbered number (act ∷ acts) = record { line = number; lane = 1; act = act } �
 
 -- what is written is read back: the lines of valid acts are their requests, and no bytes are the text of two lists of requests
 pub record ReadBackLaw : Type 0 where
-  pub written : (acts : List Act) → All (λ a. is_valid a ≡ true) acts → IsRequestText (flat_map request_line acts) (numbered 1 acts)
+  pub written : (acts : List Act) → All (λ a. is_request a ≡ true) acts → IsRequestText (flat_map request_line acts) (numbered 1 acts)
   pub only : (bytes : List ℕ) (a b : List Request) → IsRequestText bytes a → IsRequestText bytes b → a ≡ b

@@ -1,14 +1,15 @@
 //! The act of a line's fields.
 ghost use Rattle.std.specs.Prelude.{◌≡◌, ◌↔◌, ℕ, ◌∷◌, [], codes, map, true, false, IfOk, OnErr, IsTrue};
 ghost use Rattle.setoff_model.specs.Names.{is_name};
-ghost use Rattle.setoff_model.specs.Texts.{cents_text};
+ghost use Rattle.setoff_model.specs.Texts.{cents_text, kind_text};
 ghost use Rattle.claim_history.specs.Days.{day_text};
 ghost use Rattle.claim_history.specs.Acts.{is_key, is_amount, is_claim_amount, is_day};
+ghost use Rattle.setoff_model.specs.declared.kind.Kind.{Kind};
 ghost use Rattle.request_text.specs.Grammar.{AreArgs, AreNoArgs, AreFields, AreNoFields, IsLine, IsNoLine};
 
 use crate::error::LineCause;
 use claim_history::{Act, Day};
-use setoff_model::{Key, Name, read_amount};
+use setoff_model::{Key, Kind, Name, read_amount, read_kind};
 use std::alloc::{AllocError, Global};
 use text_lines::{ended_lines_are_lines, fields_of, joined_fields_are_cut_again};
 
@@ -65,6 +66,17 @@ fn day_at(field: &[u8], k: u32) -> Result<Day, LineCause>
             let _ = day.number();
             Ok(day)
         }
+        None => Err(LineCause::Field(k)),
+    }
+}
+
+// The kind that a field is, the k-th after the verb.
+fn kind_at(field: &[u8], k: u32) -> Result<Kind, LineCause>
+    ensures found { IfOk result (λ kind. field.now ≡ kind_text kind) }
+    ensures bad { OnErr result ((kind : Kind) → field.now ≡ kind_text kind → ⊥) }
+{
+    match read_kind(field) {
+        Some(kind) => Ok(kind),
         None => Err(LineCause::Field(k)),
     }
 }
@@ -300,6 +312,37 @@ fn position_act(args: &[&[u8]]) -> Result<Act, LineCause>
     Ok(Act::Position { firm })
 }
 
+// The act of a CLOSE's fields.
+fn close_act(args: &[&[u8]]) -> Result<Act, LineCause>
+    ensures found { IfOk result (AreArgs (codes "CLOSE") (map (λ f. f.now) args.now)) }
+    ensures bad { OnErr result (AreNoArgs (codes "CLOSE") (map (λ f. f.now) args.now)) }
+{
+    let [kind, horizon] = args else {
+        return Err(LineCause::Fields);
+    };
+    closed(kind, horizon)
+}
+
+fn closed(kind: &[u8], horizon: &[u8]) -> Result<Act, LineCause>
+    ensures found { IfOk result (AreArgs (codes "CLOSE") (kind.now ∷ horizon.now ∷ [])) }
+    ensures bad { OnErr result (AreNoArgs (codes "CLOSE") (kind.now ∷ horizon.now ∷ [])) }
+{
+    let kind = kind_at(kind, 1)?;
+    let horizon = day_at(horizon, 2)?;
+    Ok(Act::Close { kind, horizon })
+}
+
+// The act of an ABANDON, which has no fields.
+fn abandon_act(args: &[&[u8]]) -> Result<Act, LineCause>
+    ensures found { IfOk result (AreArgs (codes "ABANDON") (map (λ f. f.now) args.now)) }
+    ensures bad { OnErr result (AreNoArgs (codes "ABANDON") (map (λ f. f.now) args.now)) }
+{
+    match args {
+        [] => Ok(Act::Abandon),
+        _ => Err(LineCause::Fields),
+    }
+}
+
 // The act of a verb and the fields after it.
 fn verb_act(verb: &[u8], args: &[&[u8]]) -> Result<Act, LineCause>
     ensures found { IfOk result (AreArgs verb.now (map (λ f. f.now) args.now)) }
@@ -327,6 +370,10 @@ fn verb_act(verb: &[u8], args: &[&[u8]]) -> Result<Act, LineCause>
         offer_act(args)
     } else if is_text(verb, b"POSITION") {
         position_act(args)
+    } else if is_text(verb, b"CLOSE") {
+        close_act(args)
+    } else if is_text(verb, b"ABANDON") {
+        abandon_act(args)
     } else {
         Err(LineCause::Verb)
     }

@@ -40,7 +40,8 @@ impl Batch {
         Batch { requests }
     }
 
-    /// The requests, by rising line numbers; each lane is 1 to 16, and each act is valid.
+    /// The requests, by rising line numbers; each lane is 1 to 16, and each act is valid and no
+    /// publication.
     pub fn requests(&self) -> &[Request]
         ensures requests { result.now ≡ self.now }
         ensures in_order { AreInOrder self.now }

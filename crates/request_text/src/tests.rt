@@ -21,7 +21,7 @@ fn requests_are_read(rt: HostRuntime) -> Result<(), Fail> {
 
 #[test]
 fn bad_lines_have_causes(rt: HostRuntime) -> Result<(), Fail> {
-    let cases: [(&[u8], u64, LineCause); 35] = [
+    let cases: [(&[u8], u64, LineCause); 37] = [
         (b"\n", 1, LineCause::Lane),
         (b"\r", 1, LineCause::Lane),
         (b"1 FIRM A\n\n1 FIRM B\n", 2, LineCause::Lane),
@@ -32,9 +32,12 @@ fn bad_lines_have_causes(rt: HostRuntime) -> Result<(), Fail> {
         (b"1", 1, LineCause::Verb),
         (b"1  FIRM A", 1, LineCause::Verb),
         (b"1 firm A", 1, LineCause::Verb),
-        (b"1 CLOSE PLAIN 2025-12-31", 1, LineCause::Verb),
         (b"1 PUBLISH 1", 1, LineCause::Verb),
-        (b"1 ABANDON", 1, LineCause::Verb),
+        (b"1 CLOSE PLAIN", 1, LineCause::Fields),
+        (b"1 CLOSE plain 2025-12-31", 1, LineCause::Field(1)),
+        (b"1 CLOSE FUNDED 2025-12-32", 1, LineCause::Field(2)),
+        (b"1 ABANDON 1", 1, LineCause::Fields),
+        (b"1 ABANDON ", 1, LineCause::Fields),
         (b"1 DISPUTE B I-1", 1, LineCause::Fields),
         (b"1 WITHDRAW B I-1 A", 1, LineCause::Fields),
         (b"1 RECEIVE B I-1 0.00", 1, LineCause::Field(3)),
@@ -77,7 +80,7 @@ fn bad_lines_have_causes(rt: HostRuntime) -> Result<(), Fail> {
 
 #[test]
 fn requests_are_written_as_they_were_read(rt: HostRuntime) -> Result<(), Fail> {
-    let lines: [&[u8]; 12] = [
+    let lines: [&[u8]; 15] = [
         b"1 FIRM A\n",
         b"1 FILE B I-1 A 9999999999.99 9999-12-31\n",
         b"1 CONFIRM B I-1 A\n",
@@ -90,6 +93,9 @@ fn requests_are_written_as_they_were_read(rt: HostRuntime) -> Result<(), Fail> {
         b"1 LIMIT A 9999999999.99 0.00\n",
         b"1 OFFER A 0.00\n",
         b"1 POSITION A\n",
+        b"1 CLOSE PLAIN 2025-12-31\n",
+        b"1 CLOSE FUNDED 1970-01-01\n",
+        b"1 ABANDON\n",
     ];
     for line in lines {
         let batches = read_requests(rt.alloc(), line)?;
@@ -97,7 +103,7 @@ fn requests_are_written_as_they_were_read(rt: HostRuntime) -> Result<(), Fail> {
         assert_eq!(rt; requests.len(), 1);
         let request = &requests[0];
         let mut written = Vec::with_capacity(rt.alloc(), 200)?;
-        if request.lane == 1 && request.act.valid() {
+        if request.lane == 1 && request.act.valid() && !request.act.publishes() {
             write_request(&mut written, request.lane, &request.act);
         }
         assert!(rt; written.as_slice() == line);

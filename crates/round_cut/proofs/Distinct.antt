@@ -2,7 +2,6 @@
 use Rattle.std.specs.Prelude.{filter, if◌then◌else◌}
 use Rattle.std.specs.List.{list_any}
 use Rattle.std.proofs.Common.{◌≡◌, ℕ, Bool, true, false, not, cond, ◌||◌, ◌&&◌, List, [], ◌∷◌, ◌++◌, refl, sym, ◌∙◌, ap, ap₂}
-use Rattle.std.proofs.lemmas.Slice.Eq.{bytes_eq-Decides}
 use Rattle.std.proofs.lemmas.Bool.{false_from_ne_true, false≢true}
 use Rattle.std.proofs.lemmas.List.{append-nil}
 use Rattle.std.proofs.lemmas.List.Elements.{filter-append}
@@ -10,16 +9,7 @@ use Rattle.std.proofs.lemmas.Map.Views.{any-filter_same}
 use Rattle.setoff_model.specs.declared.name.Key.{Key}
 use Rattle.setoff_model.specs.Same.{same_name, same_key}
 use Rattle.claim_history.specs.Cut.{distinct}
-use Rattle.claim_history.proofs.Rows.{name_is}
-
-pub name_same : (a : List ℕ) → same_name a a ≡ true
-name_same a = (bytes_eq-Decides a a).1 refl
-
-pub key_same : (a : Key) → same_key a a ≡ true
-key_same a = ap₂ (λ (x y : Bool). x && y) (name_same a.creditor) (name_same a.invoice)
-
-pub name_other : (a b : List ℕ) → same_name a b ≡ false → same_name b a ≡ false
-name_other a b e = false_from_ne_true (same_name b a) (λ same. false≢true (sym e ∙ ap (λ (x : List ℕ). same_name x b) (sym (name_is b a same)) ∙ name_same b))
+use Rattle.claim_history.proofs.Rows.{name_is, name_same, name_other}
 
 -- whether a name is among them, of those that are not x
 any_other : (n x : List ℕ) (xs : List (List ℕ)) → same_name n x ≡ false → list_any (same_name n) (filter (λ y. not (same_name x y)) xs) ≡ list_any (same_name n) xs

@@ -27,7 +27,7 @@ use Rattle.claim_history.proofs.Rows.{name_is, and_true}
 use Rattle.round_cut.specs.Windows.{KeepsLimits, Window, window_of}
 use Rattle.round_cut.specs.CutOfFacts.{takes_part, claims_due, firms_in, window_or_none, party_in, claim_among, cut_of_facts, has_account, IsClaimOf, AreFacts}
 use Rattle.round_cut.proofs.Places.{any_within}
-use Rattle.round_cut.proofs.Distinct.{name_same}
+use Rattle.claim_history.proofs.Rows.{name_same}
 use Rattle.round_cut.proofs.Growth.{two_names, AreAmong, all_among}
 use Rattle.round_cut.proofs.Pairs.{pairs_map, at_most_one, All-flat_map, found_all}
 

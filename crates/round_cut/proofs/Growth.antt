@@ -16,7 +16,8 @@ use Rattle.claim_history.specs.Cut.{distinct}
 use Rattle.round_cut.specs.CutOfFacts.{takes_part, claims_due, firms_in, party_in, claim_among, parties_in, claims_in}
 use Rattle.round_cut.specs.Growing.{is_party, with_party, with_parties_of, placed}
 use Rattle.round_cut.proofs.Places.{list_any-map, or_left, place_map, place_stays, any_stays}
-use Rattle.round_cut.proofs.Distinct.{name_same, any_distinct, with_name, distinct_push}
+use Rattle.round_cut.proofs.Distinct.{any_distinct, with_name, distinct_push}
+use Rattle.claim_history.proofs.Rows.{name_same}
 
 -- ---- the firms of claims are among their firms
 

@@ -23,7 +23,8 @@ use Rattle.claim_history.specs.declared.fact.AccountFact.{AccountFact}
 use Rattle.claim_history.specs.Acts.{is_valid}
 use Rattle.claim_history.specs.Facts.{Ledger, Filing, firms, filings, filing_of, amount_of, left_of, gained, spent, limits_of, offer_of, claim_fact, claim_facts, account_fact, account_facts}
 use Rattle.claim_history.specs.Cut.{distinct, is_due, due_claims, firms_of, party_of, cut_claim, cut_of}
-use Rattle.claim_history.specs.History.{state_of, IsLegal, AreValid}
+use Rattle.claim_history.specs.States.{state_of}
+use Rattle.claim_history.specs.History.{IsLegal, AreValid}
 use Rattle.claim_history.proofs.Rows.{name_is}
 use Rattle.claim_history.proofs.Formulas.{formulas_law}
 use Rattle.claim_history.proofs.Histories.{limits_law}
@@ -32,9 +33,10 @@ use Rattle.round_cut.specs.CutOfFacts.{takes_part, claims_due, firms_in, window_
 use Rattle.round_cut.specs.CutLaw.{CutLaw, FactsLaw, FormedLaw}
 use Rattle.round_cut.proofs.Places.{list_any-map}
 use Rattle.round_cut.proofs.Growth.{two_names, map_same}
-use Rattle.round_cut.proofs.Pairs.{pairs_map, pairs_reverse, all_reverse}
+use Rattle.round_cut.proofs.Pairs.{pairs_map, pairs_reverse}
+use Rattle.claim_history.proofs.Pasts.{all_reverse}
 use Rattle.round_cut.proofs.Formed.{firms_all, formed}
-use Rattle.round_cut.proofs.Registered.{IsFiling, IsRegister, IsOrderly, orderly}
+use Rattle.claim_history.proofs.Registered.{IsFiling, IsRegister, IsOrderly, orderly}
 
 -- ---- windows
 

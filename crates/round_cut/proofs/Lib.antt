@@ -4,6 +4,5 @@ pub mod Growth
 pub mod Joined
 pub mod Pairs
 pub mod Formed
-pub mod Registered
 pub mod History
 pub mod Worked

@@ -41,8 +41,3 @@ found_step P false x rest here later = later
 pub found_all : {X : Type 0} (P : X → Type 0) (p : X → Bool) (xs : List X) → All P xs → IfSome (find p xs) P
 found_all P p [] all = tt
 found_all P p (x ∷ xs) all = found_step P (p x) x (find p xs) (All-head P x xs all) (found_all P p xs (All-tail P x xs all))
-
-pub all_reverse : {X : Type 0} (P : X → Type 0) (xs : List X) → All P xs → All P (reverse xs)
-all_reverse P xs all = λ k d lt.
-    let long : length (reverse xs) ≡ length xs = length-reverse xs in
-    subst P (sym (get_or-reverse xs k d (omega (arith, lt, long)))) (all (length xs - 1 - k) d (omega (arith, lt, long)))

@@ -4,7 +4,8 @@ use Rattle.setoff_model.specs.declared.kind.Kind.{Kind}
 use Rattle.setoff_model.specs.CutView.{WellFormed}
 use Rattle.claim_history.specs.declared.entry.Entry.{Entry}
 use Rattle.claim_history.specs.Facts.{claim_facts, account_facts}
-use Rattle.claim_history.specs.History.{state_of, IsLegal, AreValid}
+use Rattle.claim_history.specs.States.{state_of}
+use Rattle.claim_history.specs.History.{IsLegal, AreValid}
 use Rattle.claim_history.specs.Cut.{cut_of}
 use Rattle.round_cut.specs.CutOfFacts.{cut_of_facts, AreFacts}
 

@@ -8,7 +8,7 @@ ghost use Rattle.round_cut.specs.Growing.{is_party, with_party};
 
 use crate::windows::window;
 use claim_history::AccountFact;
-use setoff_model::{Kind, Name, Party};
+use setoff_model::{Kind, Name, Party, same_names};
 use std::alloc::AllocError;
 
 /// The place of a firm among the parties. A firm that is none of them is put at the end, with its window.
@@ -75,10 +75,4 @@ fn find_account(accounts: &[AccountFact], firm: &Name) -> Option<usize>
     accounts
         .iter()
         .position(|account| same_names(firm, &account.firm))
-}
-
-pub fn same_names(a: &Name, b: &Name) -> bool
-    ensures { result ≡ same_name a.now b.now }
-{
-    a.bytes() == b.bytes()
 }

@@ -2,10 +2,9 @@ ghost use Rattle.std.specs.Prelude.{◌≢◌, All, AllPairs, IsTrue};
 ghost use Rattle.round_cut.specs.Windows.{KeepsLimits};
 ghost use Rattle.round_cut.specs.CutOfFacts.{has_account as has, IsClaimOf, AreFacts};
 
-use crate::parties::same_names;
 use crate::{build_cut, cut_of_a_history_is_of_its_facts, window};
 use claim_history::{AccountFact, ClaimFact, Day, Status};
-use setoff_model::{Cut, CutClaim, Key, Kind, Name, Party};
+use setoff_model::{Cut, CutClaim, Key, Kind, Name, Party, same_names};
 use std::alloc::{AllocError, Global};
 
 // ---- whether a cut may be made of claims and accounts

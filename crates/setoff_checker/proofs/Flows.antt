@@ -14,24 +14,11 @@ use Rattle.setoff_model.specs.Sums.{above_zero}
 use Rattle.setoff_model.specs.Setoff.{flow_at, claims_bound, price_at}
 use Rattle.setoff_model.proofs.Circulation.{sum_below-le, sum_below-list}
 use Rattle.setoff_model.proofs.Columns.{no_claim}
-
--- what a column has of a claim that was read
-pub column : (f : CutClaim → ℕ) (claims : List CutClaim) (i : ℕ) (x : CutClaim) → x ≡ get_or claims i x → i < length claims → slice_index (map f claims) i ≡ f x
-column f claims i x is in' = get_or-map f claims i x 0 in' ∙ ap f (sym is)
+use Rattle.setoff_model.proofs.Flows.{column, flow_at-le, flow_fits}
 
 -- what holds of all claims holds of one that was read
 pub of_read : (P : CutClaim → Type 0) (claims : List CutClaim) (i : ℕ) (x : CutClaim) → All P claims → x ≡ get_or claims i x → i < length claims → P x
 of_read P claims i x all is in' = rw is (all i x in')
-
--- what one place gets is within the whole sum
-pub flow_at-le : (n : ℕ) (places d : List ℕ) (f : ℕ) → n ≤ length d → flow_at n places d f ≤ sum (take n d)
-flow_at-le n places d f le =
-    let each : (k : ℕ) → k < n → (if slice_index places k == f then slice_index d k else 0) ≤ slice_index d k = λ k _. grind (arith, nat_tests) in
-    omega (arith, sum_below-le n (λ c. if slice_index places c == f then slice_index d c else 0) (λ c. slice_index d c) each, sum_below-list d n le)
-
--- and so is what it has after one discharge more
-pub flow_fits : (n : ℕ) (places d : List ℕ) (f : ℕ) → n < length d → flow_at n places d f + slice_index d n ≤ sum d
-flow_fits n places d f lt = omega (arith, flow_at-le n places d f (omega arith), sum_by_more_le (λ x. x) d n 0 lt)
 
 -- the place of the next claim gets its discharge, and no other place
 pub flow_more : (xs : List ℕ) (n : ℕ) (places d : List ℕ) (q : ℕ) → q ≡ slice_index places n →

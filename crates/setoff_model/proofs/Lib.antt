@@ -6,8 +6,10 @@ pub mod Circulation
 pub mod AsWritten
 pub mod Pairs
 pub mod Columns
+pub mod Flows
 pub mod Limits
 pub mod Spelling
+pub mod Deciding
 pub mod Complementary
 pub mod Squeezed
 pub mod OneSqueezed

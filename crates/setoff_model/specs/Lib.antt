@@ -6,5 +6,6 @@ pub mod Texts
 pub mod Sums
 pub mod Setoff
 pub mod CutView
+pub mod ProofTest
 pub mod Slackness
 pub mod Squeezing

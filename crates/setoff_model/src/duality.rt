@@ -1,6 +1,7 @@
 //! Why prices prove that a set-off is greatest.
 ghost use Rattle.setoff_model.specs.Setoff.{WeakDuality, AsWritten};
 ghost use Rattle.setoff_model.specs.CutView.{LawfulFits, SumsAreBounded};
+ghost use Rattle.setoff_model.specs.ProofTest.{ProofTestLaw};
 ghost use Rattle.setoff_model.specs.Slackness.{Slackness};
 ghost use Rattle.setoff_model.specs.Squeezing.{SqueezingKeeps, SqueezedIsOne};
 
@@ -15,6 +16,12 @@ pub fn weak_duality()
     ensures as_written { AsWritten }
     ensures fits { LawfulFits }
     ensures bounded { SumsAreBounded }
+{}
+
+/// The test `is_proved`, which computes, is true exactly where prices prove discharges. A law, which does nothing when it is
+/// called.
+pub fn proofs_are_decided()
+    ensures { ProofTestLaw }
 {}
 
 /// The law by which a solver knows its end: complementary slackness, for circulations.

@@ -3,15 +3,15 @@ ghost use Rattle.std.specs.Prelude.{◌≡◌, ◌+◌, ◌<◌, ◌≤◌, ◌^
 ghost use Rattle.setoff_model.specs.Texts.{cents_text, signed_cents_text};
 ghost use Rattle.claim_history.specs.Acts.{is_valid};
 ghost use Rattle.claim_history.specs.Laws.{IsReplyInRange};
-ghost use Rattle.statement_text.specs.Entries.{why_text, position_text, reply_text, entry_line};
+ghost use Rattle.statement_text.specs.Entries.{why_name, why_numbers, why_text, spaced, position_text, reply_text, entry_line};
 
 use claim_history::{Entry, Position, Reply, Why, write_act};
 use itoa::Buffer;
 use setoff_model::{put, write_number};
 
 // The number and name of a refusal.
-fn why_name(why: Why) -> &'static [u8]
-    ensures text { result.now ≡ why_text why }
+fn name_of(why: Why) -> &'static [u8]
+    ensures text { result.now ≡ why_name why }
     ensures short { length result.now ≤ 25 }
 {
     match why {
@@ -24,10 +24,16 @@ fn why_name(why: Why) -> &'static [u8]
         Why::UnknownClaim => b"7 unknown-claim",
         Why::NotDebtor => b"8 not-debtor",
         Why::WrongState => b"9 wrong-state",
+        Why::Frozen { .. } => b"10 frozen",
         Why::OverOpen => b"11 over-open",
         Why::OverCeiling => b"12 over-ceiling",
         Why::BelowFloor => b"13 below-floor",
         Why::LimitsExcludeBalance => b"14 limits-exclude-balance",
+        Why::RoundOpen { .. } => b"15 round-open",
+        Why::NoRound => b"16 no-round",
+        Why::NotOwner { .. } => b"17 not-owner",
+        Why::Device { .. } => b"18 device",
+        Why::NotProved => b"19 not-proved",
     }
 }
 
@@ -89,14 +95,65 @@ fn write_position(buffer: &mut Vec<u8>, position: &Position)
     write_named_sum(buffer, b" payable ", position.payable);
 }
 
+// A space and a number.
+fn write_spaced(buffer: &mut Vec<u8>, number: u64)
+    requires { vec_len buffer.old + 21 ≤ vec_capacity buffer.old }
+    ensures text { buffer.new.items ≡ buffer.old.items ++ spaced number }
+    ensures len { vec_len buffer.new ≤ vec_len buffer.old + 21 }
+    ensures room { vec_capacity buffer.old ≤ vec_capacity buffer.new }
+{
+    let mut digits = Buffer::new();
+    put(buffer, b" ");
+    put(buffer, digits.format(number).as_bytes());
+}
+
+// A word, a space and the number of a round.
+fn write_round(buffer: &mut Vec<u8>, word: &[u8], round: u32)
+    requires short { length word.now ≤ 9 }
+    requires spare { vec_len buffer.old + 30 ≤ vec_capacity buffer.old }
+    ensures text { buffer.new.items ≡ buffer.old.items ++ (word.now ++ spaced round) }
+    ensures len { vec_len buffer.new ≤ vec_len buffer.old + 30 }
+    ensures room { vec_capacity buffer.old ≤ vec_capacity buffer.new }
+{
+    put(buffer, word);
+    write_spaced(buffer, u64::from(round));
+}
+
+// The numbers that a refusal tells.
+fn write_numbers(buffer: &mut Vec<u8>, why: Why)
+    requires { vec_len buffer.old + 42 ≤ vec_capacity buffer.old }
+    ensures text { buffer.new.items ≡ buffer.old.items ++ why_numbers why }
+    ensures len { vec_len buffer.new ≤ vec_len buffer.old + 42 }
+    ensures room { vec_capacity buffer.old ≤ vec_capacity buffer.new }
+{
+    match why {
+        Why::Frozen { round } | Why::RoundOpen { round } | Why::NotOwner { round } => {
+            write_spaced(buffer, u64::from(round))
+        }
+        Why::Device { before, after } => write_counts(buffer, before, after),
+        _ => {}
+    }
+}
+
+fn write_counts(buffer: &mut Vec<u8>, before: u64, after: u64)
+    requires { vec_len buffer.old + 42 ≤ vec_capacity buffer.old }
+    ensures text { buffer.new.items ≡ buffer.old.items ++ (spaced before ++ spaced after) }
+    ensures len { vec_len buffer.new ≤ vec_len buffer.old + 42 }
+    ensures room { vec_capacity buffer.old ≤ vec_capacity buffer.new }
+{
+    write_spaced(buffer, before);
+    write_spaced(buffer, after);
+}
+
 fn write_refusal(buffer: &mut Vec<u8>, why: Why)
-    requires { vec_len buffer.old + 40 ≤ vec_capacity buffer.old }
+    requires { vec_len buffer.old + 80 ≤ vec_capacity buffer.old }
     ensures text { buffer.new.items ≡ buffer.old.items ++ (codes "refused " ++ why_text why) }
-    ensures len { vec_len buffer.new ≤ vec_len buffer.old + 40 }
+    ensures len { vec_len buffer.new ≤ vec_len buffer.old + 80 }
     ensures room { vec_capacity buffer.old ≤ vec_capacity buffer.new }
 {
     put(buffer, b"refused ");
-    put(buffer, why_name(why));
+    put(buffer, name_of(why));
+    write_numbers(buffer, why);
 }
 
 fn write_reply(buffer: &mut Vec<u8>, reply: &Reply)
@@ -109,13 +166,17 @@ fn write_reply(buffer: &mut Vec<u8>, reply: &Reply)
     match reply {
         Reply::Done => put(buffer, b"ok"),
         Reply::Position(position) => write_position(buffer, position),
+        Reply::Opened { round } => write_round(buffer, b"opened", *round),
+        Reply::Continued { round } => write_round(buffer, b"continued", *round),
+        Reply::Published { total } => write_named_sum(buffer, b"published ", *total),
+        Reply::Abandoned { round } => write_round(buffer, b"abandoned", *round),
         Reply::Refused(why) => write_refusal(buffer, *why),
     }
 }
 
 /// Writes the line `caller REQUEST = REPLY` of an entry, with its line feed, into a buffer that has room.
 ///
-/// The amounts of a position are below 10^18 cents in size. The line takes at most 200 bytes.
+/// The amounts of a position, and the total of a publication, are below 10^18 cents in size. The line takes at most 200 bytes.
 pub fn write_entry(buffer: &mut Vec<u8>, entry: &Entry)
     requires valid { is_valid entry.now.act ≡ true }
     requires range { IsReplyInRange entry.now.reply }

@@ -1,6 +1,5 @@
 use Rattle.std.proofs.Common.{◌≡◌, [], ◌∷◌, ◌++◌, sym, ◌∙◌, ap, subst, arith}
-use Rattle.std.proofs.lemmas.Grind.{common_steps}
-use Rattle.claim_history.specs.History.{answer_of}
+use Rattle.claim_history.specs.History.{MayFollow}
 use Rattle.claim_book.specs.Book.{BookView}
 use Rattle.claim_book.specs.Tables.{FirmsOnce, KeysOnce, AreSmall}
 use Rattle.claim_book.proofs.Books.{accounts_once, claims_once, accounts_small, book_grows}
@@ -20,8 +19,6 @@ change_accounts-requires-clause-small c =
 
 pub invariant_of-self : goal.invariant_of-self
 invariant_of-self c =
-    let pushed : c.push.new.self.items ≡ c.self.inside.entries.items ++ c.args.entry ∷ [] = grind (arith, common_steps) in
-    let due : c.args.entry.reply ≡ answer_of c.self.inside.entries.items c.args.entry.caller c.args.entry.act =
-    c.requires.due ∙ ap (λ (b : BookView). answer_of b.history c.args.entry.caller c.args.entry.act) (sym c.self.view_is) in
-    rw (pushed, c.change_claims.ensures.items, c.change_accounts.ensures.items)
-    (book_grows c.self.inside.entries.items c.self.inside.claims.items c.self.inside.accounts.items c.args.entry c.self.invariant c.requires.valid due)
+    let next = subst (λ (b : BookView). MayFollow b.history c.args.entry) (sym c.self.view_is) c.requires.next in
+    rw (c.put_entry.ensures.items, c.change_claims.ensures.items, c.change_accounts.ensures.items, c.end_round.ensures)
+    (book_grows c.self.inside.entries.items c.self.inside.claims.items c.self.inside.accounts.items c.self.inside.openings c.self.inside.kept c.args.entry c.self.invariant c.requires.valid c.requires.apart c.requires.no_opening next)

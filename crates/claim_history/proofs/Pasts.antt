@@ -1,0 +1,15 @@
+-- Histories, and their pasts.
+use Rattle.std.specs.Prelude.{reverse}
+use Rattle.std.proofs.Common.{◌≡◌, List, [], ◌∷◌, ◌++◌, All, ap, ◌∙◌, sym, subst, append_assoc}
+use Rattle.std.proofs.lemmas.List.{reverse-append}
+use Rattle.std.proofs.lemmas.List.Elements.{All-nil, All-cons, All-head, All-tail, All-append}
+
+pub all_reverse : {X : Type 0} (P : X → Type 0) (xs : List X) → All P xs → All P (reverse xs)
+all_reverse P [] h = h
+all_reverse P (x ∷ xs) h =
+    subst (All P) (sym (reverse-append (x ∷ []) xs)) (All-append P (reverse xs) (x ∷ []) (all_reverse P xs (All-tail P x xs h)) (All-cons P x [] (All-head P x xs h) (All-nil P)))
+
+-- the past of a history with one entry between two parts
+pub reverse_parts : {X : Type 0} (xs ys : List X) (x : X) → reverse (xs ++ x ∷ ys) ≡ reverse ys ++ x ∷ reverse xs
+reverse_parts {X = X} xs ys x =
+    reverse-append xs (x ∷ ys) ∙ ap (λ (zs : List X). zs ++ reverse xs) (reverse-append (x ∷ []) ys) ∙ append_assoc (reverse ys) (x ∷ []) (reverse xs)

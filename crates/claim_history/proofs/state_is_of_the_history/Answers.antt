@@ -1,5 +1,0 @@
-use Rattle.claim_history.proofs.state_is_of_the_history.Goals as goal
-use Rattle.claim_history.proofs.Growth.{acts_law}
-
-pub returns : goal.returns
-returns c = record { acts = acts_law }

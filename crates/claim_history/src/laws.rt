@@ -1,0 +1,56 @@
+//! What holds of every legal history. Each of these calls does nothing.
+ghost use Rattle.claim_history.specs.Laws.{ActsLaw, CutLaw, GrowthLaw, ReplayLaw, LimitsLaw, FormulasLaw, SizesLaw, RepliesLaw, FrozenLaw, OwnedLaw, PublicationLaw, GreatestLaw, OpeningsLaw};
+ghost use Rattle.claim_history.specs.Register.{FullRegister};
+
+/// What a history comes to is that of its entries: its acts are the accepted ones, newest first, and its open round has the cut
+/// of the entries before its opening. As many rounds were opened as entries open one.
+pub fn state_is_of_the_history()
+    ensures acts { ActsLaw }
+    ensures cut { CutLaw }
+    ensures openings { OpeningsLaw }
+{}
+
+/// A legal history stays legal with one more entry whose reply is the history's one reply or tells of a device, and each list
+/// of calls, replayed, gives a legal history.
+pub fn legal_history_grows()
+    ensures growth { GrowthLaw }
+    ensures replay { ReplayLaw }
+{}
+
+/// After every legal history each account is within its limits, and of no claim is more received and discharged than its amount.
+/// Where the acts are valid too, every balance is within 10^15 cents of zero, and nobody is owed or owes more than 262,144
+/// amounts of 10^12 cents, so the replies are in range. The limits, the windows of a cut, and the tests of the refusals that
+/// speak of them, are the formulas that they are named for.
+pub fn limits_hold()
+    ensures limits { LimitsLaw }
+    ensures sizes { SizesLaw }
+    ensures formulas { FormulasLaw }
+    ensures replies { RepliesLaw }
+{}
+
+/// While a round is open, each claim of its cut is confirmed with the cut's amount open, and each window of its cut is today's.
+pub fn open_cut_is_frozen()
+    ensures { FrozenLaw }
+{}
+
+/// After an accepted CLOSE its round stays open with its cut as long as neither its owner nor the bureau itself asks anything.
+pub fn owned_round_stays_open()
+    ensures { OwnedLaw }
+{}
+
+/// A publication keeps every firm's receivable less its payable plus its balance.
+pub fn publication_keeps_net_positions()
+    ensures { PublicationLaw }
+{}
+
+/// The prices of each published entry prove its discharges for the cut of its round, and so no lawful set-off of that cut
+/// discharges more.
+pub fn publications_are_greatest()
+    ensures { GreatestLaw }
+{}
+
+/// Where 262,143 claims were filed, two registered firms may file one more, and where 262,144 were, the next one is
+/// refused: a new key since the register is full, and one that was filed since it was filed.
+pub fn full_register_refuses_claims()
+    ensures { FullRegister }
+{}
