@@ -6,3 +6,4 @@ pub mod Pairs
 pub mod Formed
 pub mod History
 pub mod Worked
+pub mod OpenCut

@@ -1,10 +1,10 @@
 -- The facts of a history, and its cut.
-use Rattle.std.specs.Prelude.{◌≡◌, ℕ, List}
+use Rattle.std.specs.Prelude.{◌≡◌, ℕ, List, Some}
 use Rattle.setoff_model.specs.declared.kind.Kind.{Kind}
 use Rattle.setoff_model.specs.CutView.{WellFormed}
 use Rattle.claim_history.specs.declared.entry.Entry.{Entry}
 use Rattle.claim_history.specs.Facts.{claim_facts, account_facts}
-use Rattle.claim_history.specs.States.{state_of}
+use Rattle.claim_history.specs.States.{OpenRound, state_of}
 use Rattle.claim_history.specs.History.{IsLegal, AreValid}
 use Rattle.claim_history.specs.Cut.{cut_of}
 use Rattle.round_cut.specs.CutOfFacts.{cut_of_facts, AreFacts}
@@ -21,3 +21,7 @@ FactsLaw = (history : List Entry) → IsLegal history → AreValid history → A
 -- so its cut is well formed
 abbrev pub FormedLaw : Type 0
 FormedLaw = (history : List Entry) (round : ℕ) (kind : Kind) (horizon : ℕ) → IsLegal history → AreValid history → WellFormed (cut_of round (state_of history).ledger kind horizon)
+
+-- so the cut of its open round is well formed
+abbrev pub OpenFormedLaw : Type 0
+OpenFormedLaw = (history : List Entry) → IsLegal history → AreValid history → (round : OpenRound) → (state_of history).open_round ≡ Some round → WellFormed round.cut

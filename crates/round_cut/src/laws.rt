@@ -1,6 +1,6 @@
 //! Why the cut of a history may be made of its facts.
 ghost use Rattle.round_cut.specs.Windows.{WindowsLaw};
-ghost use Rattle.round_cut.specs.CutLaw.{CutLaw, FactsLaw, FormedLaw};
+ghost use Rattle.round_cut.specs.CutLaw.{CutLaw, FactsLaw, FormedLaw, OpenFormedLaw};
 
 /// After a legal history of valid acts, what it says of claims and accounts meets what `build_cut` asks for, the cut
 /// made of it is the history's, and so the history's cut is well formed. Where an account is within its limits, its
@@ -11,4 +11,9 @@ pub fn cut_of_a_history_is_of_its_facts()
     ensures facts { FactsLaw }
     ensures formed { FormedLaw }
     ensures windows { WindowsLaw }
+{}
+
+/// The cut of the open round of a legal history of valid acts is well formed. A law, which does nothing when it is called.
+pub fn open_cut_is_well_formed()
+    ensures { OpenFormedLaw }
 {}

@@ -7,7 +7,7 @@ mod parties;
 mod windows;
 
 pub use building::build_cut;
-pub use laws::cut_of_a_history_is_of_its_facts;
+pub use laws::{cut_of_a_history_is_of_its_facts, open_cut_is_well_formed};
 pub use windows::window;
 
 #[cfg(test)]
