@@ -1,15 +1,14 @@
 -- Without a fault the whole text is written, or memory is missing.
-use Rattle.std.specs.Prelude.{if◌then◌else◌, Option, Some, None, codes}
+use Rattle.std.specs.Prelude.{if◌then◌else◌, Option, Some, None}
 use Rattle.std.proofs.Common.{◌≡◌, ℕ, ◌+◌, ◌≤◌, Bool, true, false, List, [], ◌∷◌, ◌++◌, length, ◌⊎◌, inl, inr, refl, sym, ◌∙◌, ap, subst, arith}
-use Rattle.std.specs.Io.KnownBytes.{Appends, Consumes, IsAtEnd}
+use Rattle.std.specs.Io.KnownBytes.{Consumes, IsAtEnd}
 use Rattle.std.specs.List.{list_all}
 use Rattle.std.proofs.lemmas.List.{append-nil, length-append}
-use Rattle.bureau_edge.specs.Streams.{AppendsPart, TakesAll}
 use Rattle.request_text.specs.declared.request.Request.{Request}
 use Rattle.request_text.specs.Grammar.{IsRequestText}
 use Rattle.request_text.proofs.ReadBack.{read_back_law}
-use Rattle.bureau_program.specs.Writing.{IsWritten, Wrote, whole, broken}
-use Rattle.bureau_program.specs.Serving.{IsServedRun, end_status}
+use Rattle.bureau_program.specs.Writing.{IsWritten, whole, broken}
+use Rattle.bureau_program.specs.Serving.{IsServedRun}
 use Rattle.bureau_program.specs.Headline.{most_bytes, AreRun, AreCheck, IsBatchDue, IsRunDue, IsReadDue, IsDue, Ran, no_output_memory, served, no_request_memory, bad_line, batch, no_input_memory, read_fault, too_long, input_read, bad_words, run_words, check_words}
 use Rattle.bureau_program.specs.Completeness.{IsWholeInput, IsComplete, Completes, all_written, no_memory}
 

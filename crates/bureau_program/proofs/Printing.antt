@@ -223,7 +223,7 @@ number_after caller a (reply.Published total) s was round e = absurd (none-some 
 number_after caller a (reply.Abandoned number) s was round e = absurd (none-some round e)
 number_after caller a r s was round e = was round e
 
-number_from : (past : List Entry) (round : OpenRound) → (state past).open_round ≡ Some round → 1 ≤ round.cut.round
+pub number_from : (past : List Entry) (round : OpenRound) → (state past).open_round ≡ Some round → 1 ≤ round.cut.round
 number_from [] round e = absurd (none-some round e)
 number_from (e ∷ past) round is = number_after e.caller e.act e.reply (state past) (number_from past) round is
 

@@ -1,45 +1,26 @@
 -- The publication of the open round is what is due.
-use Rattle.std.specs.Prelude.{Option, Some, None, is_some, unsigned_abs, pos, ℤ, ◌==◌, reverse}
+use Rattle.std.specs.Prelude.{Option, Some, None, is_some, unsigned_abs, pos, ◌==◌, reverse}
 use Rattle.std.specs.List.{list_all}
 use Rattle.std.specs.Option.{option_map}
-use Rattle.std.proofs.Common.{◌≡◌, ℕ, ◌+◌, ◌<◌, ◌≤◌, ◌^◌, Bool, true, false, not, ◌&&◌, List, [], ◌∷◌, ◌++◌, length, get_or, All, nat_le, nat_lt, refl, sym, ◌∙◌, ap, subst, true≢false, arith}
+use Rattle.std.proofs.Common.{◌≡◌, ℕ, ◌<◌, ◌≤◌, ◌^◌, Bool, true, false, not, ◌&&◌, List, [], ◌∷◌, length, get_or, All, nat_le, nat_lt, refl, sym, ◌∙◌, ap, subst, true≢false, arith}
 use Rattle.std.proofs.lemmas.Bool.{eq-eqb, le-leb, lt-ltb}
 use Rattle.std.proofs.lemmas.List.Elements.{All-head, All-tail, All-from_get_or, All-weaker}
+use Rattle.std.proofs.lemmas.Option.{same_Some}
 use Rattle.setoff_model.specs.CutView.{CutView, OutcomeView, WellFormed, obligations}
 use Rattle.setoff_model.specs.Setoff.{Proves, IsOldestFirst, total_of}
 use Rattle.setoff_model.specs.ProofTest.{is_proved}
 use Rattle.setoff_model.proofs.Columns.{parties_long, claims_long, lawful_fits}
 use Rattle.setoff_model.proofs.Deciding.{proof_test_law}
-use Rattle.claim_history.specs.declared.act.Act.{Act}
 use Rattle.claim_history.specs.declared.act.Act.TheVariants as act
 use Rattle.claim_history.specs.declared.entry.Reply.{Reply}
 use Rattle.claim_history.specs.declared.entry.Reply.TheVariants as reply
 use Rattle.claim_history.specs.declared.entry.Why.{Why}
 use Rattle.claim_history.specs.declared.entry.Entry.{Entry}
 use Rattle.claim_history.specs.Acts.{is_valid, is_amount, is_outcome, is_round}
-use Rattle.claim_history.specs.States.{OpenRound, State, after, open_as, state, state_of}
+use Rattle.claim_history.specs.States.{OpenRound, State, state_of}
 use Rattle.claim_history.specs.History.{answer, publish_answer, refused_or}
-use Rattle.claim_history.proofs.Rounds.{none_open, same_open}
 use Rattle.bureau_program.specs.Closing.{IsOutcomeDue, Owns}
-
--- ---- rounds are numbered from 1
-
-abbrev IsNumbered : Option OpenRound → Type 0
-IsNumbered o = (round : OpenRound) → o ≡ Some round → 1 ≤ round.cut.round
-
-opened_numbered : (caller : ℕ) (a : Act) (s : State) → IsNumbered s.open_round → IsNumbered (open_as caller a s).open_round
-opened_numbered caller (act.Close kind horizon) s h round e = subst (λ (r : OpenRound). 1 ≤ r.cut.round) (same_open _ round e) (omega arith)
-opened_numbered caller a s h round e = h round e
-
-after_numbered : (caller : ℕ) (a : Act) (r : Reply) (s : State) → IsNumbered s.open_round → IsNumbered (after caller a r s).open_round
-after_numbered caller a (reply.Opened number) s h round e = opened_numbered caller a s h round e
-after_numbered caller a (reply.Published total) s h round e = absurd (none_open round e)
-after_numbered caller a (reply.Abandoned number) s h round e = absurd (none_open round e)
-after_numbered caller a r s h round e = h round e
-
-pub numbered : (past : List Entry) (round : OpenRound) → (state past).open_round ≡ Some round → 1 ≤ round.cut.round
-numbered [] round e = absurd (none_open round e)
-numbered (e ∷ past) round is = after_numbered e.caller e.act e.reply (state past) (numbered past) round is
+use Rattle.bureau_program.proofs.Printing.{number_from}
 
 -- ---- the act is valid
 
@@ -94,28 +75,20 @@ publication_due s caller number outcome due =
 
 -- ---- the round of the open cut
 
-cut_or : CutView → Option CutView → CutView
-cut_or other None = other
-cut_or other (Some cut) = cut
-
-some_cut : (a b : CutView) → Some a ≡ Some b → a ≡ b
-unfolding cut_or
-some_cut a b e = ap (cut_or a) e
-
 pub open_of : (o : Option OpenRound) (cut : CutView) → Some cut ≡ option_map (λ round. round.cut) o → (round : OpenRound) × (o ≡ Some round) × (cut ≡ round.cut)
 open_of None cut e = absurd (true≢false (ap is_some e))
-open_of (Some round) cut e = (round, refl, some_cut cut round.cut e)
+open_of (Some round) cut e = (round, refl, same_Some cut round.cut e)
 
 pub outcome_due : (history : List Entry) (caller number : ℕ) (cut : CutView) (outcome : OutcomeView) (round : OpenRound) → (state_of history).open_round ≡ Some round → cut ≡ round.cut → Owns caller (state_of history) → number ≡ cut.round
     → WellFormed cut → Proves (obligations cut) outcome.discharges outcome.prices → IsOldestFirst (obligations cut) outcome.discharges → IsOutcomeDue (state_of history) caller number outcome
 outcome_due history caller number cut outcome round was same owned number_is formed proved oldest =
-    let one : owned.0 ≡ round = same_open owned.0 round (sym owned.1.is_open ∙ was) in
+    let one : owned.0 ≡ round = same_Some owned.0 round (sym owned.1.is_open ∙ was) in
     let place : number ≡ round.cut.round = number_is ∙ ap (λ (k : CutView). k.round) same in
     record {
       round = round;
       owned = record { is_open = was; owner = ap (λ (r : OpenRound). r.owner) (sym one) ∙ owned.1.owner };
       number_is = place;
-      round_from = subst (λ (n : ℕ). 1 ≤ n) (sym place) (numbered (reverse history) round was);
+      round_from = subst (λ (n : ℕ). 1 ≤ n) (sym place) (number_from (reverse history) round was);
       well_formed = subst WellFormed same formed;
       proved = subst (λ (k : CutView). Proves (obligations k) outcome.discharges outcome.prices) same proved;
       oldest_first = subst (λ (k : CutView). IsOldestFirst (obligations k) outcome.discharges) same oldest;

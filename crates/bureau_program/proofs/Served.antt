@@ -1,6 +1,6 @@
 -- What one request adds to a history.
-use Rattle.std.specs.Prelude.{reverse, map, Option, Some, None, is_some}
-use Rattle.std.proofs.Common.{◌≡◌, ℕ, ◌+◌, Bool, true, false, List, [], ◌∷◌, ◌++◌, All, refl, sym, ◌∙◌, ap, ap₂, subst, true≢false, append_assoc}
+use Rattle.std.specs.Prelude.{reverse, map}
+use Rattle.std.proofs.Common.{◌≡◌, ℕ, ◌+◌, Bool, true, false, List, [], ◌∷◌, ◌++◌, refl, sym, ◌∙◌, ap, ap₂, subst, true≢false, append_assoc}
 use Rattle.std.proofs.lemmas.List.{append-nil, reverse-append}
 use Rattle.std.proofs.lemmas.List.Elements.{All-nil}
 use Rattle.setoff_model.specs.declared.kind.Kind.{Kind}
@@ -14,7 +14,7 @@ use Rattle.claim_history.specs.declared.entry.Entry.{Entry}
 use Rattle.claim_history.specs.Acts.{is_publication}
 use Rattle.claim_history.specs.Facts.{Settled, claim_facts, account_facts}
 use Rattle.claim_history.specs.Cut.{cut_of}
-use Rattle.claim_history.specs.States.{OpenRound, State, after, open_as, publish, state, state_of}
+use Rattle.claim_history.specs.States.{State, after, open_as, state, state_of}
 use Rattle.claim_history.specs.History.{IsLegal, AreValid, MayFollow, answer_of, is_accepted, replied}
 use Rattle.claim_history.specs.Laws.{IsAcceptedClose}
 use Rattle.claim_history.proofs.Growth.{growth_law}
@@ -25,7 +25,7 @@ use Rattle.round_cut.specs.CutOfFacts.{cut_of_facts}
 use Rattle.round_cut.proofs.History.{cut_law}
 use Rattle.bureau_program.specs.declared.closing.Closed.TheVariants.{Accepted}
 use Rattle.bureau_program.specs.Printing.{cuts_of}
-use Rattle.bureau_program.specs.Serving.{Adds, EndsAtOnce, IsAcceptedCall, IsAnswered, IsCall, IsPublicationAfter, is_close, left_open, published, unserved}
+use Rattle.bureau_program.specs.Serving.{EndsAtOnce, IsAnswered, IsCall, IsPublicationAfter, is_close, left_open, published, unserved}
 use Rattle.bureau_program.specs.Serving.{replied as one_reply}
 use Rattle.bureau_program.specs.Closing.{IsClosed, IsPublished, Owns}
 

@@ -1,6 +1,6 @@
 use Rattle.std.proofs.Common.{◌≡◌, sym, ◌∙◌, subst}
 use Rattle.setoff_model.specs.CutView.{CutView, OutcomeView, WellFormed, obligations}
-use Rattle.setoff_model.specs.Setoff.{Proves, IsOldestFirst}
+use Rattle.setoff_model.specs.Setoff.{IsOldestFirst}
 use Rattle.claim_history.specs.States.{state_of}
 use Rattle.bureau_program.proofs.Published.{open_of, outcome_due}
 use Rattle.bureau_program.proofs.closing.publish.Goals as goal

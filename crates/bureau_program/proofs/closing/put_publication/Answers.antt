@@ -1,4 +1,4 @@
-use Rattle.std.proofs.Common.{◌∙◌, ap, sym, arith}
+use Rattle.std.proofs.Common.{◌∙◌, ap, arith}
 use Rattle.claim_history.specs.declared.entry.Reply.TheVariants as replies
 use Rattle.claim_history.specs.History.{replied}
 use Rattle.claim_history.specs.States.{state_of}

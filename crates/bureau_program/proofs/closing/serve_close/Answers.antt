@@ -1,6 +1,6 @@
 use Rattle.std.proofs.Common.{refl}
 use Rattle.claim_history.specs.declared.act.Act.TheVariants as acts
-use Rattle.bureau_program.proofs.Served.{answered_nothing, answered_one, answered_closed, ends_refused}
+use Rattle.bureau_program.proofs.Served.{answered_nothing, answered_one, answered_closed}
 use Rattle.bureau_program.proofs.closing.serve_close.Goals as goal
 
 -- src/closing.rt:54:9
