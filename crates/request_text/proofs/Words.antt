@@ -131,7 +131,6 @@ fields_visible law (act.Offer firm amount) h =
     let r = both (is_name firm) (is_amount amount) h in
     (known (codes "OFFER") refl, (law.names firm r.0, (amount_visible law amount r.1, tt)))
 fields_visible law (act.Position firm) h = (known (codes "POSITION") refl, (law.names firm h, tt))
-
 fields_visible law (act.Close kind horizon) h = (known (codes "CLOSE") refl, (kind_visible kind, (day_visible horizon, tt)))
 fields_visible law (act.Abandon) h = (known (codes "ABANDON") refl, tt)
 fields_visible law (act.Publish round outcome) h = absurd cc

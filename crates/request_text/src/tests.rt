@@ -21,7 +21,7 @@ fn requests_are_read(rt: HostRuntime) -> Result<(), Fail> {
 
 #[test]
 fn bad_lines_have_causes(rt: HostRuntime) -> Result<(), Fail> {
-    let cases: [(&[u8], u64, LineCause); 37] = [
+    let cases: [(&[u8], u64, LineCause); 38] = [
         (b"\n", 1, LineCause::Lane),
         (b"\r", 1, LineCause::Lane),
         (b"1 FIRM A\n\n1 FIRM B\n", 2, LineCause::Lane),
