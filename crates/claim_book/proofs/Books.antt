@@ -250,8 +250,7 @@ pub settling_fits : (entries : List Entry) (e : Entry) (kept : KeptRound) (numbe
     → is_accepted e ≡ true → e.act ≡ act.Publish number outcome → MayFollow entries e → (length outcome.discharges ≡ length kept.cut.claims) × (total_of outcome.discharges < 10 ^ 18)
 settling_fits entries e kept number outcome legal valid is accepted asks next =
     let p = settling entries e number outcome accepted asks next in
-    let cut : kept.cut ≡ p.round.cut = same_kept kept (state_of entries).open_round p.round is p.was_open in
-    (
+    let cut : kept.cut ≡ p.round.cut = same_kept kept (state_of entries).open_round p.round is p.was_open in (
       p.lawful.one_each ∙ length-map p.round.cut.claims (λ (c : CutClaim). c.amount) ∙ ap (λ (c : CutView). length c.claims) (sym cut),
       published_small entries legal valid p.round outcome.discharges p.was_open p.lawful,
     )

@@ -63,8 +63,7 @@ firm_knows : (s : State) (firm : List ℕ) → Knows s → Knows (accept (act.Fi
 firm_knows s firm inv =
     let l = s.ledger in
     let m = with_act (act.Firm firm) l in
-    let more : (g : List ℕ) → IsKnown l g → IsKnown m g = λ g. or_right (same_name g firm) (is_registered l g) in
-    (
+    let more : (g : List ℕ) → IsKnown l g → IsKnown m g = λ g. or_right (same_name g firm) (is_registered l g) in (
       All-weaker (AreKnown l) (AreKnown m) (λ f both. (more f.debtor both.0, more f.key.creditor both.1)) (filings l) inv.0,
       λ round e. wider l m round.cut more (λ key there. there) (inv.1 round e),
     )
@@ -73,8 +72,7 @@ file_knows : (s : State) (key : Key) (debtor : List ℕ) (amount due : ℕ) → 
 file_knows s key debtor amount due inv none =
     let l = s.ledger in
     let new : Filing = record { key = key; debtor = debtor; amount = amount; due = due } in
-    let known = or_parts _ _ none.0 in
-    (
+    let known = or_parts _ _ none.0 in (
       All-cons (AreKnown l) new (filings l) (not_false _ known.1, not_false _ known.0) inv.0,
       λ round e. wider l (with_act (act.File key debtor amount due) l) round.cut (λ firm there. there) (λ k. filed_still (same_key k key) new (filing_of l k)) (inv.1 round e),
     )
@@ -112,8 +110,7 @@ party_known l Funded firm known = known
 cut_known : (n : ℕ) (l : Ledger) (kind : Kind) (horizon : ℕ) → KnowsFilings l → KnowsCut l (cut_of n l kind horizon)
 cut_known n l kind horizon known =
     let due = due_claims l horizon in
-    let names = firms_of due in
-    (
+    let names = firms_of due in (
       All-map (λ (p : Party). IsKnown l p.firm) (party_of l kind) names
           (All-weaker (IsKnown l) (λ firm. IsKnown l (party_of l kind firm).firm) (party_known l kind) names
           (distinct_all (IsKnown l) (flat_map (λ (f : Filing). f.debtor ∷ f.key.creditor ∷ []) due) (names_all (IsKnown l) due (due_all (AreKnown l) l horizon known)))),

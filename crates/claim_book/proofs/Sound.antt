@@ -168,7 +168,6 @@ abandon_sound l n (Some round) caller inv =
 
 -- ---- the one reply keeps it
 
-
 answer_sound : (s : State) (caller : ℕ) (a : Act) → Knows s → IsSound s.ledger → IsSound (after caller a (answer s caller a) s).ledger
 answer_sound s caller (act.Firm firm) known inv =
     by_rows (λ r. IsSound (after caller (act.Firm firm) r s).ledger) (firm_refusals s firm) reply.Done (λ w. inv)

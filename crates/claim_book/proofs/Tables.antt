@@ -214,8 +214,7 @@ account_settled l number outcome new g =
 pub settled_tables : (l : Ledger) (number : ℕ) (outcome : OutcomeView) (new : Settled)
     → (account_facts (settled_with (act.Publish number outcome) new l) ≡ map (settled_account new) (account_facts l)) × (claim_facts (settled_with (act.Publish number outcome) new l) ≡ map (settled_claim new) (claim_facts l))
 settled_tables l number outcome new =
-    let m = settled_with (act.Publish number outcome) new l in
-    (
+    let m = settled_with (act.Publish number outcome) new l in (
       sym (map_map (settled_account new) (account_fact l) (account_fact m) (reverse (firms l)) (account_settled l number outcome new)),
       sym (map_map (settled_claim new) (claim_fact l) (claim_fact m) (reverse (filings l)) (claim_settled l number outcome new)),
     )

@@ -56,9 +56,7 @@ pub fn holds_firm(kept: &Option<KeptRound>, firm: &Name) -> bool
 {
     match kept {
         None => false,
-        Some(round) => {
-            is_funded(round.cut.kind()) && place_of_firm(&round.cut, firm).is_some()
-        }
+        Some(round) => { is_funded(round.cut.kind()) && place_of_firm(&round.cut, firm).is_some() }
     }
 }
 
@@ -109,11 +107,13 @@ pub fn take_cut(kept: &mut Option<KeptRound>) -> Cut
     ensures none { kept.new ≡ None }
 {
     match kept.take() {
-        Some(KeptRound {
-            owner: _,
-            horizon: _,
-            cut,
-        }) => cut,
+        Some(
+            KeptRound {
+                owner: _,
+                horizon: _,
+                cut,
+            },
+        ) => cut,
         None => unreachable!(),
     }
 }
