@@ -1,3 +1,6 @@
+ghost use Rattle.std.specs.Prelude.{IsTrue};
+ghost use Rattle.claim_history.specs.Laws.{IsReplyInRange};
+
 use crate::StatementCause::{After, Limit, NoEnd, NoParty, Repeat, Round, SameFirm, Shape, Window};
 use crate::{
     StatementCause, StatementError, each_statement_has_one_reading, read_statement, write_claim,
@@ -203,7 +206,10 @@ fn reply_line(alloc: Global, reply: Reply) -> Result<Vec<u8>, AllocError> {
     Ok(buffer)
 }
 
-fn in_range(reply: &Reply) -> bool {
+// Whether the total of a publication is one that a line has room for; no position is.
+fn in_range(reply: &Reply) -> bool
+    ensures { IsTrue result → IsReplyInRange reply.now }
+{
     match reply {
         Reply::Position(_) => false,
         Reply::Published { total } => *total < 1_000_000_000_000_000_000,
