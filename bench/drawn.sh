@@ -2,6 +2,8 @@
 # Writes requests of drawn claims and one round to standard output: bench/drawn.sh FIRMS CLAIMS SEED [HORIZON]
 # Each claim has a debtor, a creditor and an amount drawn by a linear congruential generator of 32 bits, and is confirmed.
 # The last line closes a PLAIN round with the horizon, by default 2025-12-31. With `none` there is no such line.
+# With `dimacs` it writes the net of these claims instead, as a minimum cost flow problem in the DIMACS format: an arc for each
+# debtor and creditor, with their claims' sum as its capacity and a cost of -1 a cent.
 set -eu
 exec python3 - "${1:?usage: bench/drawn.sh FIRMS CLAIMS SEED [HORIZON]}" "${2:?}" "${3:?}" "${4:-2025-12-31}" <<'PYTHON'
 import sys
@@ -16,16 +18,36 @@ def draw():
     return state // 65_536
 
 
-for firm in range(1, firms + 1):
-    print(f"1 FIRM F-{firm}")
-for claim in range(1, claims + 1):
+def drawn():
+    """A debtor and a creditor, from 1, and cents."""
     debtor = draw() % firms
     creditor = draw() % (firms - 1)
     creditor += creditor >= debtor
-    cents = draw() + 1
-    key = f"F-{creditor + 1} I-{claim} F-{debtor + 1}"
-    print(f"1 FILE {key} {cents // 100}.{cents % 100:02} 2025-01-01")
-    print(f"1 CONFIRM {key}")
-if horizon != "none":
-    print(f"1 CLOSE PLAIN {horizon}")
+    return debtor + 1, creditor + 1, draw() + 1
+
+
+def requests():
+    for firm in range(1, firms + 1):
+        yield f"1 FIRM F-{firm}"
+    for claim in range(1, claims + 1):
+        debtor, creditor, cents = drawn()
+        key = f"F-{creditor} I-{claim} F-{debtor}"
+        yield f"1 FILE {key} {cents // 100}.{cents % 100:02} 2025-01-01"
+        yield f"1 CONFIRM {key}"
+    if horizon != "none":
+        yield f"1 CLOSE PLAIN {horizon}"
+
+
+def problem():
+    arcs = {}
+    for _ in range(claims):
+        debtor, creditor, cents = drawn()
+        arcs[debtor, creditor] = arcs.get((debtor, creditor), 0) + cents
+    yield f"p min {firms} {len(arcs)}"
+    for (debtor, creditor), cents in arcs.items():
+        yield f"a {debtor} {creditor} 0 {cents} -1"
+
+
+for line in problem() if horizon == "dimacs" else requests():
+    print(line)
 PYTHON

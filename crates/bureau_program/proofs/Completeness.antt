@@ -7,7 +7,7 @@ use Rattle.std.proofs.lemmas.List.{append-nil, length-append}
 use Rattle.request_text.specs.declared.request.Request.{Request}
 use Rattle.request_text.specs.Grammar.{IsRequestText}
 use Rattle.request_text.proofs.ReadBack.{read_back_law}
-use Rattle.bureau_program.specs.Writing.{IsWritten, whole, broken}
+use Rattle.printed_text.specs.Writing.{IsWritten, whole, broken}
 use Rattle.bureau_program.specs.Serving.{IsServedRun}
 use Rattle.bureau_program.specs.Headline.{most_bytes, AreRun, AreCheck, IsBatchDue, IsRunDue, IsReadDue, IsDue, Ran, no_output_memory, served, no_request_memory, bad_line, batch, no_input_memory, read_fault, too_long, input_read, bad_words, run_words, check_words}
 use Rattle.bureau_program.specs.Completeness.{IsWholeInput, IsComplete, Completes, all_written, no_memory}

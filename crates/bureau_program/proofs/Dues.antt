@@ -6,9 +6,9 @@ use Rattle.bureau_edge.specs.Streams.{AppendsPart}
 use Rattle.claim_history.specs.declared.entry.Entry.{Entry}
 use Rattle.claim_history.specs.History.{IsLegal}
 use Rattle.request_text.specs.declared.request.Request.{Request}
-use Rattle.bureau_program.specs.Printing.{printed_of}
+use Rattle.printed_text.specs.Printing.{printed_of}
 use Rattle.bureau_program.specs.Serving.{IsServed, IsServedRun, end_status}
-use Rattle.bureau_program.specs.Writing.{IsWritten, Wrote, whole, broken}
+use Rattle.printed_text.specs.Writing.{IsWritten, Wrote, whole, broken}
 
 -- what was due for one reason was due for another
 pub wrote_for : (P Q : ℕ → List ℕ → Type 0) (x y : Option (List ℕ)) (status : ℕ) → ((due : ℕ) (text : List ℕ) → P due text → Q due text) → Wrote P x y status → Wrote Q x y status

@@ -1,5 +1,3 @@
-pub mod Passing
-pub mod Printing
 pub mod Served
 pub mod Published
 pub mod Dues

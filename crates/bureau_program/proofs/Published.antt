@@ -11,6 +11,7 @@ use Rattle.setoff_model.specs.Setoff.{Proves, IsOldestFirst, total_of}
 use Rattle.setoff_model.specs.ProofTest.{is_proved}
 use Rattle.setoff_model.proofs.Columns.{parties_long, claims_long, lawful_fits}
 use Rattle.setoff_model.proofs.Deciding.{proof_test_law}
+use Rattle.setoff_model.proofs.Circulation.{weak_duality}
 use Rattle.claim_history.specs.declared.act.Act.TheVariants as act
 use Rattle.claim_history.specs.declared.entry.Reply.{Reply}
 use Rattle.claim_history.specs.declared.entry.Reply.TheVariants as reply
@@ -19,8 +20,9 @@ use Rattle.claim_history.specs.declared.entry.Entry.{Entry}
 use Rattle.claim_history.specs.Acts.{is_valid, is_amount, is_outcome, is_round}
 use Rattle.claim_history.specs.States.{OpenRound, State, state_of}
 use Rattle.claim_history.specs.History.{answer, publish_answer, refused_or}
+use Rattle.bureau_program.specs.Serving.{IsPublicationAfter}
 use Rattle.bureau_program.specs.Closing.{IsOutcomeDue, Owns}
-use Rattle.bureau_program.proofs.Printing.{number_from}
+use Rattle.printed_text.proofs.Printing.{number_from}
 
 -- ---- the act is valid
 
@@ -72,6 +74,20 @@ publication_due s caller number outcome due =
     sym (ap (λ (o : Option OpenRound). publish_answer o caller number outcome) due.owned.is_open
     ∙ passes (round.cut.round == number) (round.owner == caller) (is_proved (obligations round.cut) outcome.discharges outcome.prices) _ _ _ _
     (eq-eqb _ _ (sym due.number_is)) (eq-eqb _ _ due.owned.owner) ((proof_test_law (obligations round.cut) outcome.discharges outcome.prices).1 due.proved))
+
+-- and the entry is the publication of the open round
+pub publication_after : (history : List Entry) (caller number total : ℕ) (outcome : OutcomeView) → IsOutcomeDue (state_of history) caller number outcome → total ≡ total_of outcome.discharges
+    → IsPublicationAfter history caller (record { caller = caller; act = act.Publish number outcome; reply = reply.Published total })
+publication_after history caller number total outcome due is = record {
+  round = due.round;
+  outcome = outcome;
+  was_open = due.owned.is_open;
+  call = record { by = refl; asks = ap (λ (n : ℕ). act.Publish n outcome) due.number_is };
+  reply_is = ap reply.Published is;
+  proved = due.proved;
+  greatest = weak_duality.proved_is_greatest _ _ _ due.proved;
+  oldest_first = due.oldest_first;
+}
 
 -- ---- the round of the open cut
 

@@ -24,7 +24,7 @@ use Rattle.claim_history.proofs.Greatest.{reply_published}
 use Rattle.round_cut.specs.CutOfFacts.{cut_of_facts}
 use Rattle.round_cut.proofs.History.{cut_law}
 use Rattle.bureau_program.specs.declared.closing.Closed.TheVariants.{Accepted}
-use Rattle.bureau_program.specs.Printing.{cuts_of}
+use Rattle.printed_text.specs.Printing.{cuts_of}
 use Rattle.bureau_program.specs.Serving.{EndsAtOnce, IsAnswered, IsCall, IsPublicationAfter, is_close, left_open, published, unserved}
 use Rattle.bureau_program.specs.Serving.{replied as one_reply}
 use Rattle.bureau_program.specs.Closing.{IsClosed, IsPublished, Owns}

@@ -11,9 +11,9 @@ use Rattle.setoff_checker.specs.declared.verdict.Verdict.{Verdict}
 use Rattle.setoff_checker.specs.Verdicts.{IsVerdict}
 use Rattle.statement_text.specs.declared.error.StatementCause.{StatementCause}
 use Rattle.statement_text.specs.Statements as statements
-use Rattle.bureau_program.specs.Texts.{bad_line_text, bad_statement_text, verdict_text, verdict_status}
+use Rattle.printed_text.specs.Texts.{bad_line_text, bad_statement_text, verdict_text, verdict_status}
 use Rattle.bureau_program.specs.Serving.{IsServedRun}
-use Rattle.bureau_program.specs.Writing.{Wrote}
+use Rattle.printed_text.specs.Writing.{Wrote}
 
 -- the most bytes of an input: 2^26
 abbrev pub most_bytes : ℕ

@@ -1,8 +1,5 @@
-pub mod Texts
-pub mod Printing
 pub mod Serving
 pub mod Closing
-pub mod Writing
 pub mod Headline
 pub mod Commands
 pub mod Completeness

@@ -2,7 +2,7 @@
 use Rattle.std.specs.Prelude.{◌≡◌, ℕ, Bool, true, false, List, [], ◌∷◌, ◌++◌, Some, if◌then◌else◌}
 use Rattle.std.specs.List.{list_all}
 use Rattle.setoff_model.specs.CutView.{OutcomeView, obligations}
-use Rattle.setoff_model.specs.Setoff.{Proves, IsOldestFirst, total_of}
+use Rattle.setoff_model.specs.Setoff.{Proves, IsGreatest, IsOldestFirst, total_of}
 use Rattle.claim_history.specs.declared.act.Act.{Act}
 use Rattle.claim_history.specs.declared.act.Act.TheVariants as act
 use Rattle.claim_history.specs.declared.entry.Entry.{Entry}
@@ -10,7 +10,7 @@ use Rattle.claim_history.specs.declared.entry.Reply.TheVariants as reply
 use Rattle.claim_history.specs.States.{OpenRound, state_of}
 use Rattle.claim_history.specs.History.{IsLegal, is_accepted}
 use Rattle.request_text.specs.declared.request.Request.{Request}
-use Rattle.bureau_program.specs.Printing.{printed_of}
+use Rattle.printed_text.specs.Printing.{printed_of}
 
 -- the caller's call of the act
 pub record IsCall (caller : ℕ) (a : Act) (e : Entry) : Type 0 where
@@ -33,8 +33,8 @@ pub record IsAcceptedCall (caller : ℕ) (a : Act) (e : Entry) : Type 0 where
   pub closes : is_close a ≡ true
   pub accepted : is_accepted e ≡ true
 
--- the caller's publication of the round that is open after a history: its prices prove its discharges for the round's cut, and
--- the claims of one debtor and one creditor are discharged oldest first
+-- the caller's publication of the round that is open after a history: its prices prove its discharges for the round's cut, no
+-- lawful set-off of the cut discharges more, and the claims of one debtor and one creditor are discharged oldest first
 pub record IsPublicationAfter (history : List Entry) (caller : ℕ) (e : Entry) : Type 0 where
   pub round : OpenRound
   pub outcome : OutcomeView
@@ -42,6 +42,7 @@ pub record IsPublicationAfter (history : List Entry) (caller : ℕ) (e : Entry) 
   pub call : IsCall caller (act.Publish round.cut.round outcome) e
   pub reply_is : e.reply ≡ reply.Published (total_of outcome.discharges)
   pub proved : Proves (obligations round.cut) outcome.discharges outcome.prices
+  pub greatest : IsGreatest (obligations round.cut) outcome.discharges
   pub oldest_first : IsOldestFirst (obligations round.cut) outcome.discharges
 
 -- what one request adds to the entries before it. Where it was served: one entry or, where it is a Close that is accepted, this

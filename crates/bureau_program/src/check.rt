@@ -3,13 +3,11 @@ ghost use Rattle.std.specs.Prelude.{◌≡◌, ◌≢◌};
 ghost use Rattle.std.specs.Str.Lines.{lines};
 ghost use Rattle.bureau_edge.specs.Causes.{Rose};
 ghost use Rattle.statement_text.specs.Statements as statements;
-ghost use Rattle.bureau_program.specs.Writing.{Wrote};
+ghost use Rattle.printed_text.specs.Writing.{Wrote};
 ghost use Rattle.bureau_program.specs.Headline.{IsCheckDue};
 
-use crate::fault_text::write_bad_statement;
-use crate::told::told;
-use crate::verdict_text::{status_of_verdict, write_verdict};
 use bureau_edge::Sink;
+use printed_text::{status_of_verdict, told, write_bad_statement, write_verdict};
 use setoff_checker::Checker;
 use setoff_model::{Cut, Outcome};
 use statement_text::{StatementCause, StatementError, read_statement};

@@ -1,4 +1,6 @@
 //! Closing: a Close opens or continues a round, which is solved, certified and published.
+//!
+//! The steps of a round are functions that are never inlined, so that a profile of the program shows what each takes.
 ghost use Rattle.std.specs.Prelude.{◌≡◌, ◌<◌, ◌≤◌, true, false, IfOk, IsTrue, vec_len, vec_capacity};
 ghost use Rattle.setoff_model.specs.CutView.{WellFormed, obligations};
 ghost use Rattle.setoff_model.specs.Setoff.{IsOldestFirst};
@@ -7,14 +9,15 @@ ghost use Rattle.claim_history.specs.States.{state_of};
 ghost use Rattle.claim_history.specs.History.{IsLegal, answer_of, is_opening};
 ghost use Rattle.claim_history.specs.declared.act.Act.TheVariants as acts;
 ghost use Rattle.claim_history.specs.declared.entry.Reply.TheVariants as replies;
-ghost use Rattle.bureau_program.specs.Printing.{cuts_of};
+ghost use Rattle.flow_solver.specs.Solution.{IsSolution};
+ghost use Rattle.printed_text.specs.Printing.{cuts_of};
 ghost use Rattle.bureau_program.specs.Serving.{IsAnswered};
 ghost use Rattle.bureau_program.specs.Closing.{Owns, IsClosed, HasRoomIfAccepted, IsPublished, IsOutcomeDue, IsPublishedAs};
 
 use crate::serve::has_room;
 use claim_book::Book;
 use claim_history::{Act, Day, Entry, Reply, accepted};
-use flow_solver::{PlainSolver, Solver};
+use flow_solver::{Flow, PlainSolver, Solver};
 use netting_graph::Net;
 use price_certificate::outcome_of;
 use round_cut::{build_cut, cut_of_a_history_is_of_its_facts, open_cut_is_well_formed};
@@ -78,6 +81,7 @@ fn put_close(alloc: Global, book: &mut Book, caller: u32, kind: Kind, horizon: D
 }
 
 // Puts the entry of a Close at the end that opens the round of this number, where there was the memory for its cut.
+#[inline(never)]
 fn open_round(
     alloc: Global,
     book: &mut Book,
@@ -151,13 +155,14 @@ fn publish(alloc: Global, book: &mut Book, rounds: &mut Vec<Cut>, caller: u32) -
 }
 
 // A greatest set-off of a cut, found by the plain solver and certified by the checker. An error is want of memory.
+#[inline(never)]
 fn certified(alloc: Global, cut: Cut) -> Result<Checked, AllocError>
     requires { WellFormed cut }
     ensures cut { IfOk result (λ checked. checked.cut ≡ cut) }
     ensures oldest_first { IfOk result (λ checked. IsOldestFirst (obligations cut) checked.outcome.discharges) }
 {
     let net = Net::of(alloc, &cut)?;
-    let flow = PlainSolver::new().solve(alloc, &net)?;
+    let flow = solved(alloc, &net)?;
     let outcome = outcome_of(alloc, &cut, &net, flow)?;
     let checker = Checker::for_cut(alloc, &cut)?;
     match checker.certify(cut, outcome) {
@@ -166,7 +171,16 @@ fn certified(alloc: Global, cut: Cut) -> Result<Checked, AllocError>
     }
 }
 
+// What the plain solver finds for a net. An error is want of memory.
+#[inline(never)]
+fn solved(alloc: Global, net: &Net) -> Result<Flow, AllocError>
+    ensures { IfOk result (λ flow. IsSolution net.now flow) }
+{
+    PlainSolver::new().solve(alloc, net)
+}
+
 // Puts the publication of the open round at the end, and its cut at the end of the cuts.
+#[inline(never)]
 fn put_publication(
     book: &mut Book,
     rounds: &mut Vec<Cut>,

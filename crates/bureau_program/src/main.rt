@@ -4,16 +4,11 @@
 mod check;
 mod closing;
 mod command;
-mod fault_text;
-mod output;
 mod run;
 mod serve;
-mod statement;
 #[cfg(test)]
 mod tests;
-mod told;
 mod top;
-mod verdict_text;
 
 use bureau_edge::{StandardIn, StandardOut};
 use std::env;

@@ -3,17 +3,15 @@ ghost use Rattle.std.specs.Prelude.{◌≡◌, ◌≢◌, ◌≤◌, ◌+◌, []
 ghost use Rattle.bureau_edge.specs.Causes.{Rose};
 ghost use Rattle.claim_history.specs.Acts.{is_request};
 ghost use Rattle.request_text.specs.Grammar.{IsFirstBadLine, IsNoRequestText};
-ghost use Rattle.bureau_program.specs.Printing.{cuts_of};
+ghost use Rattle.printed_text.specs.Printing.{cuts_of};
 ghost use Rattle.bureau_program.specs.Serving.{IsServed, IsServedRun};
-ghost use Rattle.bureau_program.specs.Writing.{Wrote};
+ghost use Rattle.printed_text.specs.Writing.{Wrote};
 ghost use Rattle.bureau_program.specs.Headline.{IsBatchDue, IsRunDue};
 
-use crate::fault_text::write_bad_line;
-use crate::output::{output_buffer, print_run};
 use crate::serve::{Served, serve_all, status_of};
-use crate::told::told;
 use bureau_edge::Sink;
 use claim_history::limits_hold;
+use printed_text::{output_buffer, print_run, told, write_bad_line};
 use request_text::{LineCause, Request, RequestError, read_requests};
 use std::alloc::Global;
 

@@ -5,7 +5,7 @@ ghost use Rattle.claim_history.specs.Acts.{is_valid, is_request, is_publication}
 ghost use Rattle.claim_history.specs.States.{state_of};
 ghost use Rattle.claim_history.specs.History.{IsLegal, AreValid};
 ghost use Rattle.claim_book.specs.Book.{room_for};
-ghost use Rattle.bureau_program.specs.Printing.{cuts_of};
+ghost use Rattle.printed_text.specs.Printing.{cuts_of};
 ghost use Rattle.bureau_program.specs.Serving.{IsServed, IsAnswered, is_close, end_status};
 
 use crate::closing::serve_close;

@@ -1,4 +1,4 @@
-use crate::top::bureau;
+use crate::top::{Ended, bureau};
 use bureau_edge::{BytesSink, BytesSource, Failed, Source, SureSource};
 use std::alloc::{AllocError, Global};
 use std::test::Fail;
@@ -210,15 +210,7 @@ fn checks(rt: HostRuntime) -> Result<(), Fail> {
         ),
     ];
     for (input, status, output) in cases {
-        let source = SureSource::new(Vec::from_slice(rt.alloc(), input)?);
-        let sink = BytesSink::new(rt.alloc(), Vec::new(rt.alloc()));
-        let ended = bureau(
-            &rt,
-            rt.alloc(),
-            words_of(rt.alloc(), &["check"])?,
-            source,
-            sink,
-        );
+        let ended = ended_for(&rt, "check", Vec::from_slice(rt.alloc(), input)?)?;
         assert!(rt; ended.status == status);
         assert!(rt; ended.sink.bytes() == output);
     }
@@ -267,19 +259,12 @@ fn a_line_of_a_million_bytes(rt: HostRuntime) -> Result<(), Fail> {
     for _ in 0..1_000_000 {
         input.push(b'A')?;
     }
-    let source = SureSource::new(input);
-    let sink = BytesSink::new(rt.alloc(), Vec::new(rt.alloc()));
-    let ended = bureau(
-        &rt,
-        rt.alloc(),
-        words_of(rt.alloc(), &["run"])?,
-        source,
-        sink,
-    );
+    let ended = ended_for(&rt, "run", input)?;
     assert!(rt; ended.status == 6);
     assert!(rt; ended.sink.bytes() == b"fault line 1 field 1\n".as_slice());
     Ok(())
 }
+
 // Rounds: requests, the output with ? for each price, and the verdict on its statement.
 const ROUNDS: [(&[u8], &[u8], &[u8]); 6] = [
     (
@@ -356,29 +341,103 @@ fn statement_in(alloc: Global, output: &[u8]) -> Result<Vec<u8>, AllocError> {
     Ok(statement)
 }
 
+// What the program ends with for a word and an input.
+fn ended_for(
+    rt: &HostRuntime,
+    word: &str,
+    input: Vec<u8>,
+) -> Result<Ended<SureSource, BytesSink>, AllocError> {
+    let words = words_of(rt.alloc(), &[word])?;
+    let source = SureSource::new(input);
+    let sink = BytesSink::new(rt.alloc(), Vec::new(rt.alloc()));
+    Ok(bureau(rt, rt.alloc(), words, source, sink))
+}
+
 // Each output is the expected one but for its prices, and `check` accepts its statement.
 #[test]
 fn rounds(rt: HostRuntime) -> Result<(), Fail> {
     for (requests, output, verdict) in ROUNDS {
-        let source = SureSource::new(Vec::from_slice(rt.alloc(), requests)?);
-        let sink = BytesSink::new(rt.alloc(), Vec::new(rt.alloc()));
-        let ended = bureau(
-            &rt,
-            rt.alloc(),
-            words_of(rt.alloc(), &["run"])?,
-            source,
-            sink,
-        );
+        let ended = ended_for(&rt, "run", Vec::from_slice(rt.alloc(), requests)?)?;
         assert!(rt; ended.status == 0);
         assert!(rt; is_like(ended.sink.bytes(), output));
         let statement = statement_in(rt.alloc(), ended.sink.bytes())?;
-        let judged = bureau(
-            &rt,
-            rt.alloc(),
-            words_of(rt.alloc(), &["check"])?,
-            SureSource::new(statement),
-            BytesSink::new(rt.alloc(), Vec::new(rt.alloc())),
-        );
+        let judged = ended_for(&rt, "check", statement)?;
+        assert!(rt; judged.status == 0);
+        assert!(rt; judged.sink.bytes() == verdict);
+    }
+    Ok(())
+}
+
+// The next of the numbers that a seed begins.
+fn next(x: &mut u32) -> u32 {
+    *x = x.wrapping_mul(1_664_525).wrapping_add(1_013_904_223);
+    *x / 65_536
+}
+
+// The filing and the confirmation of a claim that is drawn between two of so many firms, of which there are two or more.
+fn drawn_claim(
+    alloc: Global,
+    x: &mut u32,
+    firms: u32,
+    claim: u32,
+) -> Result<Option<String>, AllocError> {
+    let (Some(debtor), Some(other)) = (
+        next(x).checked_rem(firms),
+        next(x).checked_rem(firms.saturating_sub(1)),
+    ) else {
+        return Ok(None);
+    };
+    let creditor = if other < debtor {
+        other
+    } else {
+        other.saturating_add(1)
+    };
+    let cents = u64::from(next(x)) + 1;
+    let (units, rest) = (cents / 100, cents % 100);
+    let text = format!(in alloc;
+        "1 FILE F-{creditor} I-{claim} F-{debtor} {units}.{rest:02} 2025-01-01\n1 CONFIRM F-{creditor} I-{claim} F-{debtor}\n"
+    )?;
+    Ok(Some(text))
+}
+
+// The requests of so many firms and of so many drawn claims among them, all confirmed, and a Close.
+fn drawn_requests(
+    alloc: Global,
+    firms: u32,
+    claims: u32,
+    seed: u32,
+) -> Result<Option<Vec<u8>>, AllocError> {
+    let mut requests = String::new(alloc);
+    for firm in 0..firms {
+        requests.push_str(&format!(in alloc; "1 FIRM F-{firm}\n")?)?;
+    }
+    let mut x = seed;
+    for claim in 0..claims {
+        match drawn_claim(alloc, &mut x, firms, claim)? {
+            Some(text) => requests.push_str(&text)?,
+            None => return Ok(None),
+        }
+    }
+    requests.push_str("1 CLOSE PLAIN 2025-12-31\n")?;
+    Ok(Some(requests.into_bytes()))
+}
+
+// `check` accepts the statements of rounds of drawn claims. The totals were found by a min-cost-flow solver.
+#[test]
+fn drawn_rounds(rt: HostRuntime) -> Result<(), Fail> {
+    let cases: [(u32, u32, u32, &[u8]); 4] = [
+        (2, 40, 4, b"yes 11557.74\n"),
+        (12, 100, 2, b"yes 27035.62\n"),
+        (30, 200, 3, b"yes 46863.90\n"),
+        (60, 400, 1, b"yes 80898.46\n"),
+    ];
+    for (firms, claims, seed, verdict) in cases {
+        let requests = drawn_requests(rt.alloc(), firms, claims, seed)?;
+        let requests = requests.expect(&rt, "two firms");
+        let ended = ended_for(&rt, "run", requests)?;
+        assert!(rt; ended.status == 0);
+        let statement = statement_in(rt.alloc(), ended.sink.bytes())?;
+        let judged = ended_for(&rt, "check", statement)?;
         assert!(rt; judged.status == 0);
         assert!(rt; judged.sink.bytes() == verdict);
     }

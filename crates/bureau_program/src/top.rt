@@ -1,7 +1,7 @@
 //! The top call: words, source and sink.
 ghost use Rattle.std.specs.Prelude.{◌≡◌, ◌≢◌, map, string_bytes};
 ghost use Rattle.bureau_edge.specs.Causes.{Rose};
-ghost use Rattle.bureau_program.specs.Writing.{Wrote};
+ghost use Rattle.printed_text.specs.Writing.{Wrote};
 ghost use Rattle.bureau_program.specs.Headline.{IsReadDue, Ran};
 ghost use Rattle.bureau_program.specs.Commands.{AreNoWords, IsInputDue};
 ghost use Rattle.bureau_program.specs.Completeness.{Completes};
@@ -9,8 +9,8 @@ ghost use Rattle.bureau_program.specs.Completeness.{Completes};
 use crate::check::check_input;
 use crate::command::{Command, command_of};
 use crate::run::run_input;
-use crate::told::told;
 use bureau_edge::{ReadEnd, Sink, Source, read_whole};
+use printed_text::told;
 use std::alloc::Global;
 
 /// The most bytes of an input: 2^26.

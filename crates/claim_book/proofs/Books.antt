@@ -35,10 +35,10 @@ use Rattle.claim_history.proofs.Agreement.{openings_law}
 use Rattle.std.proofs.lemmas.List.Sums.{count_by-le-length}
 use Rattle.claim_book.specs.declared.round.KeptRound.{KeptRound}
 use Rattle.claim_book.specs.Book.{ledger_of, round_kept, is_abandoned, IsClose, IsBook}
-use Rattle.claim_book.specs.Settling.{settled_claim, settled_account}
-use Rattle.claim_book.specs.Tables.{accounts_after, claims_after, FirmsOnce, KeysOnce, AreSmall}
+use Rattle.fact_tables.specs.Settling.{settled_claim, settled_account}
+use Rattle.fact_tables.specs.Tables.{accounts_after, claims_after, FirmsOnce, KeysOnce, AreSmall}
 use Rattle.claim_book.proofs.Names.{key_same}
-use Rattle.claim_book.proofs.Places.{find_once, sum_by-map}
+use Rattle.fact_tables.proofs.Places.{find_once, sum_by-map}
 use Rattle.claim_book.proofs.Sound.{IsSound, sound}
 use Rattle.claim_book.proofs.Tables.{tables, settled_with, settled_tables}
 

@@ -1,10 +1,7 @@
 pub mod Names
-pub mod Places
 pub mod Known
 pub mod Sound
 pub mod Tables
-pub mod Balances
-pub mod Flowing
 pub mod Books
 pub mod Lookups
 pub mod Found

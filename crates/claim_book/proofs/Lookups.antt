@@ -18,7 +18,7 @@ use Rattle.claim_history.specs.Facts.{Ledger, Filing, firms, is_registered, fili
 use Rattle.claim_history.specs.History.{IsLegal}
 use Rattle.claim_history.proofs.Rows.{name_is}
 use Rattle.claim_book.specs.Book.{ledger_of, account_in, claim_in, position_in}
-use Rattle.claim_book.proofs.Places.{count_cons, sum_by-map}
+use Rattle.fact_tables.proofs.Places.{count_cons, sum_by-map}
 use Rattle.claim_book.proofs.Sound.{sound}
 
 -- ---- accounts

@@ -26,9 +26,9 @@ use Rattle.claim_history.specs.States.{OpenRound}
 use Rattle.claim_history.specs.History.{close_answer, close_refusals, abandon_answer, abandon_refusals, publish_answer, publish_refusals}
 use Rattle.claim_history.proofs.Rounds.{at_state, no_claim, no_party}
 use Rattle.claim_history.proofs.Histories.{every_past}
-use Rattle.claim_book.specs.Tables.{new_account}
+use Rattle.fact_tables.specs.Tables.{new_account}
 use Rattle.claim_book.proofs.Known.{KnowsCut, Knows, answer_knows, nothing_known, position_no}
-use Rattle.claim_book.proofs.Places.{count_cons, count_none, found_any}
+use Rattle.fact_tables.proofs.Places.{count_cons, count_none, found_any}
 
 -- ---- what is kept
 

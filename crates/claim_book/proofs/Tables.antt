@@ -22,13 +22,13 @@ use Rattle.claim_history.specs.States.{State, with_act}
 use Rattle.claim_history.specs.History.{answer, Refusals, refused_or, is_no_refusal, firm_refusals, file_refusals}
 use Rattle.claim_history.specs.declared.entry.Reply.TheVariants as reply
 use Rattle.claim_history.proofs.Rows.{NoneApplies}
-use Rattle.claim_book.specs.Tables.{funded, drawn, limited, offered, accounts_after, with_status, with_receipt, new_claim, claims_after}
+use Rattle.fact_tables.specs.Tables.{funded, drawn, limited, offered, accounts_after, with_status, with_receipt, new_claim, claims_after}
 use Rattle.claim_book.proofs.Names.{name_flip, key_same, key_flip}
 use Rattle.setoff_model.specs.CutView.{OutcomeView}
 use Rattle.claim_history.specs.Acts.{is_publication}
 use Rattle.claim_history.specs.Facts.{Settled, amount_of, discharged, discharge_of, discharged_to, discharged_by}
-use Rattle.claim_book.specs.Settling.{settled_claim, settled_account}
-use Rattle.claim_book.proofs.Places.{found_any, map_map}
+use Rattle.fact_tables.specs.Settling.{settled_claim, settled_account}
+use Rattle.fact_tables.proofs.Places.{found_any, map_map}
 use Rattle.claim_book.proofs.Sound.{IsSound, fund_other, draw_other, limit_other, offer_other}
 
 -- ---- the row of each firm

@@ -14,17 +14,18 @@ ghost use Rattle.claim_book.specs.Book.{ledger_of, claim_in, account_in, positio
 use crate::account_answer::{
     answer_draw, answer_firm, answer_fund, answer_limit, answer_offer, answer_position,
 };
-use crate::account_rows::{change_accounts, find_account};
 use crate::claim_answer::{
     answer_confirm, answer_dispute, answer_file, answer_receive, answer_withdraw,
 };
-use crate::claim_rows::{change_claims, find_claim, owed_by, owed_to};
 use crate::round::{
     KeptRound, end_round, holds_claim, holds_firm, horizon_of, keep_round, outcome_in, take_cut,
 };
 use crate::round_answer::{answer_abandon, answer_close};
-use crate::settling::{settle_accounts, settle_claims};
 use claim_history::{AccountFact, Act, ClaimFact, Entry, Position, Reply, accepted};
+use fact_tables::{
+    change_accounts, change_claims, find_account, find_claim, owed_by, owed_to, settle_accounts,
+    settle_claims,
+};
 use setoff_model::{Cut, Key, Name};
 use std::alloc::{AllocError, Global};
 use std::marker::Model;

@@ -2,13 +2,10 @@
 #![tactic(auto)]
 
 mod account_answer;
-mod account_rows;
 mod book;
 mod claim_answer;
-mod claim_rows;
 mod round;
 mod round_answer;
-mod settling;
 
 pub use book::Book;
 

@@ -1,7 +1,7 @@
 use Rattle.std.proofs.Common.{◌≡◌, ℕ, List, ◌++◌, ap, ◌∙◌, subst}
 use Rattle.std.specs.Prelude.{codes}
-use Rattle.bureau_program.specs.Texts.{verdict_text, verdict_status}
-use Rattle.bureau_program.specs.Writing.{IsWritten}
+use Rattle.printed_text.specs.Texts.{verdict_text, verdict_status}
+use Rattle.printed_text.specs.Writing.{IsWritten}
 use Rattle.bureau_program.specs.Headline.{IsCheckDue, no_statement_memory, judged}
 use Rattle.bureau_program.proofs.Dues.{wrote_told, wrote_text}
 use Rattle.bureau_program.proofs.check.check_statement.Goals as goal

@@ -1,6 +1,6 @@
 use Rattle.std.proofs.Common.{◌≡◌, ℕ, List, ◌++◌, ap, ◌∙◌}
 use Rattle.std.specs.Prelude.{codes}
-use Rattle.bureau_program.specs.Texts.{bad_statement_text}
+use Rattle.printed_text.specs.Texts.{bad_statement_text}
 use Rattle.bureau_program.specs.Headline.{IsCheckDue, no_statement_memory, bad_statement}
 use Rattle.bureau_program.proofs.Dues.{wrote_told, wrote_text}
 use Rattle.bureau_program.proofs.check.tell_bad_statement.Goals as goal

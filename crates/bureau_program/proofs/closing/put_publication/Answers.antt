@@ -3,7 +3,7 @@ use Rattle.claim_history.specs.declared.entry.Reply.TheVariants as replies
 use Rattle.claim_history.specs.History.{replied}
 use Rattle.claim_history.specs.States.{state_of}
 use Rattle.setoff_model.proofs.Columns.{lawful_fits}
-use Rattle.bureau_program.proofs.Published.{publication_valid, publication_due}
+use Rattle.bureau_program.proofs.Published.{publication_valid, publication_due, publication_after}
 use Rattle.bureau_program.proofs.closing.put_publication.Goals as goal
 
 -- src/closing.rt:184:9
@@ -18,3 +18,8 @@ apply_publish-requires-clause-valid c = publication_valid (state_of c.args.book.
 pub apply_publish-requires-clause-next : goal.apply_publish-requires-clause-next
 apply_publish-requires-clause-next c =
     replied (ap replies.Published c.total-total.ensures ∙ publication_due (state_of c.args.book.now.history) c.args.caller c.args.number c.args.outcome c.requires.due)
+
+-- src/closing.rt:183:1
+pub returns-clause-published : goal.returns-clause-published
+returns-clause-published c =
+    (_, c.apply_publish.ensures.history, publication_after c.args.book.now.history c.args.caller c.args.number _ c.args.outcome c.requires.due c.total-total.ensures)

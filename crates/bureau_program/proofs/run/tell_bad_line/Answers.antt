@@ -1,6 +1,6 @@
 use Rattle.std.proofs.Common.{◌≡◌, ℕ, List, ◌++◌, ap, ◌∙◌}
 use Rattle.std.specs.Prelude.{codes}
-use Rattle.bureau_program.specs.Texts.{bad_line_text}
+use Rattle.printed_text.specs.Texts.{bad_line_text}
 use Rattle.bureau_program.specs.Headline.{IsRunDue, no_request_memory, bad_line}
 use Rattle.bureau_program.proofs.Dues.{wrote_told, wrote_text}
 use Rattle.bureau_program.proofs.run.tell_bad_line.Goals as goal

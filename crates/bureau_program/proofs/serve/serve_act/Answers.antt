@@ -1,7 +1,7 @@
 use Rattle.std.proofs.Common.{rules, refl, ◌∙◌, ap, ◌++◌, ◌∷◌, [], List}
 use Rattle.claim_history.specs.declared.entry.Entry.{Entry}
 use Rattle.claim_history.specs.History.{replied}
-use Rattle.bureau_program.specs.Printing.{cuts_of}
+use Rattle.printed_text.specs.Printing.{cuts_of}
 use Rattle.bureau_program.proofs.Served.{answered_nothing, answered_one, ends_other, cuts_kept}
 use Rattle.bureau_program.proofs.serve.serve_act.Goals as goal
 

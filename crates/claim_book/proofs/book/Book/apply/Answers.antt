@@ -1,7 +1,7 @@
 use Rattle.std.proofs.Common.{◌≡◌, [], ◌∷◌, ◌++◌, sym, ◌∙◌, ap, subst, arith}
 use Rattle.claim_history.specs.History.{MayFollow}
 use Rattle.claim_book.specs.Book.{BookView}
-use Rattle.claim_book.specs.Tables.{FirmsOnce, KeysOnce, AreSmall}
+use Rattle.fact_tables.specs.Tables.{FirmsOnce, KeysOnce, AreSmall}
 use Rattle.claim_book.proofs.Books.{accounts_once, claims_once, accounts_small, book_grows}
 use Rattle.claim_book.proofs.book.Book.apply.Goals as goal
 

@@ -3,7 +3,7 @@ use Rattle.std.proofs.Common.{◌≡◌, ◌<◌, ◌^◌, [], ◌∷◌, ◌++�
 use Rattle.setoff_model.specs.Setoff.{total_of}
 use Rattle.claim_history.specs.States.{state_of}
 use Rattle.claim_history.specs.History.{MayFollow}
-use Rattle.claim_book.specs.Tables.{AreSmall}
+use Rattle.fact_tables.specs.Tables.{AreSmall}
 use Rattle.claim_book.specs.Book.{BookView}
 use Rattle.claim_book.proofs.Books.{refused_grows, accounts_small, settles, round_there}
 use Rattle.claim_book.proofs.book.Book.apply_publish.Goals as goal

@@ -8,7 +8,7 @@ use Rattle.claim_history.specs.Facts.{is_confirmed}
 use Rattle.claim_history.proofs.Sizes.{sizes_law}
 use Rattle.claim_book.specs.Book.{ledger_of}
 use Rattle.claim_book.proofs.Lookups.{owed_to_firm, owed_by_firm, account_some, position_found}
-use Rattle.claim_book.proofs.Balances.{kept}
+use Rattle.fact_tables.proofs.Balances.{kept}
 use Rattle.claim_book.proofs.book.Book.position.Goals as goal
 
 pub owed_to-requires : goal.owed_to-requires

@@ -1,5 +1,0 @@
-use Rattle.bureau_program.proofs.Passing.{on_err, part_more}
-use Rattle.bureau_program.proofs.output.print_entry.Goals as goal
-
-pub returns-in_err-make_room-clause-part : goal.returns-in_err-make_room-clause-part
-returns-in_err-make_room-clause-part g c = on_err _ _ (part_more _ _ c.args.buffer.now.items _ c.in_err-make_room.ensures.part)

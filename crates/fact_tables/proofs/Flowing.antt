@@ -1,0 +1,46 @@
+-- The flow of a party, summed claim by claim.
+use Rattle.std.specs.Prelude.{map, slice_index, if◌then◌else◌, ◌==◌}
+use Rattle.std.proofs.Common.{◌≡◌, ℕ, ◌+◌, ◌-◌, ◌++◌, drop, ◌<◌, ◌≤◌, ◌^◌, List, length, get_or, take, sum, refl, sym, ◌∙◌, ap, subst, Fits, w64, add-one, arith}
+use Rattle.std.proofs.lemmas.List.{length-map, length-take-le, get_or-append_right, get_or-drop}
+use Rattle.std.proofs.lemmas.List.Sums.{sum_by-take-le}
+use Rattle.claim_history.specs.declared.fact.AccountFact.{AccountFact}
+use Rattle.claim_history.specs.Laws.{IsWithin}
+use Rattle.fact_tables.specs.Tables.{AreSmall}
+use Rattle.setoff_model.specs.declared.cut.CutClaim.{CutClaim}
+use Rattle.setoff_model.specs.Setoff.{flow_at, total_of}
+use Rattle.setoff_model.proofs.Flows.{column, flow_at-le, flow_fits}
+
+-- what the next claim adds
+pub flow_step : (side : CutClaim → ℕ) (claims : List CutClaim) (d : List ℕ) (i f sum : ℕ) (x : CutClaim) (y : ℕ) → i < length claims → x ≡ get_or claims i x → sum ≡ flow_at i (map side claims) d f → y ≡ (if side x == f then slice_index d i else 0)
+    → sum + y ≡ flow_at (i + 1) (map side claims) d f
+flow_step side claims d i f sum x y lt is so_far next =
+    let here : y ≡ (if slice_index (map side claims) i == f then slice_index d i else 0) = next ∙ ap (λ (n : ℕ). if n == f then slice_index d i else 0) (sym (column side claims i x is lt)) in
+    rw add-one (omega (arith, so_far, here))
+
+-- and the sum fits
+pub flow_sum_fits : (side : CutClaim → ℕ) (claims : List CutClaim) (d : List ℕ) (i f sum : ℕ) (x : CutClaim) (y : ℕ) → length d ≡ length claims → total_of d < 10 ^ 18 → i < length claims → x ≡ get_or claims i x → sum ≡ flow_at i (map side claims) d f → y ≡ (if side x == f then slice_index d i else 0)
+    → Fits w64 (sum + y)
+flow_sum_fits side claims d i f sum x y long small lt is so_far next =
+    let more = flow_step side claims d i f sum x y lt is so_far next in
+    omega (arith, more, small, flow_at-le (i + 1) (map side claims) d f (omega (arith, long, lt)), sum_by-take-le (λ n. n) d (i + 1))
+
+pub flow_small : (side : CutClaim → ℕ) (claims : List CutClaim) (d : List ℕ) (i f sum : ℕ) → length d ≡ length claims → total_of d < 10 ^ 18 → i ≤ length claims → sum ≡ flow_at i (map side claims) d f → sum < 10 ^ 18
+flow_small side claims d i f sum long small le so_far =
+    omega (arith, so_far, small, flow_at-le i (map side claims) d f (omega (arith, long, le)), sum_by-take-le (λ n. n) d i)
+
+-- ---- rows that are not yet settled
+
+-- a row that the loop has not come to is as it was
+rest_same : {X : Type 0} (f : X → X) (xs ys : List X) (i : ℕ) (x : X) → i < length xs → ys ≡ map f (take i xs) ++ drop i xs → x ≡ get_or ys i x → x ≡ get_or xs i x
+rest_same {X = X} f xs ys i x lt is at =
+    let long : length (map f (take i xs)) ≡ i = length-map (take i xs) f ∙ length-take-le i xs (omega (arith, lt)) in
+    let place : i + (i - i) ≡ i = omega arith in
+    at
+    ∙ ap (λ (zs : List X). get_or zs i x) is
+    ∙ get_or-append_right (map f (take i xs)) (drop i xs) i i x long (omega arith)
+    ∙ get_or-drop i xs (i - i) x
+    ∙ ap (λ (k : ℕ). get_or xs k x) place
+
+pub rest_small : (f : AccountFact → AccountFact) (xs ys : List AccountFact) (i : ℕ) (x : AccountFact) → i < length xs → ys ≡ map f (take i xs) ++ drop i xs → x ≡ get_or ys i x → AreSmall xs → IsWithin (10 ^ 15) (10 ^ 15) x.balance
+rest_small f xs ys i x lt is at small =
+    subst (λ (a : AccountFact). IsWithin (10 ^ 15) (10 ^ 15) a.balance) (sym (rest_same f xs ys i x lt is at)) (small i x lt)

@@ -1,0 +1,324 @@
+-- The text of a run, piece by piece.
+use Rattle.std.specs.Prelude.{reverse, map, slice_get, codes, Option, Some, None, ℤ, pos, unsigned_abs}
+use Rattle.std.specs.Option.{option_map}
+use Rattle.std.proofs.Common.{◌≡◌, ℕ, ◌+◌, ◌<◌, ◌≤◌, ◌^◌, Bool, true, List, [], ◌∷◌, ◌++◌, length, get_or, drop, take, All, refl, sym, ◌∙◌, ap, ap₂, subst, append_assoc, add-one, drop-cons, arith}
+use Rattle.std.proofs.lemmas.Option.{none-some, same_Some, slice_get-get_or, slice_get_read, slice_get_within}
+use Rattle.std.proofs.lemmas.List.{append-nil, drop_more, get_or_at, length-append, length-reverse, take-append-drop, take_more}
+use Rattle.std.proofs.lemmas.List.Folds.{flat_map-map}
+use Rattle.std.proofs.lemmas.List.Concat.{flat_map-append}
+use Rattle.std.proofs.lemmas.List.Elements.{All-from_get_or, All-take, All-weaker}
+use Rattle.setoff_model.specs.declared.kind.Kind.{Kind}
+use Rattle.setoff_model.specs.declared.kind.Kind.TheVariants.{Plain, Funded}
+use Rattle.setoff_model.specs.declared.cut.Party.{Party}
+use Rattle.setoff_model.specs.declared.cut.CutClaim.{CutClaim}
+use Rattle.setoff_model.specs.CutView.{CutView, OutcomeView, window_limit}
+use Rattle.setoff_model.proofs.Columns.{claims_long, parties_long, lawful_fits}
+use Rattle.claim_history.specs.declared.act.Act.{Act}
+use Rattle.claim_history.specs.declared.act.Act.TheVariants as act
+use Rattle.claim_history.specs.declared.entry.Entry.{Entry}
+use Rattle.claim_history.specs.declared.entry.Reply.{Reply}
+use Rattle.claim_history.specs.declared.entry.Reply.TheVariants as reply
+use Rattle.claim_history.specs.Acts.{is_valid}
+use Rattle.claim_history.specs.Facts.{Settled}
+use Rattle.claim_history.specs.States.{OpenRound, State, after, discharges_of, open_as, settle, state}
+use Rattle.claim_history.specs.History.{IsLegal, IsLegalPast, AreValid}
+use Rattle.claim_history.proofs.Greatest.{greatest_law}
+use Rattle.claim_history.proofs.Pasts.{reverse_parts}
+use Rattle.round_cut.proofs.OpenCut.{open_formed_law}
+use Rattle.request_text.specs.declared.request.Request.{Request}
+use Rattle.statement_text.specs.declared.line.Line.{Line}
+use Rattle.statement_text.specs.declared.line.Line.TheVariants as line
+use Rattle.statement_text.specs.Lines.{line_text}
+use Rattle.statement_text.specs.Entries.{entry_line}
+use Rattle.statement_text.specs.Statements.{party_lines, claim_line, claim_lines, front_of, statement_bytes}
+use Rattle.bureau_edge.specs.Streams.{AppendsPart}
+use Rattle.printed_text.specs.Writing.{Passes}
+use Rattle.printed_text.specs.Printing.{IsPrintable, IsPrintableAt, cuts_of, entry_text, history_text, line_bytes, lines_bytes, open_cut, past_cuts, past_text, rounds_in, statement_of, unserved_line, unserved_text}
+use Rattle.printed_text.proofs.Passing.{pass_then, part_then, part_more}
+
+-- ---- requests that were not served
+
+-- the text of the requests from a place on
+pub unserved_from : (requests : List Request) (marks : List Bool) (i : ℕ) (request : Request) (mark : Bool) → i < length requests → i < length marks
+    → unserved_text (drop i requests) (drop i marks) ≡ unserved_line (get_or requests i request) (get_or marks i mark) ++ unserved_text (drop (i + 1) requests) (drop (i + 1) marks)
+unserved_from requests marks i request mark lr lm = rw (add-one, drop-cons requests i request, drop-cons marks i mark) refl
+
+-- ---- statements
+
+-- the lines of the parties from a place on
+pub parties_from : (parties : List Party) (prices : List ℤ) (i : ℕ) (party : Party) (price : ℤ) → i < length parties → i < length prices
+    → lines_bytes (party_lines (drop i parties) (drop i prices)) ≡ line_bytes (line.Party (get_or parties i party) (get_or prices i price)) ++ lines_bytes (party_lines (drop (i + 1) parties) (drop (i + 1) prices))
+parties_from parties prices i party price lf lp = rw (add-one, drop-cons parties i party, drop-cons prices i price) refl
+
+-- the lines of the claims from a place on
+pub claims_from : (parties : List Party) (claims : List CutClaim) (discharges : List ℕ) (i : ℕ) (claim : CutClaim) (discharge : ℕ) → i < length claims → i < length discharges
+    → lines_bytes (claim_lines parties (drop i claims) (drop i discharges)) ≡ line_bytes (claim_line parties (get_or claims i claim) (get_or discharges i discharge)) ++ lines_bytes (claim_lines parties (drop (i + 1) claims) (drop (i + 1) discharges))
+claims_from parties claims discharges i claim discharge lc ld = rw (add-one, drop-cons claims i claim, drop-cons discharges i discharge) refl
+
+-- a statement is its head, its parties, its claims and its end
+statement_parts : (cut : CutView) (outcome : OutcomeView)
+    → statement_bytes cut outcome ≡ line_bytes (line.Head cut.round cut.kind) ++ (lines_bytes (party_lines cut.parties outcome.prices) ++ (lines_bytes (claim_lines cut.parties cut.claims outcome.discharges) ++ line_bytes line.End))
+statement_parts cut outcome =
+    let head = line_bytes (line.Head cut.round cut.kind) in
+    let parties = party_lines cut.parties outcome.prices in
+    let claims = claim_lines cut.parties cut.claims outcome.discharges in
+    let last : List Line = line.End ∷ [] in
+    flat_map-map (λ (text : List ℕ). text ++ codes "\n") line_text (front_of cut outcome ++ last)
+    ∙ ap (λ (t : List ℕ). head ++ t)
+    (flat_map-append line_bytes (parties ++ claims) last
+    ∙ ap (λ (t : List ℕ). t ++ lines_bytes last) (flat_map-append line_bytes parties claims)
+    ∙ append_assoc (lines_bytes parties) (lines_bytes claims) (lines_bytes last)
+    ∙ ap (λ (t : List ℕ). lines_bytes parties ++ (lines_bytes claims ++ t)) (append-nil (line_bytes line.End)))
+
+-- the same with lists that equal those of the cut and the outcome
+pub statement_of_lists : (cut : CutView) (outcome : OutcomeView) (parties : List Party) (prices : List ℤ) (discharges : List ℕ) → parties ≡ cut.parties → prices ≡ outcome.prices → discharges ≡ outcome.discharges
+    → statement_bytes cut outcome ≡ line_bytes (line.Head cut.round cut.kind) ++ (lines_bytes (party_lines parties prices) ++ (lines_bytes (claim_lines cut.parties cut.claims discharges) ++ line_bytes line.End))
+statement_of_lists cut outcome parties prices discharges parties_are prices_are discharges_are =
+    let head = line_bytes (line.Head cut.round cut.kind) in
+    statement_parts cut outcome
+    ∙ ap₂ (λ (fs : List Party) (ps : List ℤ). head ++ (lines_bytes (party_lines fs ps) ++ (lines_bytes (claim_lines cut.parties cut.claims outcome.discharges) ++ line_bytes line.End))) (sym parties_are) (sym prices_are)
+    ∙ ap (λ (ds : List ℕ). head ++ (lines_bytes (party_lines parties prices) ++ (lines_bytes (claim_lines cut.parties cut.claims ds) ++ line_bytes line.End))) (sym discharges_are)
+
+-- a text that went through the buffer in four pieces, and one that broke off in one of them
+pub four_pass : (v w x y z : Option (List ℕ)) (a b c d e t₁ t₂ t₃ t₄ all : List ℕ) → all ≡ t₁ ++ (t₂ ++ (t₃ ++ t₄)) → Passes v w a b t₁ → Passes w x b c t₂ → Passes x y c d t₃ → Passes y z d e t₄ → Passes v z a e all
+four_pass v w x y z a b c d e t₁ t₂ t₃ t₄ all is p₁ p₂ p₃ p₄ =
+    subst (Passes v z a e) (sym is)
+    (pass_then v w z a b e t₁ (t₂ ++ (t₃ ++ t₄)) p₁ (pass_then w x z b c e t₂ (t₃ ++ t₄) p₂ (pass_then x y z c d e t₃ t₄ p₃ p₄)))
+
+first_breaks : (x z : Option (List ℕ)) (a t rest : List ℕ) → AppendsPart x z (a ++ t) → AppendsPart x z (a ++ (t ++ rest))
+first_breaks x z a t rest q = subst (AppendsPart x z) (append_assoc a t rest) (part_more x z (a ++ t) rest q)
+
+pub breaks_at_first : (v z : Option (List ℕ)) (a t₁ rest all : List ℕ) → all ≡ t₁ ++ rest → AppendsPart v z (a ++ t₁) → AppendsPart v z (a ++ all)
+breaks_at_first v z a t₁ rest all is q = subst (λ (t : List ℕ). AppendsPart v z (a ++ t)) (sym is) (first_breaks v z a t₁ rest q)
+
+pub breaks_at_second : (v w z : Option (List ℕ)) (a b t₁ t₂ rest all : List ℕ) → all ≡ t₁ ++ (t₂ ++ rest) → Passes v w a b t₁ → AppendsPart w z (b ++ t₂) → AppendsPart v z (a ++ all)
+breaks_at_second v w z a b t₁ t₂ rest all is p₁ q =
+    subst (λ (t : List ℕ). AppendsPart v z (a ++ t)) (sym is) (part_then v w z a b t₁ (t₂ ++ rest) p₁ (first_breaks w z b t₂ rest q))
+
+pub breaks_at_third : (v w x z : Option (List ℕ)) (a b c t₁ t₂ t₃ rest all : List ℕ) → all ≡ t₁ ++ (t₂ ++ (t₃ ++ rest)) → Passes v w a b t₁ → Passes w x b c t₂ → AppendsPart x z (c ++ t₃) → AppendsPart v z (a ++ all)
+breaks_at_third v w x z a b c t₁ t₂ t₃ rest all is p₁ p₂ q =
+    subst (λ (t : List ℕ). AppendsPart v z (a ++ t)) (sym is)
+    (part_then v w z a b t₁ (t₂ ++ (t₃ ++ rest)) p₁ (part_then w x z b c t₂ (t₃ ++ rest) p₂ (first_breaks x z c t₃ rest q)))
+
+pub breaks_at_fourth : (v w x y z : Option (List ℕ)) (a b c d t₁ t₂ t₃ t₄ all : List ℕ) → all ≡ t₁ ++ (t₂ ++ (t₃ ++ t₄)) → Passes v w a b t₁ → Passes w x b c t₂ → Passes x y c d t₃ → AppendsPart y z (d ++ t₄) → AppendsPart v z (a ++ all)
+breaks_at_fourth v w x y z a b c d t₁ t₂ t₃ t₄ all is p₁ p₂ p₃ q =
+    subst (λ (t : List ℕ). AppendsPart v z (a ++ t)) (sym is)
+    (part_then v w z a b t₁ (t₂ ++ (t₃ ++ t₄)) p₁ (part_then w x z b c t₂ (t₃ ++ t₄) p₂ (part_then x y z c d t₃ t₄ p₃ q)))
+
+-- what the writers ask for
+limit_fits : (kind : Kind) → window_limit kind ≤ 2000000000000000
+limit_fits Plain = omega arith
+limit_fits Funded = omega arith
+
+pub spends_fit : (cut : CutView) (outcome : OutcomeView) → IsPrintable cut outcome → All (λ f. f.spend ≤ 2000000000000000) cut.parties
+spends_fit cut outcome is = λ k none within. omega (arith, limit_fits cut.kind, (is.well_formed.windows k none within).0)
+
+pub rooms_fit : (cut : CutView) (outcome : OutcomeView) → IsPrintable cut outcome → All (λ f. f.room ≤ 2000000000000000) cut.parties
+rooms_fit cut outcome is = λ k none within. omega (arith, limit_fits cut.kind, (is.well_formed.windows k none within).1)
+
+pub prices_fit : (cut : CutView) (outcome : OutcomeView) → IsPrintable cut outcome → All (λ p. unsigned_abs p < 10 ^ 9) outcome.prices
+prices_fit cut outcome is =
+    let each : (k : ℕ) → k < length outcome.prices → unsigned_abs (get_or outcome.prices k (pos 0)) < 10 ^ 9 =
+    λ k within. omega (arith, is.proved.price_each, parties_long cut, is.well_formed.few_parties, is.proved.in_range k (omega (arith, is.proved.price_each))) in
+    All-from_get_or (λ p. unsigned_abs p < 10 ^ 9) outcome.prices (pos 0) each
+
+pub price_each : (cut : CutView) (outcome : OutcomeView) → IsPrintable cut outcome → length outcome.prices ≡ length cut.parties
+price_each cut outcome is = is.proved.price_each ∙ parties_long cut
+
+pub discharges_fit : (cut : CutView) (outcome : OutcomeView) → IsPrintable cut outcome → All (λ d. d < 10 ^ 18) outcome.discharges
+discharges_fit cut outcome is =
+    All-weaker (λ d. d ≤ 999999999999) (λ d. d < 10 ^ 18) (λ d le. omega arith) outcome.discharges (lawful_fits.small cut outcome.discharges is.well_formed is.proved.lawful)
+
+pub discharge_each : (cut : CutView) (outcome : OutcomeView) → IsPrintable cut outcome → length outcome.discharges ≡ length cut.claims
+discharge_each cut outcome is = is.proved.lawful.one_each ∙ claims_long cut
+
+-- ---- histories
+
+-- a history, its past, and its past one later, at a place
+history_at : (history : List Entry) (i : ℕ) (e : Entry) → i < length history → e ≡ get_or history i e → history ≡ take i history ++ e ∷ drop (i + 1) history
+history_at history i e lt is =
+    sym (take-append-drop i history) ∙ ap (λ (rest : List Entry). take i history ++ rest) (drop_more history i e lt ∙ ap (λ (x : Entry). x ∷ drop (i + 1) history) (sym is))
+
+past_at : (history : List Entry) (i : ℕ) (e : Entry) → i < length history → e ≡ get_or history i e → reverse history ≡ reverse (drop (i + 1) history) ++ e ∷ reverse (take i history)
+past_at history i e lt is = ap (λ (h : List Entry). reverse h) (history_at history i e lt is) ∙ reverse_parts (take i history) (drop (i + 1) history) e
+
+pub past_next : (history : List Entry) (i : ℕ) (e : Entry) → i < length history → e ≡ get_or history i e → reverse (take (i + 1) history) ≡ e ∷ reverse (take i history)
+past_next history i e lt is =
+    ap (λ (h : List Entry). reverse h) (take_more history i e lt ∙ ap (λ (x : Entry). take i history ++ x ∷ []) (sym is)) ∙ reverse_parts (take i history) [] e
+
+-- ---- the text of a history
+
+-- the text of later entries after a past
+abbrev later_text : List Entry → List Entry → List ℕ
+later_text [] past = []
+later_text (e ∷ later) past = later_text later past ++ entry_text (later ++ past) e
+
+past_more : (later past : List Entry) → past_text (later ++ past) ≡ past_text past ++ later_text later past
+past_more [] past = sym (append-nil (past_text past))
+past_more (e ∷ later) past =
+    ap (λ (t : List ℕ). t ++ entry_text (later ++ past) e) (past_more later past) ∙ append_assoc (past_text past) (later_text later past) (entry_text (later ++ past) e)
+
+-- where the sink broke off in an entry
+pub history_breaks : (x z : Option (List ℕ)) (a : List ℕ) (history : List Entry) (i : ℕ) (e : Entry) → i < length history → e ≡ get_or history i e
+    → AppendsPart x z (a ++ past_text (e ∷ reverse (take i history))) → AppendsPart x z (a ++ history_text history)
+history_breaks x z a history i e lt is h =
+    let past = e ∷ reverse (take i history) in
+    let later = reverse (drop (i + 1) history) in
+    subst (λ (w : List ℕ). AppendsPart x z (a ++ w)) (sym (ap (λ (p : List Entry). past_text p) (past_at history i e lt is) ∙ past_more later past))
+    (subst (AppendsPart x z) (append_assoc a (past_text past) (later_text later past)) (part_more x z (a ++ past_text past) (later_text later past) h))
+
+-- ---- the cuts of published rounds
+
+-- the cuts that a reply publishes
+abbrev cuts_in : Reply → Option OpenRound → List CutView
+cuts_in (reply.Published total) (Some round) = round.cut ∷ []
+cuts_in _ _ = []
+
+abbrev cuts_at : State → List CutView
+cuts_at s = map (λ r. r.cut) s.ledger.rounds
+
+opened_cuts : (caller : ℕ) (a : Act) (s : State) → cuts_at (open_as caller a s) ≡ cuts_at s
+opened_cuts caller (act.Close kind horizon) s = refl
+opened_cuts caller a s = refl
+
+published_cuts : (o : Option OpenRound) (total : ℕ) (discharges : List ℕ) (rounds : List Settled) → map (λ r. r.cut) (settle o discharges rounds) ≡ cuts_in (reply.Published total) o ++ map (λ r. r.cut) rounds
+published_cuts None total discharges rounds = refl
+published_cuts (Some round) total discharges rounds = refl
+
+cuts_after : (caller : ℕ) (a : Act) (r : Reply) (s : State) → cuts_at (after caller a r s) ≡ cuts_in r s.open_round ++ cuts_at s
+cuts_after caller a (reply.Opened number) s = opened_cuts caller a s
+cuts_after caller a (reply.Published total) s = published_cuts s.open_round total (discharges_of a) s.ledger.rounds
+cuts_after caller a r s = refl
+
+-- the cuts of later entries after a past
+abbrev later_cuts : List Entry → List Entry → List CutView
+later_cuts [] past = []
+later_cuts (e ∷ later) past = cuts_in e.reply (state (later ++ past)).open_round ++ later_cuts later past
+
+cuts_more : (later past : List Entry) → past_cuts (later ++ past) ≡ later_cuts later past ++ past_cuts past
+cuts_more [] past = refl
+cuts_more (e ∷ later) past =
+    let here = cuts_in e.reply (state (later ++ past)).open_round in
+    cuts_after e.caller e.act e.reply (state (later ++ past))
+    ∙ ap (λ (cuts : List CutView). here ++ cuts) (cuts_more later past)
+    ∙ sym (append_assoc here (later_cuts later past) (past_cuts past))
+
+-- the element between two lists
+get_between : {X : Type 0} (xs ys : List X) (x : X) (n : ℕ) → length xs ≡ n → slice_get (xs ++ x ∷ ys) n ≡ Some x
+get_between xs ys x n is =
+    slice_get-get_or (xs ++ x ∷ ys) n x (omega (arith, length-append xs (x ∷ ys), is)) ∙ ap (λ y. Some y) (get_or_at xs x ys x n is)
+
+-- ---- published rounds
+
+-- an open round has a number from 1
+opened_from : (caller : ℕ) (a : Act) (s : State) → ((round : OpenRound) → s.open_round ≡ Some round → 1 ≤ round.cut.round) → (round : OpenRound) → (open_as caller a s).open_round ≡ Some round → 1 ≤ round.cut.round
+opened_from caller (act.Close kind horizon) s was round e =
+    let from : 1 ≤ s.openings + 1 = omega arith in
+    subst (λ (r : OpenRound). 1 ≤ r.cut.round) (same_Some _ round e) from
+opened_from caller a s was round e = was round e
+
+number_after : (caller : ℕ) (a : Act) (r : Reply) (s : State) → ((round : OpenRound) → s.open_round ≡ Some round → 1 ≤ round.cut.round) → (round : OpenRound) → (after caller a r s).open_round ≡ Some round → 1 ≤ round.cut.round
+number_after caller a (reply.Opened number) s was round e = opened_from caller a s was round e
+number_after caller a (reply.Published total) s was round e = absurd (none-some round e)
+number_after caller a (reply.Abandoned number) s was round e = absurd (none-some round e)
+number_after caller a r s was round e = was round e
+
+pub number_from : (past : List Entry) (round : OpenRound) → (state past).open_round ≡ Some round → 1 ≤ round.cut.round
+number_from [] round e = absurd (none-some round e)
+number_from (e ∷ past) round is = number_after e.caller e.act e.reply (state past) (number_from past) round is
+
+legal_before : (later past : List Entry) → IsLegalPast (later ++ past) → IsLegalPast past
+legal_before [] past legal = legal
+legal_before (e ∷ later) past legal = legal_before later past legal.1
+
+-- the round that an entry publishes: its cut is the next one, and its statement can be written
+pub record IsNext (rounds : List CutView) (next : ℕ) (past : List Entry) (a : Act) : Type 0 where
+  pub round : OpenRound
+  pub was_open : (state past).open_round ≡ Some round
+  pub cut_is : slice_get rounds next ≡ Some round.cut
+  pub printable : IsPrintableAt rounds next a
+
+-- the cuts of a history, of which one is that of a published entry
+next_cut : (history : List Entry) (i : ℕ) (e : Entry) (total : ℕ) → i < length history → e ≡ get_or history i e → e.reply ≡ reply.Published total
+    → (round : OpenRound) → (state (reverse (take i history))).open_round ≡ Some round → slice_get (cuts_of history) (length (past_cuts (reverse (take i history)))) ≡ Some round.cut
+next_cut history i e total lt is published round was_open =
+    let past = reverse (take i history) in
+    let later = reverse (drop (i + 1) history) in
+    let parts : past_cuts (reverse history) ≡ later_cuts later (e ∷ past) ++ round.cut ∷ past_cuts past =
+    ap (λ (p : List Entry). past_cuts p) (past_at history i e lt is) ∙ cuts_more later (e ∷ past)
+    ∙ ap (λ (cuts : List CutView). later_cuts later (e ∷ past) ++ cuts)
+    (cuts_after e.caller e.act e.reply (state past) ∙ ap₂ (λ (r : Reply) (o : Option OpenRound). cuts_in r o ++ past_cuts past) published was_open) in
+    ap (λ (cuts : List CutView). slice_get cuts (length (past_cuts past)))
+    (ap (λ (cuts : List CutView). reverse cuts) parts ∙ reverse_parts (later_cuts later (e ∷ past)) (past_cuts past) round.cut)
+    ∙ get_between (reverse (past_cuts past)) (reverse (later_cuts later (e ∷ past))) round.cut (length (past_cuts past)) (length-reverse (past_cuts past))
+
+pub published_at : (history : List Entry) (rounds : List CutView) (i next : ℕ) (e : Entry) (total : ℕ) → IsLegal history → AreValid history → rounds ≡ cuts_of history → next ≡ length (past_cuts (reverse (take i history)))
+    → i < length history → e ≡ get_or history i e → e.reply ≡ reply.Published total → IsNext rounds next (reverse (take i history)) e.act
+published_at history rounds i next e total legal valid rounds_are next_is lt is published =
+    let before = take i history in
+    let later = drop (i + 1) history in
+    let parts = history_at history i e lt is in
+    let p = greatest_law before later e total (subst IsLegal parts legal) published in
+    let legal_first : IsLegal before = (legal_before (reverse later) (e ∷ reverse before) (subst IsLegalPast (past_at history i e lt is) legal)).1 in
+    let cut_is : slice_get rounds next ≡ Some p.round.cut =
+    ap₂ (λ (cuts : List CutView) (n : ℕ). slice_get cuts n) rounds_are next_is ∙ next_cut history i e total lt is published p.round p.was_open in
+    record {
+      round = p.round;
+      was_open = p.was_open;
+      cut_is = cut_is;
+      printable = record {
+        number = p.round.cut.round;
+        outcome = p.outcome;
+        cut = p.round.cut;
+        asks = p.asks;
+        cut_is = cut_is;
+        printable = record {
+          well_formed = open_formed_law before legal_first (All-take (λ e. is_valid e.act ≡ true) i history valid) p.round p.was_open;
+          round_from = number_from (reverse before) p.round p.was_open;
+          proved = p.proved;
+        };
+      };
+    }
+
+-- ---- one entry
+
+-- what publishes nothing has no statement
+pub none_stated : (o : Option CutView) (a : Act) (r : Reply) → rounds_in r ≡ 0 → statement_of o a r ≡ []
+none_stated None a r e = refl
+none_stated (Some cut) (act.Publish number outcome) (reply.Published total) e = absurd (omega (arith, e))
+none_stated (Some cut) (act.Publish number outcome) r e = refl
+none_stated (Some cut) a r e = refl
+
+same_statement : (o q : Option CutView) (a : Act) (r : Reply) → ((total : ℕ) → r ≡ reply.Published total → o ≡ q) → statement_of o a r ≡ statement_of q a r
+same_statement o q a (reply.Published total) same = ap (λ (c : Option CutView). statement_of c a (reply.Published total)) (same total refl)
+same_statement o q a r same = none_stated o a r refl ∙ sym (none_stated q a r refl)
+
+-- the text of an entry, with the cut at a place for that of the open round
+pub entry_text_is : (rounds : List CutView) (next : ℕ) (past : List Entry) (e : Entry) → ((total : ℕ) → e.reply ≡ reply.Published total → IsNext rounds next past e.act)
+    → entry_line e ++ statement_of (slice_get rounds next) e.act e.reply ≡ entry_text past e
+entry_text_is rounds next past e publication =
+    ap (λ (t : List ℕ). entry_line e ++ t) (same_statement (slice_get rounds next) (open_cut past) e.act e.reply (λ total is.
+    let p = publication total is in
+    p.cut_is ∙ ap (λ (o : Option OpenRound). option_map (λ (round : OpenRound). round.cut) o) (sym p.was_open)))
+
+count_more : (r : Reply) (o : Option OpenRound) (cuts : List CutView) → ((total : ℕ) → r ≡ reply.Published total → (round : OpenRound) × (o ≡ Some round)) → length (cuts_in r o ++ cuts) ≡ length cuts + rounds_in r
+count_more (reply.Published total) o cuts published =
+    ap (λ (q : Option OpenRound). length (cuts_in (reply.Published total) q ++ cuts)) (published total refl).1 ∙ omega arith
+count_more r o cuts published = omega arith
+
+-- the number of rounds that were published grows by those of the entry
+pub next_more : (rounds : List CutView) (next : ℕ) (past : List Entry) (e : Entry) → ((total : ℕ) → e.reply ≡ reply.Published total → IsNext rounds next past e.act)
+    → length (past_cuts (e ∷ past)) ≡ length (past_cuts past) + rounds_in e.reply
+next_more rounds next past e publication =
+    ap (λ (cuts : List CutView). length cuts) (cuts_after e.caller e.act e.reply (state past))
+    ∙ count_more e.reply (state past).open_round (past_cuts past) (λ total is. ((publication total is).round, (publication total is).was_open))
+
+-- the statement that an entry's text has where the cut at the place is this one
+pub statement_is : (rounds : List CutView) (next : ℕ) (cut : CutView) (a : Act) (r : Reply) (number total : ℕ) (outcome : OutcomeView) → next < length rounds → cut ≡ get_or rounds next cut
+    → r ≡ reply.Published total → a ≡ act.Publish number outcome → statement_bytes cut outcome ≡ statement_of (slice_get rounds next) a r
+statement_is rounds next cut a r number total outcome lt is replied asked =
+    sym (ap (λ (o : Option CutView). statement_of o a r) (slice_get_read rounds (length rounds) next cut refl lt is) ∙ ap₂ (λ (b : Act) (q : Reply). statement_of (Some cut) b q) asked replied)
+
+-- there is a cut at the place of a published round
+pub within_rounds : (rounds : List CutView) (next : ℕ) (a : Act) → IsPrintableAt rounds next a → next < length rounds
+within_rounds rounds next a is = slice_get_within rounds next is.cut is.cut_is

@@ -1,0 +1,25 @@
+use Rattle.std.specs.Prelude.{slice_get}
+use Rattle.statement_text.specs.Entries.{entry_line}
+use Rattle.printed_text.specs.Printing.{statement_of}
+use Rattle.printed_text.proofs.Passing.{on_err, on_err_if, on_ok_if, part_then, pass_then}
+use Rattle.printed_text.proofs.Printing.{breaks_at_first}
+use Rattle.std.proofs.Common.{◌++◌, refl}
+use Rattle.printed_text.proofs.output.print_answer.Goals as goal
+
+pub returns-in_err-print_entry-clause-part : goal.returns-in_err-print_entry-clause-part
+returns-in_err-print_entry-clause-part g c =
+    let e = c.args.entry.now in
+    let statement = statement_of (slice_get c.args.rounds.now c.args.next) e.act e.reply in
+    on_err _ _ (breaks_at_first (g.K.Sink.held c.args.sink.now) (g.K.Sink.held c.print_entry.new.sink) c.args.buffer.now.items (entry_line e) statement (entry_line e ++ statement) refl c.in_err-print_entry.ensures.part)
+
+pub returns-clause-ok : goal.returns-clause-ok
+returns-clause-ok g c =
+    let e = c.args.entry.now in
+    let statement = statement_of (slice_get c.args.rounds.now c.args.next) e.act e.reply in
+    on_ok_if c.print_publication.result _ _ (λ h. pass_then (g.K.Sink.held c.args.sink.now) (g.K.Sink.held c.print_entry.new.sink) (g.K.Sink.held c.print_publication.new.sink) c.args.buffer.now.items c.print_entry.new.buffer.items c.print_publication.new.buffer.items (entry_line e) statement c.in_ok-print_entry.ensures.ok h) c.print_publication.ensures.ok
+
+pub returns-clause-part : goal.returns-clause-part
+returns-clause-part g c =
+    let e = c.args.entry.now in
+    let statement = statement_of (slice_get c.args.rounds.now c.args.next) e.act e.reply in
+    on_err_if c.print_publication.result _ _ (λ h. part_then (g.K.Sink.held c.args.sink.now) (g.K.Sink.held c.print_entry.new.sink) (g.K.Sink.held c.print_publication.new.sink) c.args.buffer.now.items c.print_entry.new.buffer.items (entry_line e) statement c.in_ok-print_entry.ensures.ok h) c.print_publication.ensures.part

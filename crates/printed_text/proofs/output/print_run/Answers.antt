@@ -1,0 +1,20 @@
+use Rattle.std.proofs.Common.{◌++◌}
+use Rattle.printed_text.specs.Printing.{history_text, unserved_text}
+use Rattle.printed_text.proofs.Passing.{on_err, on_err_if, part_of_text, part_left, part_more, part_then, pass_then}
+use Rattle.printed_text.proofs.output.print_run.Goals as goal
+
+pub returns-in_err-print_entries-clause-part : goal.returns-in_err-print_entries-clause-part
+returns-in_err-print_entries-clause-part g c =
+    on_err _ _ (part_more _ _ (history_text c.args.history.now) (unserved_text c.args.requests.now c.args.marks.now)
+    (part_of_text _ _ c.args.buffer.now.items (history_text c.args.history.now) c.requires.empty c.in_err-print_entries.ensures.part))
+
+pub returns-in_err-print_all_unserved-clause-part : goal.returns-in_err-print_all_unserved-clause-part
+returns-in_err-print_all_unserved-clause-part g c =
+    on_err _ _ (part_of_text _ _ c.args.buffer.now.items (history_text c.args.history.now ++ unserved_text c.args.requests.now c.args.marks.now) c.requires.empty
+    (part_then _ _ _ c.args.buffer.now.items c.print_entries.new.buffer.items (history_text c.args.history.now) (unserved_text c.args.requests.now c.args.marks.now) c.in_ok-print_entries.ensures.ok c.in_err-print_all_unserved.ensures.part))
+
+pub returns-clause-part : goal.returns-clause-part
+returns-clause-part g c =
+    on_err_if c.flush.result _ _ (λ h. part_of_text _ _ c.args.buffer.now.items (history_text c.args.history.now ++ unserved_text c.args.requests.now c.args.marks.now) c.requires.empty
+    (part_left _ _ _ c.args.buffer.now.items c.print_all_unserved.new.buffer.items (history_text c.args.history.now ++ unserved_text c.args.requests.now c.args.marks.now)
+    (pass_then _ _ _ c.args.buffer.now.items c.print_entries.new.buffer.items c.print_all_unserved.new.buffer.items (history_text c.args.history.now) (unserved_text c.args.requests.now c.args.marks.now) c.in_ok-print_entries.ensures.ok c.in_ok-print_all_unserved.ensures.ok) h)) c.flush.ensures.part

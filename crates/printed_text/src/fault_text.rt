@@ -1,0 +1,81 @@
+//! The lines that tell of faults.
+ghost use Rattle.std.specs.Prelude.{◌≡◌, ◌+◌, ◌≤◌, ◌++◌, length, vec_len, vec_capacity};
+ghost use Rattle.printed_text.specs.Texts.{memory_line, fault_line_text, cause_text, bad_line_text, statement_cause_text, bad_statement_text};
+
+use request_text::LineCause;
+use setoff_model::{put, write_number};
+use statement_text::StatementCause;
+
+/// Writes the line `! line N memory` of a request that was not served for want of memory.
+pub fn write_memory_line(buffer: &mut Vec<u8>, line: u64)
+    requires { vec_len buffer.old + 200 ≤ vec_capacity buffer.old }
+    ensures text { buffer.new.items ≡ buffer.old.items ++ memory_line line }
+    ensures len { vec_len buffer.new ≤ vec_len buffer.old + 200 }
+    ensures room { vec_capacity buffer.old ≤ vec_capacity buffer.new }
+{
+    put(buffer, b"! line ");
+    write_number(buffer, i128::from(line));
+    put(buffer, b" memory\n");
+}
+
+fn write_cause(buffer: &mut Vec<u8>, cause: LineCause)
+    requires { vec_len buffer.old + 70 ≤ vec_capacity buffer.old }
+    ensures text { buffer.new.items ≡ buffer.old.items ++ cause_text cause }
+    ensures len { vec_len buffer.new ≤ vec_len buffer.old + 30 }
+    ensures room { vec_capacity buffer.old ≤ vec_capacity buffer.new }
+{
+    match cause {
+        LineCause::Lane => put(buffer, b"lane"),
+        LineCause::Verb => put(buffer, b"verb"),
+        LineCause::Fields => put(buffer, b"fields"),
+        LineCause::Field(k) => {
+            put(buffer, b"field ");
+            write_number(buffer, i128::from(k));
+        }
+    }
+}
+
+/// Writes the line `fault line N CAUSE` of an input of requests that is not in the grammar.
+pub fn write_bad_line(buffer: &mut Vec<u8>, line: u64, cause: LineCause)
+    requires { vec_len buffer.old + 200 ≤ vec_capacity buffer.old }
+    ensures text { buffer.new.items ≡ buffer.old.items ++ bad_line_text line cause }
+    ensures len { vec_len buffer.new ≤ vec_len buffer.old + 200 }
+    ensures room { vec_capacity buffer.old ≤ vec_capacity buffer.new }
+{
+    put(buffer, b"fault line ");
+    write_number(buffer, i128::from(line));
+    put(buffer, b" ");
+    write_cause(buffer, cause);
+    put(buffer, b"\n");
+}
+
+fn statement_cause(cause: StatementCause) -> &'static [u8]
+    ensures text { result.now ≡ statement_cause_text cause }
+    ensures short { length result.now ≤ 10 }
+{
+    match cause {
+        StatementCause::Round => b"round",
+        StatementCause::After => b"after",
+        StatementCause::Shape => b"shape",
+        StatementCause::Limit => b"limit",
+        StatementCause::Repeat => b"repeat",
+        StatementCause::NoParty => b"party",
+        StatementCause::SameFirm => b"same-firm",
+        StatementCause::Window => b"window",
+        StatementCause::NoEnd => b"end",
+    }
+}
+
+/// Writes the line `fault line N CAUSE` of an input that is no statement.
+pub fn write_bad_statement(buffer: &mut Vec<u8>, line: u64, cause: StatementCause)
+    requires { vec_len buffer.old + 200 ≤ vec_capacity buffer.old }
+    ensures text { buffer.new.items ≡ buffer.old.items ++ bad_statement_text line cause }
+    ensures len { vec_len buffer.new ≤ vec_len buffer.old + 200 }
+    ensures room { vec_capacity buffer.old ≤ vec_capacity buffer.new }
+{
+    put(buffer, b"fault line ");
+    write_number(buffer, i128::from(line));
+    put(buffer, b" ");
+    put(buffer, statement_cause(cause));
+    put(buffer, b"\n");
+}

@@ -1,0 +1,220 @@
+//! Output in pieces: text goes through a buffer of 65,536 bytes to the sink.
+ghost use Rattle.std.specs.Prelude.{◌≡◌, ℕ, ◌+◌, ◌≤◌, [], ◌++◌, true, All, IfOk, OnOk, OnErr, vec_len, vec_capacity, length, slice_get};
+ghost use Rattle.std.specs.Io.KnownBytes.{Appends};
+ghost use Rattle.bureau_edge.specs.Causes.{HasCause};
+ghost use Rattle.bureau_edge.specs.Streams.{AppendsPart};
+ghost use Rattle.claim_history.specs.declared.entry.Reply.TheVariants as reply;
+ghost use Rattle.claim_history.specs.Acts.{is_valid};
+ghost use Rattle.claim_history.specs.History.{IsLegal, AreValid};
+ghost use Rattle.claim_history.specs.Laws.{IsReplyInRange};
+ghost use Rattle.statement_text.specs.Entries.{entry_line};
+ghost use Rattle.printed_text.specs.Printing.{unserved_line, unserved_text, history_text, cuts_of, statement_of, IsPrintableAt, rounds_in, printed_of};
+ghost use Rattle.printed_text.specs.Writing.{Passes};
+
+use crate::fault_text::write_memory_line;
+use crate::statement::print_statement;
+use bureau_edge::{Failed, Sink, write_all};
+use claim_history::{Act, Entry, Reply};
+use request_text::Request;
+use setoff_model::Cut;
+use statement_text::write_entry;
+use std::alloc::{AllocError, Global};
+
+/// The bytes of the buffer.
+const OUTPUT_BYTES: usize = 65_536;
+
+/// The bytes that one line takes at most.
+const LINE_BYTES: usize = 200;
+
+/// An empty buffer.
+pub fn output_buffer(alloc: Global) -> Result<Vec<u8>, AllocError>
+    ensures empty { IfOk result (λ buffer. buffer.items ≡ []) }
+    ensures len { IfOk result (λ buffer. vec_len buffer ≡ 0) }
+    ensures room { IfOk result (λ buffer. 65536 ≤ vec_capacity buffer) }
+{
+    Vec::with_capacity(alloc, OUTPUT_BYTES)
+}
+
+/// Writes what is in the buffer, and empties it.
+pub fn flush<K: Sink>(sink: &mut K, buffer: &mut Vec<u8>) -> Result<(), Failed>
+    ensures ok { OnOk result (Passes (K.held sink.old) (K.held sink.new) buffer.old.items buffer.new.items []) }
+    ensures empty { OnOk result (vec_len buffer.new ≡ 0) }
+    ensures part { OnErr result (AppendsPart (K.held sink.old) (K.held sink.new) buffer.old.items) }
+    ensures cause { HasCause (K.faults sink.old) (K.faults sink.new) result }
+    ensures room { vec_capacity buffer.old ≤ vec_capacity buffer.new }
+{
+    write_all(sink, buffer.as_slice())?;
+    buffer.clear();
+    Ok(())
+}
+
+/// Makes room for a line of 200 bytes.
+pub fn make_room<K: Sink>(sink: &mut K, buffer: &mut Vec<u8>) -> Result<(), Failed>
+    requires { 65536 ≤ vec_capacity buffer.old }
+    ensures ok { OnOk result (Passes (K.held sink.old) (K.held sink.new) buffer.old.items buffer.new.items []) }
+    ensures spare { OnOk result (vec_len buffer.new + 200 ≤ vec_capacity buffer.new) }
+    ensures part { OnErr result (AppendsPart (K.held sink.old) (K.held sink.new) buffer.old.items) }
+    ensures cause { HasCause (K.faults sink.old) (K.faults sink.new) result }
+    ensures room { 65536 ≤ vec_capacity buffer.new }
+{
+    if buffer.len() <= OUTPUT_BYTES - LINE_BYTES {
+        return Ok(());
+    }
+    flush(sink, buffer)
+}
+
+// Prints the line of an entry.
+fn print_entry<K: Sink>(sink: &mut K, buffer: &mut Vec<u8>, entry: &Entry) -> Result<(), Failed>
+    requires valid { is_valid entry.now.act ≡ true }
+    requires range { IsReplyInRange entry.now.reply }
+    requires spare { 65536 ≤ vec_capacity buffer.old }
+    ensures ok { OnOk result (Passes (K.held sink.old) (K.held sink.new) buffer.old.items buffer.new.items (entry_line entry.now)) }
+    ensures part { OnErr result (AppendsPart (K.held sink.old) (K.held sink.new) (buffer.old.items ++ entry_line entry.now)) }
+    ensures cause { HasCause (K.faults sink.old) (K.faults sink.new) result }
+    ensures room { 65536 ≤ vec_capacity buffer.new }
+{
+    make_room(sink, buffer)?;
+    write_entry(buffer, entry);
+    Ok(())
+}
+
+// Prints the statement of the round that an entry publishes, and nothing for one that publishes none. The cut of the round is at
+// the place `next`; gives the place of the cut after it.
+fn print_publication<K: Sink>(
+    sink: &mut K,
+    buffer: &mut Vec<u8>,
+    entry: &Entry,
+    rounds: &[Cut],
+    next: usize,
+) -> Result<usize, Failed>
+    requires publication { (total : ℕ) → entry.now.reply ≡ reply.Published total → IsPrintableAt rounds.now next entry.now.act }
+    requires spare { 65536 ≤ vec_capacity buffer.old }
+    ensures ok { OnOk result (Passes (K.held sink.old) (K.held sink.new) buffer.old.items buffer.new.items (statement_of (slice_get rounds.now next) entry.now.act entry.now.reply)) }
+    ensures next { IfOk result (λ place. place ≡ next + rounds_in entry.now.reply) }
+    ensures part { OnErr result (AppendsPart (K.held sink.old) (K.held sink.new) (buffer.old.items ++ statement_of (slice_get rounds.now next) entry.now.act entry.now.reply)) }
+    ensures cause { HasCause (K.faults sink.old) (K.faults sink.new) result }
+    ensures room { 65536 ≤ vec_capacity buffer.new }
+{
+    let Reply::Published { .. } = entry.reply else {
+        return Ok(next);
+    };
+    let Act::Publish { outcome, .. } = &entry.act else {
+        unreachable!()
+    };
+    print_statement(sink, buffer, &rounds[next], outcome)?;
+    Ok(next + 1)
+}
+
+// Prints the line of an entry, and at once the statement of the round that it publishes.
+fn print_answer<K: Sink>(
+    sink: &mut K,
+    buffer: &mut Vec<u8>,
+    entry: &Entry,
+    rounds: &[Cut],
+    next: usize,
+) -> Result<usize, Failed>
+    requires valid { is_valid entry.now.act ≡ true }
+    requires range { IsReplyInRange entry.now.reply }
+    requires publication { (total : ℕ) → entry.now.reply ≡ reply.Published total → IsPrintableAt rounds.now next entry.now.act }
+    requires spare { 65536 ≤ vec_capacity buffer.old }
+    ensures ok { OnOk result (Passes (K.held sink.old) (K.held sink.new) buffer.old.items buffer.new.items (entry_line entry.now ++ statement_of (slice_get rounds.now next) entry.now.act entry.now.reply)) }
+    ensures next { IfOk result (λ place. place ≡ next + rounds_in entry.now.reply) }
+    ensures part { OnErr result (AppendsPart (K.held sink.old) (K.held sink.new) (buffer.old.items ++ (entry_line entry.now ++ statement_of (slice_get rounds.now next) entry.now.act entry.now.reply))) }
+    ensures cause { HasCause (K.faults sink.old) (K.faults sink.new) result }
+    ensures room { 65536 ≤ vec_capacity buffer.new }
+{
+    print_entry(sink, buffer, entry)?;
+    print_publication(sink, buffer, entry, rounds, next)
+}
+
+// Prints the entries of a history, of which `rounds` are the cuts of the published rounds.
+fn print_entries<K: Sink>(
+    sink: &mut K,
+    buffer: &mut Vec<u8>,
+    history: &[Entry],
+    rounds: &[Cut],
+) -> Result<(), Failed>
+    requires legal { IsLegal history.now }
+    requires valid { AreValid history.now }
+    requires range { All (λ e. IsReplyInRange e.reply) history.now }
+    requires rounds { rounds.now ≡ cuts_of history.now }
+    requires spare { 65536 ≤ vec_capacity buffer.old }
+    ensures ok { OnOk result (Passes (K.held sink.old) (K.held sink.new) buffer.old.items buffer.new.items (history_text history.now)) }
+    ensures part { OnErr result (AppendsPart (K.held sink.old) (K.held sink.new) (buffer.old.items ++ history_text history.now)) }
+    ensures cause { HasCause (K.faults sink.old) (K.faults sink.new) result }
+    ensures room { 65536 ≤ vec_capacity buffer.new }
+{
+    let mut next = 0;
+    for entry in history {
+        next = print_answer(sink, buffer, entry, rounds, next)?;
+    }
+    Ok(())
+}
+
+// Prints the line of a request that was not served, and nothing for one that was.
+fn print_unserved<K: Sink>(
+    sink: &mut K,
+    buffer: &mut Vec<u8>,
+    request: &Request,
+    mark: bool,
+) -> Result<(), Failed>
+    requires { 65536 ≤ vec_capacity buffer.old }
+    ensures ok { OnOk result (Passes (K.held sink.old) (K.held sink.new) buffer.old.items buffer.new.items (unserved_line request.now mark)) }
+    ensures part { OnErr result (AppendsPart (K.held sink.old) (K.held sink.new) (buffer.old.items ++ unserved_line request.now mark)) }
+    ensures cause { HasCause (K.faults sink.old) (K.faults sink.new) result }
+    ensures room { 65536 ≤ vec_capacity buffer.new }
+{
+    if mark {
+        return Ok(());
+    }
+    make_room(sink, buffer)?;
+    write_memory_line(buffer, request.line);
+    Ok(())
+}
+
+// Prints the lines of the requests that were not served.
+fn print_all_unserved<K: Sink>(
+    sink: &mut K,
+    buffer: &mut Vec<u8>,
+    requests: &[Request],
+    marks: &[bool],
+) -> Result<(), Failed>
+    requires marked { length requests.now ≡ length marks.now }
+    requires spare { 65536 ≤ vec_capacity buffer.old }
+    ensures ok { OnOk result (Passes (K.held sink.old) (K.held sink.new) buffer.old.items buffer.new.items (unserved_text requests.now marks.now)) }
+    ensures part { OnErr result (AppendsPart (K.held sink.old) (K.held sink.new) (buffer.old.items ++ unserved_text requests.now marks.now)) }
+    ensures cause { HasCause (K.faults sink.old) (K.faults sink.new) result }
+{
+    for i in 0..requests.len() {
+        print_unserved(sink, buffer, &requests[i], marks[i])?;
+    }
+    Ok(())
+}
+
+/// Prints the entries of a history, each published one with the statement of its round, and then a line for each request
+/// that was not served. The rounds are the cuts of the published ones, in order.
+///
+/// The buffer is empty at first, and has room for 65,536 bytes. After a failure the sink has some first bytes of the text.
+pub fn print_run<K: Sink>(
+    sink: &mut K,
+    buffer: &mut Vec<u8>,
+    history: &[Entry],
+    rounds: &[Cut],
+    requests: &[Request],
+    marks: &[bool],
+) -> Result<(), Failed>
+    requires legal { IsLegal history.now }
+    requires valid { AreValid history.now }
+    requires range { All (λ e. IsReplyInRange e.reply) history.now }
+    requires rounds { rounds.now ≡ cuts_of history.now }
+    requires marked { length requests.now ≡ length marks.now }
+    requires empty { buffer.old.items ≡ [] }
+    requires spare { 65536 ≤ vec_capacity buffer.old }
+    ensures ok { OnOk result (Appends (K.held sink.old) (K.held sink.new) (printed_of requests.now marks.now history.now)) }
+    ensures part { OnErr result (AppendsPart (K.held sink.old) (K.held sink.new) (printed_of requests.now marks.now history.now)) }
+    ensures cause { HasCause (K.faults sink.old) (K.faults sink.new) result }
+{
+    print_entries(sink, buffer, history, rounds)?;
+    print_all_unserved(sink, buffer, requests, marks)?;
+    flush(sink, buffer)
+}
