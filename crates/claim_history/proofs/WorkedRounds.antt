@@ -1,6 +1,6 @@
 -- The definitions at worked cases of rounds.
-use Rattle.std.specs.Prelude.{ℤ, pos, negsuc, codes, decimal, drop, reverse, Some, None, is_some, true, false}
-use Rattle.std.proofs.Common.{◌≡◌, ℕ, ◌^◌, ◌≤◌, ◌<◌, inl, List, [], ◌∷◌, ◌++◌, replicate, refl, arith}
+use Rattle.std.specs.Prelude.{ℤ, pos, negsuc, codes, decimal, drop, reverse, Some, None, true, false}
+use Rattle.std.proofs.Common.{◌≡◌, ℕ, inl, List, [], ◌∷◌, ◌++◌, refl, arith}
 use Rattle.setoff_model.specs.declared.name.Key.{Key}
 use Rattle.setoff_model.specs.declared.kind.Kind.TheVariants.{Plain, Funded}
 use Rattle.setoff_model.specs.declared.cut.Party.{Party}
@@ -14,8 +14,8 @@ use Rattle.claim_history.specs.declared.entry.Why.TheVariants as why
 use Rattle.claim_history.specs.Acts.{act_text, is_valid, is_request}
 use Rattle.claim_history.specs.Days.{day_text}
 use Rattle.claim_history.specs.Facts.{left_of}
-use Rattle.claim_history.specs.States.{OpenRound, state, state_of}
-use Rattle.claim_history.specs.History.{Call, accepted_acts, answer_of, replay_of, replay_after, IsLegal, IsLegalPast, failed}
+use Rattle.claim_history.specs.States.{state, state_of}
+use Rattle.claim_history.specs.History.{Call, accepted_acts, answer_of, replay_of, replay_after, IsLegalPast, failed}
 use Rattle.claim_history.proofs.Growth.{replay_is_legal}
 use Rattle.claim_history.proofs.Worked.{replies, position}
 
