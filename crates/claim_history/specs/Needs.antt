@@ -172,13 +172,25 @@ pub record UseGrows (history : List Entry) (e : Entry) : Type 0 where
 abbrev pub UseLaw : Type 0
 UseLaw = (history : List Entry) (e : Entry) → UseGrows history e
 
--- what calls use that are all accepted: an entry each, and its record
+-- what calls use: an entry each, and where all are accepted a record each
 pub record UseOfCalls (calls : List Call) : Type 0 where
   pub entries : used_entries_of (replay_of calls) ≡ length calls
-  pub bytes : used_bytes_of (replay_of calls) ≡ 9 + sum_by (λ call. record_length_of call.act) calls
+  pub bytes : All (λ e. is_accepted e ≡ true) (replay_of calls) → used_bytes_of (replay_of calls) ≡ 9 + sum_by (λ call. record_length_of call.act) calls
 
-abbrev pub AcceptedUseLaw : Type 0
-AcceptedUseLaw = (calls : List Call) → All (λ e. is_accepted e ≡ true) (replay_of calls) → UseOfCalls calls
+abbrev pub CallsLaw : Type 0
+CallsLaw = (calls : List Call) → UseOfCalls calls
+
+-- the history with the act and its one reply
+abbrev pub with_due : List Entry → ℕ → Act → List Entry
+with_due history caller a = history ++ record { caller = caller; act = a; reply = answer_of history caller a } ∷ []
+
+-- an act needs what the history uses with it, and both endings of the round that is open then
+pub record NeedsOf (history : List Entry) (caller : ℕ) (a : Act) : Type 0 where
+  pub entries : needed_entries_of history caller a ≡ used_entries_of (with_due history caller a) + endings_entries (state_of (with_due history caller a)).open_round
+  pub bytes : needed_bytes_of history caller a ≡ used_bytes_of (with_due history caller a) + endings_bytes (state_of (with_due history caller a)).open_round
+
+abbrev pub NeedsLaw : Type 0
+NeedsLaw = (history : List Entry) (caller : ℕ) (a : Act) → NeedsOf history caller a
 
 -- an act is not full exactly where it fits
 abbrev pub FullLaw : Type 0

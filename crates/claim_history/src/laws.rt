@@ -1,6 +1,6 @@
 //! What holds of every legal history. Each of these calls does nothing.
 ghost use Rattle.claim_history.specs.Laws.{ActsLaw, CutLaw, GrowthLaw, ReplayLaw, LimitsLaw, FormulasLaw, SizesLaw, RepliesLaw, FrozenLaw, OwnedLaw, PublicationLaw, GreatestLaw, OpeningsLaw};
-ghost use Rattle.claim_history.specs.Needs.{RoomLaw, EndingsLaw, RecordsLaw, UseLaw, AcceptedUseLaw, FullLaw};
+ghost use Rattle.claim_history.specs.Needs.{RoomLaw, EndingsLaw, RecordsLaw, UseLaw, CallsLaw, NeedsLaw, FullLaw};
 ghost use Rattle.claim_history.specs.Register.{FullRegister};
 
 /// What a history comes to is that of its entries: its acts are the accepted ones, newest first, and its open round has the cut
@@ -60,11 +60,13 @@ pub fn room_for_endings_is_kept()
 {}
 
 /// With each entry a history uses one entry more, unless its reply tells of a device, and the bytes of its record where it is
-/// accepted, and it stays within the limits where the act is. A list of calls that are all accepted uses an entry and a record
-/// for each. An act is full exactly where one of its two needs is above its limit.
+/// accepted, and it stays within the limits where the act is. A list of calls uses an entry for each, and a record for each
+/// where all are accepted. An act needs what the history uses with it and its reply, and both endings of the round that is open
+/// then. It is full exactly where one of the two needs is above its limit.
 pub fn use_is_counted()
     ensures growth { UseLaw }
-    ensures calls { AcceptedUseLaw }
+    ensures calls { CallsLaw }
+    ensures needs { NeedsLaw }
     ensures full { FullLaw }
 {}
 
