@@ -1,6 +1,6 @@
 -- The open round of a history is that of its opening.
 use Rattle.std.specs.Prelude.{count_by, if◌then◌else◌, reverse, Option, Some, None}
-use Rattle.std.proofs.Common.{◌≡◌, ℕ, ◌+◌, cond, Bool, true, false, List, [], ◌∷◌, ◌++◌, refl, sym, ◌∙◌, ap, ap₂, subst, true≢false, arith}
+use Rattle.std.proofs.Common.{◌≡◌, ℕ, ◌+◌, cond, false, List, [], ◌∷◌, ◌++◌, refl, sym, ◌∙◌, ap, ap₂, subst, true≢false, arith}
 use Rattle.std.proofs.lemmas.List.{reverse-reverse}
 use Rattle.std.proofs.lemmas.List.Sums.{sum_by-cons}
 use Rattle.std.proofs.lemmas.List.Sorted.{sum_by-IsPermutation, IsPermutation-reverse}
@@ -17,13 +17,10 @@ use Rattle.claim_history.specs.Cut.{cut_of}
 use Rattle.claim_history.specs.States.{OpenRound, State, after, open_as, state}
 use Rattle.claim_history.specs.History.{IsLegalPast, IsReply, abandon_answer, abandon_refusals, answer, close_answer, close_refusals, failed, is_opening, publish_answer, publish_refusals, replied}
 use Rattle.claim_history.specs.Laws.{CutLaw, IsCutOfOpening, OpeningsLaw}
-use Rattle.claim_history.proofs.Pasts.{reverse_parts}
+use Rattle.claim_history.proofs.Pasts.{entry_of, reverse_parts}
 use Rattle.claim_history.proofs.Histories.{answer_cases}
 use Rattle.claim_history.proofs.Rows.{by_rows}
 use Rattle.claim_history.proofs.Rounds.{at_state, same_open, none_open}
-
-abbrev entry_of : ℕ → Act → Reply → Entry
-entry_of caller a r = record { caller = caller; act = a; reply = r }
 
 -- the opening of a round in a past, newest first
 record IsOpenedIn (past : List Entry) (round : OpenRound) : Type 0 where

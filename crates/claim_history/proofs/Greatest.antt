@@ -1,8 +1,7 @@
 -- What is published is greatest.
-use Rattle.std.specs.Prelude.{reverse, Option, Some, None, ◌==◌}
-use Rattle.std.proofs.Common.{◌≡◌, ℕ, Bool, true, false, not, ◌&&◌, List, [], ◌∷◌, ◌++◌, refl, sym, ◌∙◌, ap, subst, true≢false}
+use Rattle.std.specs.Prelude.{reverse, Option, Some, None}
+use Rattle.std.proofs.Common.{◌≡◌, ℕ, Bool, true, false, ◌∷◌, refl, sym, ◌∙◌, ap, subst, true≢false}
 use Rattle.std.proofs.lemmas.Bool.{eqb-true}
-use Rattle.std.proofs.lemmas.List.{reverse-append}
 use Rattle.setoff_model.specs.declared.kind.Kind.{Kind}
 use Rattle.setoff_model.specs.CutView.{OutcomeView, obligations}
 use Rattle.setoff_model.specs.Setoff.{total_of}
@@ -13,13 +12,11 @@ use Rattle.claim_history.specs.declared.act.Act.{Act}
 use Rattle.claim_history.specs.declared.act.Act.TheVariants as act
 use Rattle.claim_history.specs.declared.entry.Reply.{Reply}
 use Rattle.claim_history.specs.declared.entry.Reply.TheVariants as reply
-use Rattle.claim_history.specs.declared.entry.Entry.{Entry}
 use Rattle.claim_history.specs.declared.entry.Why.{Why}
-use Rattle.claim_history.specs.Facts.{position_of}
 use Rattle.claim_history.specs.States.{OpenRound, State, state_of}
-use Rattle.claim_history.specs.History.{IsLegalPast, IsReply, Refusals, abandon_answer, abandon_refusals, answer, close_answer, close_refusals, confirm_refusals, dispute_refusals, draw_refusals, failed, file_refusals, firm_refusals, fund_refusals, limit_refusals, offer_refusals, position_refusals, publish_answer, publish_refusals, receive_refusals, refused_or, replied, withdraw_refusals}
-use Rattle.claim_history.specs.Laws.{GreatestLaw, IsGreatestPublication}
-use Rattle.claim_history.proofs.Pasts.{reverse_parts}
+use Rattle.claim_history.specs.History.{IsLegalPast, IsReply, Refusals, abandon_answer, abandon_refusals, answer, close_answer, close_refusals, failed, publish_answer, publish_refusals, refused_or, replied}
+use Rattle.claim_history.specs.Laws.{GreatestLaw}
+use Rattle.claim_history.proofs.Pasts.{legal_rest, reverse_parts}
 use Rattle.claim_history.proofs.Rows.{by_rows, not_false, NoneApplies}
 use Rattle.claim_history.proofs.Histories.{answer_cases}
 
@@ -95,13 +92,9 @@ reply_published s counted caller a r total (failed device) is = absurd (refused_
 
 -- ---- the law
 
-legal_later : (later past : List Entry) → IsLegalPast (later ++ past) → IsLegalPast past
-legal_later [] past legal = legal
-legal_later (e ∷ later) past legal = legal_later later past legal.1
-
 pub greatest_law : GreatestLaw
 greatest_law before later e total legal is =
-    let past = legal_later (reverse later) (e ∷ reverse before) (subst IsLegalPast (reverse_parts before later e) legal) in
+    let past = legal_rest (reverse later) (e ∷ reverse before) (subst IsLegalPast (reverse_parts before later e) legal) in
     let p = reply_published (state_of before) _ e.caller e.act e.reply total past.0 is in
     let proved = (proof_test_law (obligations p.round.cut) p.outcome.discharges p.outcome.prices).0 p.proved in
     record {

@@ -10,11 +10,9 @@ use Rattle.claim_history.specs.declared.entry.Entry.{Entry}
 use Rattle.claim_history.specs.States.{State, open_as, state}
 use Rattle.claim_history.specs.History.{answer_of, MayFollow, Call, IsLegalPast, accepted_acts, ask, replay_after, replied}
 use Rattle.claim_history.specs.Laws.{ActsLaw, GrowthLaw, ReplayLaw}
+use Rattle.claim_history.proofs.Pasts.{entry_of}
 
 -- ---- the acts of the state
-
-abbrev entry_of : ℕ → Act → Reply → Entry
-entry_of caller a r = record { caller = caller; act = a; reply = r }
 
 open_acts : (caller : ℕ) (a : Act) (s : State) → (open_as caller a s).ledger.acts ≡ a ∷ s.ledger.acts
 open_acts caller (act.Close kind horizon) s = refl

@@ -23,3 +23,5 @@ pub mod Ranges
 pub mod Worked
 pub mod Register
 mod WorkedRounds
+mod WorkedNeeds
+pub mod Room

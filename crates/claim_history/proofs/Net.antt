@@ -1,6 +1,6 @@
 -- A publication keeps every net position, in every legal history.
 use Rattle.std.specs.Prelude.{reverse, Option, Some, None, is_some, cond}
-use Rattle.std.proofs.Common.{◌≡◌, ℕ, ◌+◌, Bool, true, false, List, [], ◌∷◌, sum, refl, sym, ◌∙◌, ap, subst, true≢false}
+use Rattle.std.proofs.Common.{◌≡◌, ℕ, ◌+◌, Bool, true, false, List, refl, sym, ◌∙◌, ap, subst, true≢false}
 use Rattle.setoff_model.specs.declared.name.Key.{Key}
 use Rattle.setoff_model.specs.declared.kind.Kind.{Kind}
 use Rattle.setoff_model.specs.Setoff.{total_of}
@@ -12,10 +12,10 @@ use Rattle.claim_history.specs.declared.act.Act.TheVariants as act
 use Rattle.claim_history.specs.declared.entry.Reply.{Reply}
 use Rattle.claim_history.specs.declared.entry.Reply.TheVariants as reply
 use Rattle.claim_history.specs.declared.entry.Entry.{Entry}
-use Rattle.claim_history.specs.Facts.{Filing, Ledger, filing_of, position_of}
+use Rattle.claim_history.specs.Facts.{Filing, Ledger, filing_of}
 use Rattle.claim_history.specs.Cut.{cut_of}
 use Rattle.claim_history.specs.States.{OpenRound, State, accept, after, state, with_act}
-use Rattle.claim_history.specs.History.{IsLegalPast, abandon_answer, abandon_refusals, answer, close_answer, close_refusals, confirm_refusals, dispute_refusals, draw_refusals, file_refusals, firm_refusals, fund_refusals, limit_refusals, offer_refusals, position_refusals, publish_answer, publish_refusals, receive_refusals, withdraw_refusals}
+use Rattle.claim_history.specs.History.{IsLegalPast, abandon_answer, abandon_refusals, answer, close_answer, close_refusals, file_refusals, publish_answer, publish_refusals}
 use Rattle.claim_history.specs.Laws.{PublicationLaw, net_position}
 use Rattle.claim_history.proofs.Rows.{by_rows, NoneApplies, key_is, and_true, not_false}
 use Rattle.claim_history.proofs.Steps.{Holds}

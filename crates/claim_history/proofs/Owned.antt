@@ -1,6 +1,6 @@
 -- An owned round stays open.
 use Rattle.std.specs.Prelude.{reverse, Option, Some, None, ◌==◌}
-use Rattle.std.proofs.Common.{◌≡◌, ◌≢◌, ℕ, ◌+◌, Bool, true, false, not, ◌&&◌, List, [], ◌∷◌, ◌++◌, All, sum, refl, sym, ◌∙◌, ap, ap₂, subst, subst₂, true≢false}
+use Rattle.std.proofs.Common.{◌≡◌, ◌≢◌, ℕ, ◌+◌, Bool, true, false, not, ◌&&◌, List, [], ◌∷◌, ◌++◌, All, refl, sym, ◌∙◌, ap, ap₂, subst, subst₂, true≢false}
 use Rattle.std.proofs.lemmas.Bool.{eqb-true, ne_eqb}
 use Rattle.std.proofs.lemmas.List.Elements.{All-head, All-tail}
 use Rattle.setoff_model.specs.declared.kind.Kind.{Kind}
@@ -12,12 +12,12 @@ use Rattle.claim_history.specs.declared.act.Act.TheVariants as act
 use Rattle.claim_history.specs.declared.entry.Reply.{Reply}
 use Rattle.claim_history.specs.declared.entry.Reply.TheVariants as reply
 use Rattle.claim_history.specs.declared.entry.Entry.{Entry}
-use Rattle.claim_history.specs.Facts.{Ledger, position_of}
+use Rattle.claim_history.specs.Facts.{Ledger}
 use Rattle.claim_history.specs.Cut.{cut_of}
 use Rattle.claim_history.specs.States.{OpenRound, State, after, state}
-use Rattle.claim_history.specs.History.{IsLegalPast, IsReply, abandon_answer, abandon_refusals, answer, close_answer, close_refusals, confirm_refusals, dispute_refusals, draw_refusals, failed, file_refusals, firm_refusals, fund_refusals, is_no_refusal, last_count, limit_refusals, offer_refusals, position_refusals, publish_answer, publish_refusals, receive_refusals, replied, same_kind, withdraw_refusals}
+use Rattle.claim_history.specs.History.{IsLegalPast, IsReply, abandon_answer, abandon_refusals, answer, close_answer, close_refusals, failed, is_no_refusal, last_count, publish_answer, publish_refusals, replied, same_kind}
 use Rattle.claim_history.specs.Laws.{ByOthers, IsAcceptedClose, IsOwned, OwnedLaw, StaysOwned, round_in}
-use Rattle.claim_history.proofs.Pasts.{all_reverse, reverse_parts}
+use Rattle.claim_history.proofs.Pasts.{all_reverse, legal_rest, reverse_parts}
 use Rattle.claim_history.proofs.Rows.{by_rows, NoneApplies, and_true, not_false}
 use Rattle.claim_history.proofs.Rounds.{at_state}
 use Rattle.claim_history.proofs.Histories.{answer_leaves, reply_leaves}
@@ -115,10 +115,6 @@ stays (e ∷ later) before close caller round legal owned others =
     let other : ByOthers caller e = All-head (ByOthers caller) e later others in
     reply_leaves (StaysOpen round) (state (later ++ close ∷ before)) _ e.caller e.act e.reply legal.0 was
     (others_leave (state (later ++ close ∷ before)) e.caller e.act round was (λ q. other.0 (q ∙ owned.owner)) other.1)
-
-legal_rest : (later rest : List Entry) → IsLegalPast (later ++ rest) → IsLegalPast rest
-legal_rest [] rest legal = legal
-legal_rest (e ∷ later) rest legal = legal_rest later rest legal.1
 
 owned_past : (later before : List Entry) (close : Entry) (caller : ℕ) → IsLegalPast (later ++ close ∷ before) → IsAcceptedClose caller close → All (ByOthers caller) later
     → StaysOwned caller close (state (close ∷ before)) (state (later ++ close ∷ before))

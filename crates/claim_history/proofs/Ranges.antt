@@ -1,9 +1,9 @@
 -- The replies of a legal history are in range.
 use Rattle.std.specs.Prelude.{Option, Some, None, reverse, pos, negsuc, ℤ, unsigned_abs}
-use Rattle.std.proofs.Common.{◌≡◌, ℕ, ◌^◌, ◌<◌, ◌≤◌, Bool, true, List, [], ◌∷◌, ◌++◌, All, refl, sym, ap, ◌∙◌, subst, arith}
-use Rattle.std.proofs.lemmas.Int.{ints, clamps}
+use Rattle.std.proofs.Common.{◌≡◌, ℕ, ◌^◌, ◌<◌, true, List, [], ◌∷◌, All, refl, sym, subst, arith}
+use Rattle.std.proofs.lemmas.Int.{ints}
 use Rattle.std.proofs.lemmas.List.{reverse-reverse}
-use Rattle.std.proofs.lemmas.List.Elements.{All-nil, All-cons, All-head, All-tail, All-append}
+use Rattle.std.proofs.lemmas.List.Elements.{All-nil, All-cons, All-tail}
 use Rattle.setoff_model.specs.declared.kind.Kind.{Kind}
 use Rattle.setoff_model.specs.CutView.{OutcomeView, obligations}
 use Rattle.setoff_model.specs.Setoff.{total_of, IsLawful}
@@ -15,8 +15,8 @@ use Rattle.claim_history.specs.declared.entry.Reply.{Reply}
 use Rattle.claim_history.specs.declared.entry.Reply.TheVariants as reply
 use Rattle.claim_history.specs.Acts.{is_valid}
 use Rattle.claim_history.specs.Facts.{position_of}
-use Rattle.claim_history.specs.States.{OpenRound, State, state, state_of}
-use Rattle.claim_history.specs.History.{AreValid, IsLegal, IsLegalPast, IsReply, abandon_answer, abandon_refusals, answer, close_answer, close_refusals, confirm_refusals, dispute_refusals, draw_refusals, failed, file_refusals, firm_refusals, fund_refusals, limit_refusals, offer_refusals, position_refusals, publish_answer, publish_refusals, receive_refusals, replied, withdraw_refusals}
+use Rattle.claim_history.specs.States.{OpenRound, State, state}
+use Rattle.claim_history.specs.History.{IsLegalPast, IsReply, abandon_answer, abandon_refusals, answer, close_answer, close_refusals, failed, publish_answer, publish_refusals, replied}
 use Rattle.claim_history.specs.Laws.{IsReplyInRange, IsWithin, RepliesLaw}
 use Rattle.claim_history.proofs.Rounds.{lawful_is}
 use Rattle.claim_history.proofs.Histories.{answer_cases}

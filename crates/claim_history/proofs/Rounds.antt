@@ -1,7 +1,7 @@
 -- Openings, abandonments and publications keep the limits, the amounts and the open cut.
-use Rattle.std.specs.Prelude.{if◌then◌else◌, Option, Some, None, is_some, reverse, slice_index, ◌==◌}
+use Rattle.std.specs.Prelude.{if◌then◌else◌, Option, Some, None, is_some, reverse, slice_index}
 use Rattle.std.specs.List.{position_or_len}
-use Rattle.std.proofs.Common.{◌≡◌, ℕ, zero, suc, ◌+◌, ◌<◌, ◌≤◌, Bool, true, false, ◌&&◌, List, [], length, slice_index_or, nat_lt, nat_le, All, sum, refl, sym, ◌∙◌, ap, subst, true≢false, ◌⊎◌, ⊎_elim, eq-or-lt_of_le, arith}
+use Rattle.std.proofs.Common.{◌≡◌, ℕ, ◌+◌, ◌<◌, ◌≤◌, Bool, true, false, ◌&&◌, List, [], length, slice_index_or, nat_lt, nat_le, All, refl, sym, ◌∙◌, ap, subst, true≢false, arith}
 use Rattle.std.proofs.lemmas.Bool.{ltb-true, leb-true}
 use Rattle.std.proofs.lemmas.List.Sums.{sum_by-cons, passes_at_first}
 use Rattle.std.proofs.lemmas.List.Elements.{All-map, All-weaker, filter_passes}

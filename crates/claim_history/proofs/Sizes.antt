@@ -1,11 +1,11 @@
 -- How great amounts and balances are after a legal history of valid acts.
 use Rattle.std.specs.Prelude.{slice_index, if◌then◌else◌, Option, Some, None, reverse, filter, pos, ◌-ℤ◌}
 use Rattle.std.specs.List.{cons_option}
-use Rattle.std.proofs.Common.{◌≡◌, ℕ, ◌+◌, ◌*◌, ◌^◌, ◌≤◌, ◌<◌, Bool, true, false, ◌&&◌, List, [], ◌∷◌, length, nat_le, slice_index_or, All, refl, sym, ◌∙◌, subst, arith}
+use Rattle.std.proofs.Common.{◌≡◌, ℕ, ◌+◌, ◌*◌, ◌^◌, ◌≤◌, ◌<◌, Bool, true, false, ◌&&◌, List, [], ◌∷◌, length, nat_le, slice_index_or, All, refl, ◌∙◌, subst, arith}
 use Rattle.std.proofs.lemmas.Int.{ints, clamps}
 use Rattle.std.proofs.lemmas.Bool.{ltb-true, leb-false}
-use Rattle.std.proofs.lemmas.List.{reverse-append, length-reverse, length-map, get_or-map, get_or_default}
-use Rattle.std.proofs.lemmas.List.Elements.{All-nil, All-cons, All-head, All-tail, All-append}
+use Rattle.std.proofs.lemmas.List.{length-reverse, length-map, get_or-map, get_or_default}
+use Rattle.std.proofs.lemmas.List.Elements.{All-head, All-tail}
 use Rattle.std.proofs.lemmas.List.Sums.{sum_by-le}
 use Rattle.std.proofs.lemmas.List.Sums.{length-filter, count_by-le-length}
 use Rattle.setoff_model.specs.declared.name.Key.{Key}
@@ -25,7 +25,7 @@ use Rattle.claim_history.specs.Acts.{is_amount, is_claim_amount, is_day, is_key,
 use Rattle.claim_history.specs.Facts.{Filing, Ledger, amount_of, filing_of, filings, first_or, gained, is_confirmed, left_of, limits_of, owed_of, spent, status_of}
 use Rattle.claim_history.specs.Cut.{cut_claim, due_claims, firms_of, is_due}
 use Rattle.claim_history.specs.States.{OpenRound, State, accept, after, open_as, publish, state, state_of}
-use Rattle.claim_history.specs.History.{AreValid, IsLegal, IsLegalPast, abandon_answer, abandon_refusals, answer, answer_of, close_answer, close_refusals, file_refusals, publish_answer, publish_refusals}
+use Rattle.claim_history.specs.History.{AreValid, IsLegal, IsLegalPast, abandon_answer, abandon_refusals, answer, close_answer, close_refusals, file_refusals, publish_answer, publish_refusals}
 use Rattle.claim_history.specs.Laws.{IsFrozenClaim, IsWithin, SizesLaw}
 use Rattle.claim_history.proofs.Rows.{and_true, by_rows}
 use Rattle.claim_history.proofs.Rounds.{no_claim, at_state, same_open, none_open}

@@ -1,6 +1,6 @@
 -- The definitions at worked cases of rounds.
-use Rattle.std.specs.Prelude.{ℤ, pos, negsuc, codes, decimal, drop, reverse, Some, None, is_some, true, false}
-use Rattle.std.proofs.Common.{◌≡◌, ℕ, ◌^◌, ◌≤◌, ◌<◌, inl, List, [], ◌∷◌, ◌++◌, replicate, refl, arith}
+use Rattle.std.specs.Prelude.{ℤ, pos, negsuc, codes, decimal, drop, reverse, Some, None, true, false}
+use Rattle.std.proofs.Common.{◌≡◌, ℕ, inl, List, [], ◌∷◌, ◌++◌, refl, arith}
 use Rattle.setoff_model.specs.declared.name.Key.{Key}
 use Rattle.setoff_model.specs.declared.kind.Kind.TheVariants.{Plain, Funded}
 use Rattle.setoff_model.specs.declared.cut.Party.{Party}
@@ -14,24 +14,24 @@ use Rattle.claim_history.specs.declared.entry.Why.TheVariants as why
 use Rattle.claim_history.specs.Acts.{act_text, is_valid, is_request}
 use Rattle.claim_history.specs.Days.{day_text}
 use Rattle.claim_history.specs.Facts.{left_of}
-use Rattle.claim_history.specs.States.{OpenRound, state, state_of}
-use Rattle.claim_history.specs.History.{Call, accepted_acts, answer_of, replay_of, replay_after, IsLegal, IsLegalPast, failed}
+use Rattle.claim_history.specs.States.{state, state_of}
+use Rattle.claim_history.specs.History.{Call, accepted_acts, answer_of, replay_of, replay_after, IsLegalPast, failed}
 use Rattle.claim_history.proofs.Growth.{replay_is_legal}
 use Rattle.claim_history.proofs.Worked.{replies, position}
 
-abbrev A : List ℕ
+abbrev pub A : List ℕ
 A = codes "A"
 
-abbrev B : List ℕ
+abbrev pub B : List ℕ
 B = codes "B"
 
 abbrev C : List ℕ
 C = codes "C"
 
-abbrev key : List ℕ → List ℕ → Key
+abbrev pub key : List ℕ → List ℕ → Key
 key creditor invoice = record { creditor = creditor; invoice = invoice }
 
-abbrev by : ℕ → Act → Call
+abbrev pub by : ℕ → Act → Call
 by caller a = record { caller = caller; act = a }
 
 abbrev outcome : List ℕ → List ℤ → OutcomeView
@@ -45,7 +45,7 @@ abbrev three_firms : List Call
 three_firms = by 1 (act.Firm A) ∷ by 1 (act.Firm B) ∷ by 1 (act.Firm C) ∷ []
 
 -- the horizon is 31 December 2025
-abbrev close_plain : Act
+abbrev pub close_plain : Act
 close_plain = act.Close Plain 20453
 
 abbrev close_funded : Act
@@ -122,11 +122,11 @@ empty_replies = refl
 
 -- ---- a circle of three debts, and a second round
 
-abbrev circle : List Call
+abbrev pub circle : List Call
 circle = three_firms ++ by 1 (act.File (key B (codes "I-1")) A 1000 20119) ∷ by 1 (act.File (key C (codes "I-2")) B 700 20119) ∷ by 1 (act.File (key A (codes "I-3")) C 1200 20119)
     ∷ by 1 (act.Confirm (key B (codes "I-1")) A) ∷ by 1 (act.Confirm (key C (codes "I-2")) B) ∷ by 1 (act.Confirm (key A (codes "I-3")) C) ∷ []
 
-abbrev circle_outcome : OutcomeView
+abbrev pub circle_outcome : OutcomeView
 circle_outcome = outcome (700 ∷ 700 ∷ 700 ∷ []) (pos 1 ∷ pos 2 ∷ pos 0 ∷ [])
 
 abbrev two_rounds : List Call
@@ -233,16 +233,16 @@ no_round = refl
 
 -- ---- a device that fails at a publication
 
-abbrev publication : Call
+abbrev pub publication : Call
 publication = by 1 (act.Publish 1 circle_outcome)
 
-abbrev failed_publication : Entry
+abbrev pub failed_publication : Entry
 failed_publication = record { caller = 1; act = publication.act; reply = reply.Refused (why.Device 0 1) }
 
-abbrev opened : List Entry
+abbrev pub opened : List Entry
 opened = replay_after [] (circle ++ by 1 close_plain ∷ [])
 
-abbrev again : List Entry
+abbrev pub again : List Entry
 again = replay_after (failed_publication ∷ opened) (by 1 close_plain ∷ publication ∷ [])
 
 -- the round is open as before, and is continued and published

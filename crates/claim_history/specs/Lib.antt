@@ -6,3 +6,4 @@ pub mod States
 pub mod History
 pub mod Laws
 pub mod Register
+pub mod Needs

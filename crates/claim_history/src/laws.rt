@@ -1,5 +1,6 @@
 //! What holds of every legal history. Each of these calls does nothing.
 ghost use Rattle.claim_history.specs.Laws.{ActsLaw, CutLaw, GrowthLaw, ReplayLaw, LimitsLaw, FormulasLaw, SizesLaw, RepliesLaw, FrozenLaw, OwnedLaw, PublicationLaw, GreatestLaw, OpeningsLaw};
+ghost use Rattle.claim_history.specs.Needs.{RoomLaw, EndingsLaw, RecordsLaw, UseLaw, CallsLaw, NeedsLaw, FullLaw};
 ghost use Rattle.claim_history.specs.Register.{FullRegister};
 
 /// What a history comes to is that of its entries: its acts are the accepted ones, newest first, and its open round has the cut
@@ -47,6 +48,26 @@ pub fn publication_keeps_net_positions()
 /// discharges more.
 pub fn publications_are_greatest()
     ensures { GreatestLaw }
+{}
+
+/// While a round is open in a legal history, where each act was within the limits when it was asked, there is room for both
+/// endings of the round: for two entries, and for the bytes of its publication and of an abandonment. So neither of them is
+/// above a limit where it would be accepted. These bytes are those of the two records.
+pub fn room_for_endings_is_kept()
+    ensures room { RoomLaw }
+    ensures endings { EndingsLaw }
+    ensures records { RecordsLaw }
+{}
+
+/// With each entry a history uses one entry more, unless its reply tells of a device, and the bytes of its record where it is
+/// accepted, and it stays within the limits where the act is. A list of calls uses an entry for each, and a record for each
+/// where all are accepted. An act needs what the history uses with it and its reply, and both endings of the round that is open
+/// then. It is full exactly where one of the two needs is above its limit.
+pub fn use_is_counted()
+    ensures growth { UseLaw }
+    ensures calls { CallsLaw }
+    ensures needs { NeedsLaw }
+    ensures full { FullLaw }
 {}
 
 /// Where 262,143 claims were filed, two registered firms may file one more, and where 262,144 were, the next one is

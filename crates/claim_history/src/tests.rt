@@ -1,7 +1,8 @@
 use crate::{
     Act, Day, Entry, Reply, Why, accepted, full_register_refuses_claims, legal_history_grows,
     limits_hold, open_cut_is_frozen, owned_round_stays_open, publication_keeps_net_positions,
-    publications_are_greatest, state_is_of_the_history, write_act,
+    publications_are_greatest, room_for_endings_is_kept, state_is_of_the_history, use_is_counted,
+    write_act,
 };
 use setoff_model::{Key, Kind, Name, Outcome};
 use std::alloc::{AllocError, Global};
@@ -171,5 +172,7 @@ fn laws() {
     owned_round_stays_open();
     publication_keeps_net_positions();
     publications_are_greatest();
+    room_for_endings_is_kept();
+    use_is_counted();
     full_register_refuses_claims();
 }

@@ -1,13 +1,11 @@
 -- Names, each once, in order of first appearance.
 use Rattle.std.specs.Prelude.{filter, if◌then◌else◌}
 use Rattle.std.specs.List.{list_any}
-use Rattle.std.proofs.Common.{◌≡◌, ℕ, Bool, true, false, not, cond, ◌||◌, ◌&&◌, List, [], ◌∷◌, ◌++◌, refl, sym, ◌∙◌, ap, ap₂}
-use Rattle.std.proofs.lemmas.Bool.{false_from_ne_true, false≢true}
+use Rattle.std.proofs.Common.{◌≡◌, ℕ, Bool, true, false, not, cond, ◌||◌, List, [], ◌∷◌, ◌++◌, refl, sym, ◌∙◌, ap}
 use Rattle.std.proofs.lemmas.List.{append-nil}
 use Rattle.std.proofs.lemmas.List.Elements.{filter-append}
 use Rattle.std.proofs.lemmas.Map.Views.{any-filter_same}
-use Rattle.setoff_model.specs.declared.name.Key.{Key}
-use Rattle.setoff_model.specs.Same.{same_name, same_key}
+use Rattle.setoff_model.specs.Same.{same_name}
 use Rattle.claim_history.specs.Cut.{distinct}
 use Rattle.claim_history.proofs.Rows.{name_is, name_same, name_other}
 

@@ -6,14 +6,10 @@ use Rattle.setoff_model.specs.CutView.{WellFormed}
 use Rattle.claim_history.specs.declared.entry.Entry.{Entry}
 use Rattle.claim_history.specs.Acts.{is_valid}
 use Rattle.claim_history.specs.History.{IsLegal, IsLegalPast, AreValid}
-use Rattle.claim_history.proofs.Pasts.{reverse_parts}
+use Rattle.claim_history.proofs.Pasts.{legal_rest, reverse_parts}
 use Rattle.claim_history.proofs.Agreement.{cut_law}
 use Rattle.round_cut.specs.CutLaw.{OpenFormedLaw}
 use Rattle.round_cut.proofs.History.{formed_law}
-
-legal_before : (later past : List Entry) → IsLegalPast (later ++ past) → IsLegalPast past
-legal_before [] past legal = legal
-legal_before (e ∷ later) past legal = legal_before later past legal.1
 
 all_before : (P : Entry → Type 0) (before rest : List Entry) → All P (before ++ rest) → All P before
 all_before P [] rest h = All-nil P
@@ -23,6 +19,6 @@ pub open_formed_law : OpenFormedLaw
 open_formed_law history legal valid round is =
     let o = cut_law history legal round is in
     let past : IsLegalPast (reverse (o.before ++ o.opening ∷ o.later)) = subst IsLegal o.parts legal in
-    let before = (legal_before (reverse o.later) (o.opening ∷ reverse o.before) (subst IsLegalPast (reverse_parts o.before o.later o.opening) past)).1 in
+    let before = (legal_rest (reverse o.later) (o.opening ∷ reverse o.before) (subst IsLegalPast (reverse_parts o.before o.later o.opening) past)).1 in
     let valid_before = all_before (λ e. is_valid e.act ≡ true) o.before (o.opening ∷ o.later) (subst AreValid o.parts valid) in
     subst WellFormed (sym o.cut_is) (formed_law o.before round.cut.round round.cut.kind round.horizon before valid_before)
