@@ -23,7 +23,7 @@ use Rattle.claim_history.specs.Facts.{Settled}
 use Rattle.claim_history.specs.States.{OpenRound, State, after, discharges_of, open_as, settle, state}
 use Rattle.claim_history.specs.History.{IsLegal, IsLegalPast, AreValid}
 use Rattle.claim_history.proofs.Greatest.{greatest_law}
-use Rattle.claim_history.proofs.Pasts.{reverse_parts}
+use Rattle.claim_history.proofs.Pasts.{reverse_parts, legal_rest}
 use Rattle.round_cut.proofs.OpenCut.{open_formed_law}
 use Rattle.request_text.specs.declared.request.Request.{Request}
 use Rattle.statement_text.specs.declared.line.Line.{Line}
@@ -227,10 +227,6 @@ pub number_from : (past : List Entry) (round : OpenRound) → (state past).open_
 number_from [] round e = absurd (none-some round e)
 number_from (e ∷ past) round is = number_after e.caller e.act e.reply (state past) (number_from past) round is
 
-legal_before : (later past : List Entry) → IsLegalPast (later ++ past) → IsLegalPast past
-legal_before [] past legal = legal
-legal_before (e ∷ later) past legal = legal_before later past legal.1
-
 -- the round that an entry publishes: its cut is the next one, and its statement can be written
 pub record IsNext (rounds : List CutView) (next : ℕ) (past : List Entry) (a : Act) : Type 0 where
   pub round : OpenRound
@@ -259,7 +255,7 @@ published_at history rounds i next e total legal valid rounds_are next_is lt is 
     let later = drop (i + 1) history in
     let parts = history_at history i e lt is in
     let p = greatest_law before later e total (subst IsLegal parts legal) published in
-    let legal_first : IsLegal before = (legal_before (reverse later) (e ∷ reverse before) (subst IsLegalPast (past_at history i e lt is) legal)).1 in
+    let legal_first : IsLegal before = (legal_rest (reverse later) (e ∷ reverse before) (subst IsLegalPast (past_at history i e lt is) legal)).1 in
     let cut_is : slice_get rounds next ≡ Some p.round.cut =
     ap₂ (λ (cuts : List CutView) (n : ℕ). slice_get cuts n) rounds_are next_is ∙ next_cut history i e total lt is published p.round p.was_open in
     record {
