@@ -1,0 +1,3 @@
+pub mod Keepable
+pub mod Lengths
+mod Worked
