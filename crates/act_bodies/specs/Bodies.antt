@@ -33,11 +33,17 @@ kind_byte Funded = 1
 abbrev pub stored_price : ℕ → ℤ → ℕ
 stored_price n price = unsigned_abs (price +ℤ pos n)
 
--- the number of discharges and the discharges, the number of prices and the prices
+-- the number of discharges and the discharges
+abbrev pub discharges_bytes : List ℕ → List ℕ
+discharges_bytes discharges = four (length discharges) ++ flat_map eight discharges
+
+-- the number of prices and the prices
+abbrev pub prices_bytes : List ℤ → List ℕ
+prices_bytes prices = four (length prices) ++ flat_map (λ p. four (stored_price (length prices) p)) prices
+
+-- the discharges, then the prices
 abbrev pub outcome_bytes : OutcomeView → List ℕ
-outcome_bytes outcome =
-    four (length outcome.discharges) ++ flat_map eight outcome.discharges
-    ++ four (length outcome.prices) ++ flat_map (λ p. four (stored_price (length outcome.prices) p)) outcome.prices
+outcome_bytes outcome = discharges_bytes outcome.discharges ++ prices_bytes outcome.prices
 
 -- the tag and the fields
 unfoldable pub fields_of : Act → List ℕ

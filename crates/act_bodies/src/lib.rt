@@ -7,6 +7,6 @@ mod length;
 mod writing;
 
 pub use call::Call;
-pub use laws::bodies_have_their_lengths;
+pub use laws::{bodies_have_their_lengths, each_body_is_of_one_call};
 pub use length::body_length;
 pub use writing::encode;
