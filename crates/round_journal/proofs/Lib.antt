@@ -1,0 +1,6 @@
+pub mod Images
+pub mod Bodies
+pub mod Results
+pub mod Steps
+pub mod Unique
+pub mod Short
