@@ -4,3 +4,4 @@ pub mod Results
 pub mod Steps
 pub mod Unique
 pub mod Short
+pub mod OneReading
