@@ -5,3 +5,4 @@ pub mod Steps
 pub mod Unique
 pub mod Short
 pub mod OneReading
+pub mod Scanning

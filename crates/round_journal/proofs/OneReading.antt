@@ -21,14 +21,14 @@ behind a ds g xs rest short same =
       gate = next.0;
       more = next.1;
       spelled =
-        sym (tail_of 1 (measured a ++ flat_map record_bytes ds ++ g ∷ xs) 1 rest same)
-        ∙ append_assoc (measured a) (flat_map record_bytes ds) (g ∷ xs) ∙ ap (λ (l : List ℕ). measured a ++ l) next.2;
+          sym (tail_of 1 (measured a ++ flat_map record_bytes ds ++ g ∷ xs) 1 rest same)
+          ∙ append_assoc (measured a) (flat_map record_bytes ds) (g ∷ xs) ∙ ap (λ (l : List ℕ). measured a ++ l) next.2;
     }
 
 one_record : (a b rest : List ℕ) → HasRecord a rest → HasRecord b rest → a ≡ b
 one_record a b rest has other =
     (same_record a b (has.gate ∷ has.more) (other.gate ∷ other.more) has.short other.short
-      (ap (λ (l : List ℕ). 1 ∷ l) (sym has.spelled ∙ other.spelled))).0
+    (ap (λ (l : List ℕ). 1 ∷ l) (sym has.spelled ∙ other.spelled))).0
 
 module _ (Good : List ℕ → Type 0) where
   -- a good record stands there
@@ -43,7 +43,7 @@ module _ (Good : List ℕ → Type 0) where
   closed_open (a ∷ ds) (b ∷ bs) g xs rest shut sa sb good same =
       let apart = sym (append_assoc (record_bytes a) (flat_map record_bytes ds) (g ∷ xs)) in
       let parts = same_record a b (flat_map record_bytes ds ++ g ∷ xs) (flat_map record_bytes bs ++ 1 ∷ rest) (All-head Short a ds sa) (All-head Short b bs sb)
-        (apart ∙ same ∙ append_assoc (record_bytes b) (flat_map record_bytes bs) (1 ∷ rest)) in
+      (apart ∙ same ∙ append_assoc (record_bytes b) (flat_map record_bytes bs) (1 ∷ rest)) in
       closed_open ds bs g xs rest shut (All-tail Short a ds sa) (All-tail Short b bs sb) (All-tail Good a ds good) parts.1
 
   -- records before two open gates: the gates are one, or the next record follows one of them
@@ -54,7 +54,7 @@ module _ (Good : List ℕ → Type 0) where
   open_open (a ∷ ds) (b ∷ bs) xs rest sa sb ga gb same =
       let apart = sym (append_assoc (record_bytes a) (flat_map record_bytes ds) (1 ∷ xs)) in
       let parts = same_record a b (flat_map record_bytes ds ++ 1 ∷ xs) (flat_map record_bytes bs ++ 1 ∷ rest) (All-head Short a ds sa) (All-head Short b bs sb)
-        (apart ∙ same ∙ append_assoc (record_bytes b) (flat_map record_bytes bs) (1 ∷ rest)) in
+      (apart ∙ same ∙ append_assoc (record_bytes b) (flat_map record_bytes bs) (1 ∷ rest)) in
       ⊎_elim (λ both. inl ((λ i. parts.0 i ∷ both.0 i), both.1)) (λ next. inr next)
       (open_open ds bs xs rest (All-tail Short a ds sa) (All-tail Short b bs sb) (All-tail Good a ds ga) (All-tail Good b bs gb) parts.1)
 
@@ -75,7 +75,7 @@ module _ (Good : List ℕ → Type 0) where
   stands_faulty bytes rest bodies offset stands good opens faulty =
       faulty_good rest faulty
       (closed_open bodies opens.bodies stands.ends.gate stands.ends.rest rest stands.ends.closed stands.short opens.short good
-        (unfront bodies opens.bodies (stands.ends.gate ∷ stands.ends.rest) (1 ∷ rest) (sym stands.ends.spelled ∙ opens.spelled)))
+      (unfront bodies opens.bodies (stands.ends.gate ∷ stands.ends.rest) (1 ∷ rest) (sym stands.ends.spelled ∙ opens.spelled)))
 
   holds_faulty : (bytes rest : List ℕ) (bodies : List (List ℕ)) (offset : ℕ) → Holds bytes bodies → All Good bodies → OpensAt Good bytes offset rest → IsFaulty rest → ⊥
   holds_faulty bytes rest bodies offset (inl stands) good opens faulty = stands_faulty bytes rest bodies offset stands good opens faulty

@@ -36,8 +36,8 @@ stands_nine c nine begins shut = record {
     rest = [];
     closed = shut;
     spelled =
-      sym (take-append-drop 8 c) ∙ ap (λ (l : List ℕ). l ++ drop 8 c) begins
-      ∙ ap (λ (l : List ℕ). header ++ l) (drop_more c 8 0 (omega (arith, nine)) ∙ ap (λ (l : List ℕ). get_or c 8 0 ∷ l) (drop_all 9 c (omega (arith, nine))));
+        sym (take-append-drop 8 c) ∙ ap (λ (l : List ℕ). l ++ drop 8 c) begins
+        ∙ ap (λ (l : List ℕ). header ++ l) (drop_more c 8 0 (omega (arith, nine)) ∙ ap (λ (l : List ℕ). get_or c 8 0 ∷ l) (drop_all 9 c (omega (arith, nine))));
   };
 }
 

@@ -11,8 +11,8 @@ pub returns-in_err-stage-clause-failed : goal.returns-in_err-stage-clause-failed
 returns-in_err-stage-clause-failed g c =
     on_err_all c.from_residual-in_err-stage.result
     (λ bodies last kept.
-      let settled = kept_off g.D.Disk.tells g.D.Disk.reads g.D.Disk.moment g.D.Disk.image c.settle.new.self.disk c.settle.new.self.gate c.settle.new.self.unsettled bodies c.in_ok-settle.ensures.settled (c.in_ok-settle.ensures.done bodies last kept) in
-      (None, inr (inl refl), kept_on g.D.Disk.tells g.D.Disk.reads g.D.Disk.moment g.D.Disk.image c.stage.new.self.disk c.stage.new.self.gate c.stage.new.self.unsettled bodies c.stage.ensures.settled (c.in_err-stage.ensures.failed bodies settled)))
+    let settled = kept_off g.D.Disk.tells g.D.Disk.reads g.D.Disk.moment g.D.Disk.image c.settle.new.self.disk c.settle.new.self.gate c.settle.new.self.unsettled bodies c.in_ok-settle.ensures.settled (c.in_ok-settle.ensures.done bodies last kept) in
+    (None, inr (inl refl), kept_on g.D.Disk.tells g.D.Disk.reads g.D.Disk.moment g.D.Disk.image c.stage.new.self.disk c.stage.new.self.gate c.stage.new.self.unsettled bodies c.stage.ensures.settled (c.in_err-stage.ensures.failed bodies settled)))
 
 pub returns-in_err-stage-clause-crash : goal.returns-in_err-stage-clause-crash
 returns-in_err-stage-clause-crash g c bodies last kept =
@@ -24,8 +24,8 @@ pub returns-in_err-open_gate-clause-failed : goal.returns-in_err-open_gate-claus
 returns-in_err-open_gate-clause-failed g c =
     on_err_all c.from_residual-in_err-open_gate.result
     (λ bodies last kept.
-      let settled = kept_off g.D.Disk.tells g.D.Disk.reads g.D.Disk.moment g.D.Disk.image c.settle.new.self.disk c.settle.new.self.gate c.settle.new.self.unsettled bodies c.in_ok-settle.ensures.settled (c.in_ok-settle.ensures.done bodies last kept) in
-      (Some c.args.body.now, inr (inr refl), c.in_err-open_gate.ensures.failed bodies c.args.body.now refl (c.in_ok-stage.ensures.done bodies settled)))
+    let settled = kept_off g.D.Disk.tells g.D.Disk.reads g.D.Disk.moment g.D.Disk.image c.settle.new.self.disk c.settle.new.self.gate c.settle.new.self.unsettled bodies c.in_ok-settle.ensures.settled (c.in_ok-settle.ensures.done bodies last kept) in
+    (Some c.args.body.now, inr (inr refl), c.in_err-open_gate.ensures.failed bodies c.args.body.now refl (c.in_ok-stage.ensures.done bodies settled)))
 
 pub returns-in_err-open_gate-clause-crash : goal.returns-in_err-open_gate-clause-crash
 returns-in_err-open_gate-clause-crash g c bodies last kept =
