@@ -6,3 +6,4 @@ pub mod Unique
 pub mod Short
 pub mod OneReading
 pub mod Scanning
+pub mod Opens

@@ -22,9 +22,9 @@ body_there rest head tail n is four bytes number fits there =
       gate = get_or tail n 0;
       more = drop (n + 1) tail;
       spelled =
-        is ∙ ap (λ (l : List ℕ). head ++ l) (sym (take-append-drop n tail) ∙ ap (λ (l : List ℕ). take n tail ++ l) (drop_more tail n 0 there))
-        ∙ ap (λ (l : List ℕ). l ++ (take n tail ++ get_or tail n 0 ∷ drop (n + 1) tail)) (sym written)
-        ∙ sym (append_assoc (to_be_bytes w32 (length (take n tail))) (take n tail) (get_or tail n 0 ∷ drop (n + 1) tail));
+          is ∙ ap (λ (l : List ℕ). head ++ l) (sym (take-append-drop n tail) ∙ ap (λ (l : List ℕ). take n tail ++ l) (drop_more tail n 0 there))
+          ∙ ap (λ (l : List ℕ). l ++ (take n tail ++ get_or tail n 0 ∷ drop (n + 1) tail)) (sym written)
+          ∙ sym (append_assoc (to_be_bytes w32 (length (take n tail))) (take n tail) (get_or tail n 0 ∷ drop (n + 1) tail));
     }
 
 pub bytes_front : (rest head : List ℕ) → head ≡ take 4 rest → ((i : ℕ) → get_or rest i 0 < 256) → (i : ℕ) → get_or head i 0 < 256
@@ -76,7 +76,7 @@ gates_push : (gate : ℕ) (bodies : List (List ℕ)) (body : List ℕ) → gates
 gates_push gate [] body = ap (λ (n : ℕ). n ∷ []) (omega arith)
 gates_push gate (b ∷ bodies) body =
     ap (λ (l : List ℕ). gate ∷ l) (gates_push (gate + 5 + length b) bodies body
-      ∙ ap (λ (n : ℕ). gates_from (gate + 5 + length b) bodies ++ n ∷ []) (omega (arith, length-append (record_bytes b) (flat_map record_bytes bodies), length-record b)))
+    ∙ ap (λ (n : ℕ). gates_from (gate + 5 + length b) bodies ++ n ∷ []) (omega (arith, length-append (record_bytes b) (flat_map record_bytes bodies), length-record b)))
 
 module _ (bytes : List ℕ) (gate : ℕ) (records : List Record) (r : Record) (has : HasRead bytes gate records) where
   pub read_more : bodies_of (records ++ r ∷ []) ≡ bodies_of records ++ r.body.items ∷ [] → get_or bytes gate 0 ≡ 1 → r.offset ≡ gate → HasRecord r.body.items (drop (gate + 1) bytes) → IsBody r.body.items → HasRead bytes (gate + (5 + length r.body.items)) (records ++ r ∷ [])
@@ -84,25 +84,25 @@ module _ (bytes : List ℕ) (gate : ℕ) (records : List Record) (r : Record) (h
       let body = r.body.items in
       let before = bodies_of records in
       let next : bytes ≡ front (before ++ body ∷ []) ++ there.gate ∷ there.more =
-          whole bytes gate records has
-          ∙ ap (λ (g : ℕ). front before ++ g ∷ drop (gate + 1) bytes) is
-          ∙ ap (λ (l : List ℕ). front before ++ 1 ∷ l) there.spelled
-          ∙ sym (append_assoc (front before) (record_bytes body) (there.gate ∷ there.more))
-          ∙ ap (λ (l : List ℕ). l ++ there.gate ∷ there.more) (sym (front_push before body)) in
+      whole bytes gate records has
+      ∙ ap (λ (g : ℕ). front before ++ g ∷ drop (gate + 1) bytes) is
+      ∙ ap (λ (l : List ℕ). front before ++ 1 ∷ l) there.spelled
+      ∙ sym (append_assoc (front before) (record_bytes body) (there.gate ∷ there.more))
+      ∙ ap (λ (l : List ℕ). l ++ there.gate ∷ there.more) (sym (front_push before body)) in
       let long : gate + (5 + length body) ≡ length (front (before ++ body ∷ [])) =
-          omega (arith, place bytes gate records has, ap length (front_push before body), length-append (front before) (record_bytes body), length-record body) in
+      omega (arith, place bytes gate records has, ap length (front_push before body), length-append (front before) (record_bytes body), length-record body) in
       let eight : 8 + length (flat_map record_bytes before) ≡ gate =
-          omega (arith, place bytes gate records has, length-append header (flat_map record_bytes before)) in
+      omega (arith, place bytes gate records has, length-append header (flat_map record_bytes before)) in
       record {
         within = omega (arith, long, ap length next, length-append (front (before ++ body ∷ [])) (there.gate ∷ there.more));
         spelled =
-          ap (λ (l : List ℕ). take (gate + (5 + length body)) l) next ∙ take_at (front (before ++ body ∷ [])) (there.gate ∷ there.more) (gate + (5 + length body)) (sym long)
-          ∙ ap (λ (bs : List (List ℕ)). front bs) (sym more);
+            ap (λ (l : List ℕ). take (gate + (5 + length body)) l) next ∙ take_at (front (before ++ body ∷ [])) (there.gate ∷ there.more) (gate + (5 + length body)) (sym long)
+            ∙ ap (λ (bs : List (List ℕ)). front bs) (sym more);
         short = subst (λ (bs : List (List ℕ)). AreShort bs) (sym more) (short_push before body has.short there.short);
         good = subst (λ (bs : List (List ℕ)). All IsBody bs) (sym more) (All-push IsBody before body has.good good);
         places =
-          map_push (λ (x : Record). x.offset) records r
-          ∙ ap (λ (l : List ℕ). l ++ r.offset ∷ []) has.places
-          ∙ ap (λ (n : ℕ). gates_from 8 before ++ n ∷ []) (at ∙ sym eight)
-          ∙ sym (gates_push 8 before body) ∙ ap (λ (bs : List (List ℕ)). gates_from 8 bs) (sym more);
+            map_push (λ (x : Record). x.offset) records r
+            ∙ ap (λ (l : List ℕ). l ++ r.offset ∷ []) has.places
+            ∙ ap (λ (n : ℕ). gates_from 8 before ++ n ∷ []) (at ∙ sym eight)
+            ∙ sym (gates_push 8 before body) ∙ ap (λ (bs : List (List ℕ)). gates_from 8 bs) (sym more);
       }

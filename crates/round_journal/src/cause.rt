@@ -1,6 +1,5 @@
 //! Why a journal was not opened or read.
 
-use std::alloc::{AllocError, AllocFailed};
 use thiserror::Error;
 
 /// What is wrong with a record.
@@ -30,26 +29,4 @@ pub enum JournalCause {
     /// The first faulty open gate stands at this offset.
     #[error("record {offset}: {why}")]
     BadRecord { offset: u64, why: RecordWhy },
-}
-
-impl From<AllocError> for JournalCause {
-    ghost use Rattle.std.specs.Prelude.{◌≡◌};
-    ghost use Rattle.round_journal.specs.declared.cause.JournalCause.TheVariants.{Memory};
-
-    ghost from_gives = { λ _ e. e ≡ Memory };
-
-    fn from(_e: AllocError) -> JournalCause {
-        JournalCause::Memory
-    }
-}
-
-impl<T: Drop> From<AllocFailed<T>> for JournalCause {
-    ghost use Rattle.std.specs.Prelude.{◌≡◌};
-    ghost use Rattle.round_journal.specs.declared.cause.JournalCause.TheVariants.{Memory};
-
-    ghost from_gives = { λ _ e. e ≡ Memory };
-
-    fn from(_e: AllocFailed<T>) -> JournalCause {
-        JournalCause::Memory
-    }
 }

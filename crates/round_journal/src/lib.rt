@@ -3,11 +3,15 @@
 
 mod cause;
 mod device;
+mod empty;
 mod journal;
 mod laws;
 mod log;
+mod opening;
 mod record;
 mod scan;
+mod stop;
+mod whole;
 mod written;
 
 pub use cause::{JournalCause, RecordWhy};

@@ -2,10 +2,12 @@
 ghost use Rattle.std.specs.Prelude.{◌≡◌, ◌+◌, ◌<◌, ◌≤◌, ◌↔◌, [], length, take, drop, slice_index, IfOk, IfErr, IsTrue, MatchBool, MatchOption, MatchResult};
 ghost use Rattle.round_journal.specs.Bytes.{header, StandsFor, StandsForNone};
 ghost use Rattle.round_journal.specs.Reading.{HasRecord, IsShort};
-ghost use Rattle.round_journal.specs.Records.{HasRecords, IsFault};
+ghost use Rattle.round_journal.specs.Records.{HasRecords};
+ghost use Rattle.round_journal.specs.Stops.{IsFault};
 
-use crate::cause::{JournalCause, RecordWhy};
+use crate::cause::RecordWhy;
 use crate::record::Record;
+use crate::stop::Stop;
 use std::alloc::{AllocError, Global};
 
 /// The records of a journal, and the place of the gate behind them.
@@ -16,7 +18,7 @@ pub(crate) struct Scan {
 }
 
 /// The records for which these bytes stand, or None where they are at most nine that stand for no list.
-pub(crate) fn records_in(alloc: Global, bytes: &[u8]) -> Result<Option<Scan>, JournalCause>
+pub(crate) fn records_in(alloc: Global, bytes: &[u8]) -> Result<Option<Scan>, Stop>
     ensures { MatchResult result (λ found. MatchOption found ((length bytes.now ≤ 9) × StandsForNone bytes.now) (λ s. HasRecords bytes.now s.gate s.records.items)) (IsFault bytes.now) }
 {
     if bytes.len() > 9 {
@@ -46,18 +48,18 @@ fn has_header(bytes: &[u8]) -> bool
 }
 
 // The records of more than nine bytes.
-fn records_of_long(alloc: Global, bytes: &[u8]) -> Result<Scan, JournalCause>
+fn records_of_long(alloc: Global, bytes: &[u8]) -> Result<Scan, Stop>
     requires { 9 < length bytes.now }
     ensures { MatchResult result (λ s. HasRecords bytes.now s.gate s.records.items) (IsFault bytes.now) }
 {
     if !has_header(bytes) {
-        return Err(JournalCause::BadHeader);
+        return Err(Stop::BadHeader);
     }
     let mut records = Vec::new(alloc);
     let mut gate = 8;
     while bytes[gate] == 1 {
         let Some(body) = body_behind(&bytes[gate + 1..]) else {
-            return Err(JournalCause::BadRecord {
+            return Err(Stop::BadRecord {
                 offset: gate as u64,
                 why: RecordWhy::Short,
             });

@@ -18,9 +18,9 @@ loop-gate-preserved c =
     let rest : List ℕ = drop (c.loop-gate.gate + 1) c.args.bytes.now in
     let there : HasRecord c.in-Some.body.now rest = subst (λ (l : List ℕ). HasRecord c.in-Some.body.now l) (to_end c.args.bytes.now (c.loop-gate.gate + 1)) c.in-Some.ensures in
     subst (λ (n : List ℕ). HasRead c.args.bytes.now (c.loop-gate.gate + (5 + length n)) c.push.new.self.items) body
-      (subst (λ (rs : List Record). HasRead c.args.bytes.now (c.loop-gate.gate + (5 + length r.body.items)) rs) (sym items)
-        (read_more c.args.bytes.now c.loop-gate.gate c.loop-gate.records.items r c.loop-gate.invariant (map_push (λ (x : Record). x.body.items) c.loop-gate.records.items r)
-          c.loop-gate-test.true at (subst (λ (b : List ℕ). HasRecord b rest) (sym body) there) tt))
+    (subst (λ (rs : List Record). HasRead c.args.bytes.now (c.loop-gate.gate + (5 + length r.body.items)) rs) (sym items)
+    (read_more c.args.bytes.now c.loop-gate.gate c.loop-gate.records.items r c.loop-gate.invariant (map_push (λ (x : Record). x.body.items) c.loop-gate.records.items r)
+    c.loop-gate-test.true at (subst (λ (b : List ℕ). HasRecord b rest) (sym body) there) tt))
 
 pub returns : goal.returns
 returns c = read_end c.args.bytes.now c.loop-gate.gate c.loop-gate.records.items c.loop-gate.invariant c.loop-gate-test.false
