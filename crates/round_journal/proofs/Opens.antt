@@ -95,6 +95,6 @@ module _ {D : Type 0} (tells : D → Bool) (reads : D → List ℕ) (moment : D 
   turned_on a b d turn bytes lent is turned same synced then =
       let file : bytes ≡ reads a = synced.read ∙ same in
       let goes : Goes moment image b d (HoldsAs bytes) =
-        subst (λ (l : List ℕ). Goes moment image b d (HoldsAs l)) is (then (subst (λ (l : List ℕ). IsSynced tells reads moment image b l) (sym is) synced)) in
+      subst (λ (l : List ℕ). Goes moment image b d (HoldsAs l)) is (then (subst (λ (l : List ℕ). IsSynced tells reads moment image b l) (sym is) synced)) in
       turns_on reads moment image a b d turn (Now moment image a) (HoldsAs (reads a)) turned
       (subst (λ (l : List ℕ). Goes moment image b d (HoldsAs l)) file goes)

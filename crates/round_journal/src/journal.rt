@@ -1,12 +1,18 @@
 //! An open journal.
-ghost use Rattle.std.specs.Prelude.{◌≡◌, ◌+◌, ◌^◌, ◌≤◌, ℕ, List, [], ◌∷◌, ◌++◌, length, Option, None, IfErr, OnOk, OnErr};
+ghost use Rattle.std.specs.Prelude.{◌≡◌, ◌+◌, ◌^◌, ◌≤◌, ℕ, List, [], ◌∷◌, ◌++◌, length, Option, None, IfErr, IfOk, OnOk, OnErr};
 ghost use Rattle.disk_model.specs.Calls.{Goes};
 ghost use Rattle.disk_model.specs.Counts.{HasRisen};
 ghost use Rattle.round_journal.specs.Kept.{IsKept, IsLast, HoldsOne};
+ghost use Rattle.round_journal.specs.Opened.{IsOpen, IsRefused};
 
+use crate::cause::JournalCause;
 use crate::device::Device;
 use crate::log::Log;
+use crate::open_refused::OpenRefused;
+use crate::opening::{Opening, open_disk};
+use crate::record::Record;
 use disk_model::Disk;
+use std::alloc::Global;
 use std::marker::Model;
 use std::snapshot::Snapshot;
 
@@ -26,6 +32,42 @@ impl<D: Disk> Model for Journal<D> {
 }
 
 impl<D: Disk> Journal<D> {
+    /// Opens a journal, and gives its records in order. It syncs the disk, asks for the length, and reads all bytes. A
+    /// disk of at most nine bytes that stand for no journal is made one with no records: nine bytes are written at 0 and
+    /// synced. Otherwise nothing is written.
+    ///
+    /// After an Ok every present image stands for the records. An Err hands the disk back. Memory: there was none for
+    /// the bytes, the records or the longest record. Device: the disk failed. BadHeader: there are more than nine bytes,
+    /// and they do not begin with the header. BadRecord: the record behind the first faulty open gate runs past the end
+    /// or lacks the next gate (Short), or its body is no act (Body).
+    pub fn open(alloc: Global, mut disk: D) -> Result<(Journal<D>, Vec<Record>), OpenRefused<D>>
+        ensures ok { IfOk result (λ r. IsOpen D.tells D.reads D.moment D.image D.count disk r.0 r.1.items) }
+        ensures err { IfErr result (λ e. IsRefused D.tells D.reads D.moment D.image D.count disk e.disk e.cause) }
+    {
+        let before = disk.faults();
+        let Ok(staging) = Vec::with_capacity(alloc, 2_162_710) else {
+            return Err(OpenRefused {
+                disk,
+                cause: JournalCause::Memory,
+            });
+        };
+        match open_disk(alloc, &mut disk) {
+            Ok(Opening { scan, opened }) => {
+                let log = Log {
+                    disk,
+                    gate: scan.gate,
+                    unsettled: false,
+                    staging,
+                };
+                Ok((Journal { log, opened }, scan.records))
+            }
+            Err(stop) => {
+                let cause = stop.cause(before, disk.faults());
+                Err(OpenRefused { disk, cause })
+            }
+        }
+    }
+
     /// Appends a record with this body. It asks that the record ends within 2^30 bytes. Four calls of the disk are
     /// made: the record and a closed gate behind it are written behind the gate and synced, and then the gate is opened
     /// and synced. Where an append that failed may have begun to open the gate, two calls before these close it again.
