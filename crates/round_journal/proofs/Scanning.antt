@@ -1,13 +1,18 @@
 -- How the bytes of a journal are read from gate to gate.
-use Rattle.std.proofs.Common.{◌≡◌, ◌≢◌, ◌⊎◌, inl, inr, ℕ, ◌+◌, ◌-◌, ◌<◌, ◌≤◌, ◌^◌, List, [], ◌∷◌, ◌++◌, length, get_or, take, drop, map, flat_map, All, refl, sym, ◌∙◌, ap, subst, arith, append_assoc, length-append, take-append-drop, length-take-le, length-drop}
+use Rattle.std.proofs.Common.{◌≡◌, ◌≢◌, ◌⊎◌, inl, inr, ℕ, ◌+◌, ◌-◌, ◌<◌, ◌≤◌, ◌^◌, true, List, [], ◌∷◌, ◌++◌, length, get_or, take, drop, map, flat_map, All, refl, sym, ◌∙◌, ap, subst, arith, append_assoc, length-append, take-append-drop, length-take-le, length-drop}
 use Rattle.std.specs.Int.{w32, to_be_bytes, from_be_bytes}
 use Rattle.std.proofs.lemmas.Nat.{be_bytes_4, from_be_bytes-to_be_bytes_4}
 use Rattle.std.proofs.lemmas.Bool.{cases_lt}
 use Rattle.std.proofs.lemmas.List.{get_or-take, take_all, get_or_past, length-take, take_at, drop_at, drop_more, map_push, append-nil}
-use Rattle.std.proofs.lemmas.List.Elements.{All-push, All-nil}
+use Rattle.std.proofs.lemmas.List.Elements.{All-push, All-map}
+use Rattle.act_bodies.specs.Bodies.{body_of, is_keepable, IsNoBody}
 use Rattle.round_journal.specs.Bytes.{header, measured, record_bytes, front, AreShort, StandsFor}
 use Rattle.round_journal.specs.Reading.{gates_from, OpensAt, HasRecord, IsShort, IsBad}
-use Rattle.round_journal.specs.Records.{IsBody, bodies_of, offsets_of, HasRecords}
+use Rattle.round_journal.specs.Records.{IsBody, AreKeepable, bodies_of, offsets_of, HasRecords}
+use Rattle.round_journal.specs.Stops.{IsFault, IsBodyFault}
+use Rattle.round_journal.specs.declared.stop.Stop.{Stop}
+use Rattle.round_journal.specs.declared.stop.Stop.TheVariants.{Memory, Failed, BadHeader, BadRecord}
+use Rattle.round_journal.specs.declared.cause.RecordWhy.TheVariants.{Short, Body}
 use Rattle.round_journal.specs.declared.record.Record.{Record}
 use Rattle.round_journal.proofs.Short.{length-record}
 use Rattle.round_journal.proofs.Bodies.{front_push, short_push}
@@ -41,7 +46,7 @@ pub record HasRead (bytes : List ℕ) (gate : ℕ) (records : List Record) : Typ
   pub within : gate < length bytes
   pub spelled : take gate bytes ≡ front (bodies_of records)
   pub short : AreShort (bodies_of records)
-  pub good : All IsBody (bodies_of records)
+  pub keepable : AreKeepable records
   pub places : offsets_of records ≡ gates_from 8 (bodies_of records)
 
 module _ (bytes : List ℕ) (gate : ℕ) (records : List Record) (has : HasRead bytes gate records) where
@@ -54,7 +59,7 @@ module _ (bytes : List ℕ) (gate : ℕ) (records : List Record) (has : HasRead 
   pub read_end : get_or bytes gate 0 ≢ 1 → HasRecords bytes gate records
   read_end shut = record {
     stands = record { short = has.short; ends = record { gate = get_or bytes gate 0; rest = drop (gate + 1) bytes; closed = shut; spelled = whole } };
-    good = has.good;
+    keepable = has.keepable;
     places = has.places;
     place = place;
   }
@@ -63,14 +68,14 @@ module _ (bytes : List ℕ) (gate : ℕ) (records : List Record) (has : HasRead 
   read_fault long is = record {
     bodies = bodies_of records;
     short = has.short;
-    good = has.good;
+    good = All-map IsBody (λ (r : Record). body_of r.caller r.act) records (λ k d lt. let r : Record = get_or records k d in (r.caller, r.act, has.keepable k d lt, refl));
     long = long;
     place = place;
     spelled = whole ∙ ap (λ (g : ℕ). front (bodies_of records) ++ g ∷ drop (gate + 1) bytes) is;
   }
 
 pub read_none : (bytes : List ℕ) → 9 < length bytes → take 8 bytes ≡ header → HasRead bytes 8 []
-read_none bytes long begins = record { within = omega (arith, long); spelled = begins; short = λ k d lt. absurd (omega (arith, lt)); good = λ k d lt. absurd (omega (arith, lt)); places = refl }
+read_none bytes long begins = record { within = omega (arith, long); spelled = begins; short = λ k d lt. absurd (omega (arith, lt)); keepable = λ k d lt. absurd (omega (arith, lt)); places = refl }
 
 gates_push : (gate : ℕ) (bodies : List (List ℕ)) (body : List ℕ) → gates_from gate (bodies ++ body ∷ []) ≡ gates_from gate bodies ++ (gate + length (flat_map record_bytes bodies)) ∷ []
 gates_push gate [] body = ap (λ (n : ℕ). n ∷ []) (omega arith)
@@ -79,10 +84,11 @@ gates_push gate (b ∷ bodies) body =
     ∙ ap (λ (n : ℕ). gates_from (gate + 5 + length b) bodies ++ n ∷ []) (omega (arith, length-append (record_bytes b) (flat_map record_bytes bodies), length-record b)))
 
 module _ (bytes : List ℕ) (gate : ℕ) (records : List Record) (r : Record) (has : HasRead bytes gate records) where
-  pub read_more : bodies_of (records ++ r ∷ []) ≡ bodies_of records ++ r.body.items ∷ [] → get_or bytes gate 0 ≡ 1 → r.offset ≡ gate → HasRecord r.body.items (drop (gate + 1) bytes) → IsBody r.body.items → HasRead bytes (gate + (5 + length r.body.items)) (records ++ r ∷ [])
-  read_more more is at there good =
-      let body = r.body.items in
+  pub read_more : get_or bytes gate 0 ≡ 1 → r.offset ≡ gate → is_keepable r.caller r.act ≡ true → (body : List ℕ) → body_of r.caller r.act ≡ body → HasRecord body (drop (gate + 1) bytes) → HasRead bytes (gate + (5 + length body)) (records ++ r ∷ [])
+  read_more is at keepable body same there =
       let before = bodies_of records in
+      let more : bodies_of (records ++ r ∷ []) ≡ before ++ body ∷ [] =
+      map_push (λ (x : Record). body_of x.caller x.act) records r ∙ ap (λ (b : List ℕ). before ++ b ∷ []) same in
       let next : bytes ≡ front (before ++ body ∷ []) ++ there.gate ∷ there.more =
       whole bytes gate records has
       ∙ ap (λ (g : ℕ). front before ++ g ∷ drop (gate + 1) bytes) is
@@ -99,10 +105,18 @@ module _ (bytes : List ℕ) (gate : ℕ) (records : List Record) (r : Record) (h
             ap (λ (l : List ℕ). take (gate + (5 + length body)) l) next ∙ take_at (front (before ++ body ∷ [])) (there.gate ∷ there.more) (gate + (5 + length body)) (sym long)
             ∙ ap (λ (bs : List (List ℕ)). front bs) (sym more);
         short = subst (λ (bs : List (List ℕ)). AreShort bs) (sym more) (short_push before body has.short there.short);
-        good = subst (λ (bs : List (List ℕ)). All IsBody bs) (sym more) (All-push IsBody before body has.good good);
+        keepable = All-push (λ (x : Record). is_keepable x.caller x.act ≡ true) records r has.keepable keepable;
         places =
             map_push (λ (x : Record). x.offset) records r
             ∙ ap (λ (l : List ℕ). l ++ r.offset ∷ []) has.places
             ∙ ap (λ (n : ℕ). gates_from 8 before ++ n ∷ []) (at ∙ sym eight)
             ∙ sym (gates_push 8 before body) ∙ ap (λ (bs : List (List ℕ)). gates_from 8 bs) (sym more);
       }
+
+-- the fault of a body is one of the bytes
+pub body_fault : (bytes : List ℕ) (gate : ℕ) (body rest : List ℕ) (stop : Stop) → OpensAt IsBody bytes gate rest → HasRecord body rest → IsBodyFault gate body stop → IsFault bytes stop
+body_fault bytes gate body rest Memory opens there fault = tt
+body_fault bytes gate body rest Failed opens there fault = fault
+body_fault bytes gate body rest BadHeader opens there fault = absurd fault
+body_fault bytes gate body rest (BadRecord offset Short) opens there fault = absurd fault
+body_fault bytes gate body rest (BadRecord offset Body) opens there fault = (rest, subst (λ (g : ℕ). OpensAt IsBody bytes g rest) (sym fault.0) opens, (body, there, (λ call. fault.1 call.0 call.1 call.2 call.3)))

@@ -1,6 +1,7 @@
 -- Why an opening or a reading stops.
 use Rattle.std.specs.Prelude.{◌≡◌, ℕ, Bool, List, IsTrue}
 use Rattle.disk_model.specs.Counts.{HasRisen}
+use Rattle.act_bodies.specs.Bodies.{IsNoBody}
 use Rattle.round_journal.specs.Reading.{IsReading}
 use Rattle.round_journal.specs.Reading.Reading.{no_header, short_at, bad_at}
 use Rattle.round_journal.specs.Records.{IsBody}
@@ -23,6 +24,14 @@ IsFault bytes Failed = ⊥
 IsFault bytes BadHeader = IsReading IsBody bytes no_header
 IsFault bytes (BadRecord offset Short) = IsReading IsBody bytes (short_at offset)
 IsFault bytes (BadRecord offset Body) = IsReading IsBody bytes (bad_at offset)
+
+-- why no record was made of the body behind the gate at this place: there was no memory, or it is the body of no call
+abbrev pub IsBodyFault : ℕ → List ℕ → Stop → Type 0
+IsBodyFault gate body Memory = Unit {0}
+IsBodyFault gate body Failed = ⊥
+IsBodyFault gate body BadHeader = ⊥
+IsBodyFault gate body (BadRecord offset Short) = ⊥
+IsBodyFault gate body (BadRecord offset Body) = (offset ≡ gate) × IsNoBody body
 
 -- why calls of a disk stopped: there was no memory, or the disk failed between these counts
 abbrev pub IsHalt : ℕ → ℕ → Stop → Type 0

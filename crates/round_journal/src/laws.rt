@@ -2,10 +2,11 @@
 ghost use Rattle.std.specs.Prelude.{ℕ, List};
 ghost use Rattle.round_journal.specs.Laws.{OneList, ShortFiles};
 ghost use Rattle.round_journal.specs.Reading.{OneReading};
+ghost use Rattle.round_journal.specs.Records.{IsBody};
 
 /// The laws of the bytes of a journal.
 pub fn bytes_hold_one_list()
     ensures one { OneList }
     ensures short { ShortFiles }
-    ensures reading { OneReading (λ _. Unit {0}) }
+    ensures reading { OneReading IsBody }
 {}

@@ -1,14 +1,16 @@
 //! Reads the records in the bytes of a journal.
-ghost use Rattle.std.specs.Prelude.{◌≡◌, ◌+◌, ◌<◌, ◌≤◌, ◌↔◌, [], length, take, drop, slice_index, IfOk, IfErr, IsTrue, MatchBool, MatchOption, MatchResult};
+ghost use Rattle.std.specs.Prelude.{◌≡◌, ◌+◌, ◌<◌, ◌≤◌, ◌↔◌, true, [], length, take, drop, slice_index, IfOk, IfErr, IsTrue, MatchBool, MatchOption, MatchResult};
+ghost use Rattle.act_bodies.specs.Bodies.{body_of, is_keepable};
 ghost use Rattle.round_journal.specs.Bytes.{header, StandsFor, StandsForNone};
 ghost use Rattle.round_journal.specs.Reading.{HasRecord, IsShort};
 ghost use Rattle.round_journal.specs.Records.{HasRecords};
-ghost use Rattle.round_journal.specs.Stops.{IsFault};
+ghost use Rattle.round_journal.specs.Stops.{IsBodyFault, IsFault};
 
 use crate::cause::RecordWhy;
 use crate::record::Record;
 use crate::stop::Stop;
-use std::alloc::{AllocError, Global};
+use act_bodies::{Call, read_body};
+use std::alloc::Global;
 
 /// The records of a journal, and the place of the gate behind them.
 #[derive(Drop)]
@@ -85,9 +87,20 @@ fn body_behind(rest: &[u8]) -> Option<&[u8]>
     Some(&tail[..len])
 }
 
-fn record_of(alloc: Global, offset: u64, body: &[u8]) -> Result<Record, AllocError>
-    ensures { IfOk result (λ r. (r.offset ≡ offset) × (r.body.items ≡ body.now)) }
+// The record of a body, behind the gate at this offset.
+fn record_of(alloc: Global, offset: u64, body: &[u8]) -> Result<Record, Stop>
+    ensures ok { IfOk result (λ r. (r.offset ≡ offset) × (is_keepable r.caller r.act ≡ true) × (body_of r.caller r.act ≡ body.now)) }
+    ensures err { IfErr result (IsBodyFault offset body.now) }
 {
-    let body = body.to_vec(alloc)?;
-    Ok(Record { offset, body })
+    match read_body(alloc, body)? {
+        Some(Call { caller, act }) => Ok(Record {
+            offset,
+            caller,
+            act,
+        }),
+        None => Err(Stop::BadRecord {
+            offset,
+            why: RecordWhy::Body,
+        }),
+    }
 }

@@ -1,3 +1,4 @@
+use Rattle.round_journal.specs.Records.{IsBody}
 use Rattle.round_journal.proofs.Short.{held}
 use Rattle.round_journal.proofs.Unique.{unique}
 use Rattle.round_journal.proofs.OneReading.{one_reading}
@@ -10,4 +11,4 @@ pub returns-clause-short : goal.returns-clause-short
 returns-clause-short c = held
 
 pub returns-clause-reading : goal.returns-clause-reading
-returns-clause-reading c = one_reading (λ _. Unit {0})
+returns-clause-reading c = one_reading IsBody
