@@ -16,7 +16,7 @@ use Rattle.act_bodies.specs.Bodies.{four, eight, name_bytes, key_bytes, outcome_
 use Rattle.act_bodies.specs.Laws.{OneCallLaw}
 use Rattle.act_bodies.specs.Reading.{◌>>=◌, both_at, made_at, number_at, name_at, day_at, kind_at, key_at, claim_at, account_at, outcome_at, firm_at, file_at, confirm_at, dispute_at, withdraw_at, receive_at, fund_at, draw_at, limit_at, offer_at, position_at, close_at, publish_at, fields_at, act_at, call_at}
 use Rattle.act_bodies.proofs.Keepable.{both, caller_fits, act_valid}
-use Rattle.act_bodies.proofs.Fields.{IsBytes, IsBytes-rest, bind_some, given, some_is, Takes, then, IsField, field32, field64, both_field}
+use Rattle.act_bodies.proofs.Readers.{IsBytes, IsBytes-rest, bind_some, given, some_is, Takes, then, IsField, field32, field64, both_field}
 use Rattle.act_bodies.proofs.Values.{passed, made_again, Named, name_field, Dated, day_field, kind_bytes, AnyKind, kind_field, HasNames, key_field, claim_bytes, IsClaim, claim_field, IsMoney, account_bytes, IsAccount, account_field, HasLists, outcome_field, near_stored, IsStored}
 
 -- what a tag's reader takes is the fields of the act that it gives

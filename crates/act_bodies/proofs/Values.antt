@@ -14,7 +14,7 @@ use Rattle.claim_history.specs.Days.{last_day}
 use Rattle.claim_history.specs.Acts.{is_key, is_day}
 use Rattle.act_bodies.specs.Bodies.{four, eight, name_bytes, key_bytes, kind_byte, stored_price, discharges_bytes, prices_bytes, outcome_bytes}
 use Rattle.act_bodies.specs.Reading.{◌>>=◌, both_at, made_at, list_at, number_at, counted_at, name_at, day_at, kind_at, price_at, key_at, claim_at, account_at, outcome_at}
-use Rattle.act_bodies.proofs.Fields.{IsBytes, IsBytes-drop, IsBytes-rest, bind_some, past, some_is, Takes, IsField, field32, field64, both_field, counted, IsCounted, counted_field}
+use Rattle.act_bodies.proofs.Readers.{IsBytes, IsBytes-drop, IsBytes-rest, bind_some, past, some_is, Takes, IsField, field32, field64, both_field, counted, IsCounted, counted_field}
 
 -- a test that let a value through
 pub passed : {A : Type 0} (b : Bool) (x y : A) → cond b (Some x) None ≡ Some y → (b ≡ true) × (x ≡ y)
