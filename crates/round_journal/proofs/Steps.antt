@@ -126,6 +126,12 @@ module _ {D : Type 0} (tells : D → Bool) (reads : D → List ℕ) (moment : D 
   settled_already disk gate unsettled bodies None off kept = kept
   settled_already disk gate unsettled bodies (Some body) off kept = absurd (cc (off, kept.flag))
 
+  -- what a crash leaves of what is kept
+  pub kept_stands : (disk : D) (gate : ℕ) (unsettled : Bool) (bodies : List (List ℕ)) (last : Option (List ℕ)) → Kept disk gate unsettled bodies last → (c : List ℕ) → Now moment image disk c → StandsFor c bodies ⊎ ((tried : List ℕ) × (last ≡ Some tried) × StandsFor c (bodies ++ tried ∷ []))
+  kept_stands disk gate unsettled bodies None kept c now = inl (record { short = kept.short; ends = kept.images c now })
+  kept_stands disk gate unsettled bodies (Some tried) kept c now =
+      ⊎_elim (λ without. inl without) (λ with_it. inr (tried, refl, with_it)) (with_or_without bodies tried c kept.short kept.fits (kept.images c now))
+
   -- what each step leaves is one of three
 
   pub one_kept : (bodies : List (List ℕ)) (last : Option (List ℕ)) (body c : List ℕ) (disk : D) (gate : ℕ) (unsettled : Bool) → Kept disk gate unsettled bodies last → HasBodies bodies last c → HoldsOne bodies last body c

@@ -29,4 +29,4 @@ returns-in_err-record_of c =
     let p = err_from_is_err_and c.from_residual.result c.from_residual.ensures.1 in
     rw (p.1, p.2)
     (body_fault c.args.bytes.now c.loop-gate.gate c.in-Some.body.now rest c.in_err-record_of.field-0.0
-      (read_fault c.args.bytes.now c.loop-gate.gate c.loop-gate.records.items c.loop-gate.invariant (search rules) c.loop-gate-test.true) there c.in_err-record_of.ensures.err)
+    (read_fault c.args.bytes.now c.loop-gate.gate c.loop-gate.records.items c.loop-gate.invariant (search rules) c.loop-gate-test.true) there c.in_err-record_of.ensures.err)
