@@ -30,6 +30,11 @@ one_record a b rest has other =
     (same_record a b (has.gate ∷ has.more) (other.gate ∷ other.more) has.short other.short
     (ap (λ (l : List ℕ). 1 ∷ l) (sym has.spelled ∙ other.spelled))).0
 
+pub one_list : (bytes : List ℕ) (ds bs : List (List ℕ)) → Holds bytes ds → Holds bytes bs → ds ≡ bs
+one_list bytes ds bs (inl one) (inl other) = unique bytes ds bs one other
+one_list bytes ds bs (inl one) (inr none) = absurd (none.1 ds one)
+one_list bytes ds bs (inr none) other = none.2 ∙ sym (held_short bytes bs none.0 other)
+
 module _ (Good : List ℕ → Type 0) where
   -- a good record stands there
   abbrev HasGood : List ℕ → Type 0
@@ -97,11 +102,6 @@ module _ (Good : List ℕ → Type 0) where
 
   no_header_opens : (bytes rest : List ℕ) (offset : ℕ) → LacksHeader bytes → OpensAt Good bytes offset rest → ⊥
   no_header_opens bytes rest offset lacks opens = lacks.1 (header_of opens.bodies bytes (1 ∷ rest) opens.spelled)
-
-  one_list : (bytes : List ℕ) (ds bs : List (List ℕ)) → Holds bytes ds → Holds bytes bs → ds ≡ bs
-  one_list bytes ds bs (inl one) (inl other) = unique bytes ds bs one other
-  one_list bytes ds bs (inl one) (inr none) = absurd (none.1 ds one)
-  one_list bytes ds bs (inr none) other = none.2 ∙ sym (held_short bytes bs none.0 other)
 
   short_bad : (bytes xs ys : List ℕ) (a b : ℕ) → OpensAt Good bytes a xs → IsShort xs → OpensAt Good bytes b ys → IsBad Good ys → ⊥
   short_bad bytes xs ys a b one short other bad =

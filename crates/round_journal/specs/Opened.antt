@@ -1,5 +1,5 @@
 -- What an opening and a reading leave.
-use Rattle.std.specs.Prelude.{◌≡◌, ◌⊎◌, ◌<◌, ◌≤◌, ℕ, Bool, List, length, None, IsTrue}
+use Rattle.std.specs.Prelude.{◌≡◌, ◌⊎◌, ◌<◌, ◌≤◌, ℕ, Bool, true, List, length, None, IsTrue}
 use Rattle.disk_model.specs.Calls.{Only, Goes, Now}
 use Rattle.round_journal.specs.Bytes.{front, StandsForNone, Holds}
 use Rattle.round_journal.specs.Kept.{JournalView, IsKept}
@@ -7,6 +7,7 @@ use Rattle.round_journal.specs.Reading.{gates_from}
 use Rattle.round_journal.specs.Records.{bodies_of, offsets_of, AreKeepable}
 use Rattle.round_journal.specs.Stops.{HasCause}
 use Rattle.round_journal.specs.declared.cause.JournalCause.{JournalCause}
+use Rattle.round_journal.specs.declared.cause.JournalCause.TheVariants.{Memory, Device, BadHeader, BadRecord}
 use Rattle.round_journal.specs.declared.record.Record.{Record}
 
 -- Images of earlier moments stay. Before the turn each later image has P, and from the turn on Q.
@@ -35,6 +36,14 @@ HasOpened reads moment image old new =
 -- the bytes are as before, but at most nine that stand for no list
 abbrev pub IsSpared : List ℕ → List ℕ → Type 0
 IsSpared old new = (new ≡ old) ⊎ ((length old ≤ 9) × StandsForNone old)
+
+-- Where an opening was refused the bytes are as before; but where the disk failed, it may have been at most nine bytes that
+-- stand for no list.
+abbrev pub Leaves : List ℕ → List ℕ → JournalCause → Type 0
+Leaves old new Memory = new ≡ old
+Leaves old new (Device before after) = IsSpared old new
+Leaves old new BadHeader = new ≡ old
+Leaves old new (BadRecord offset why) = new ≡ old
 
 -- the disk tells that it has these bytes, and a crash leaves them and nothing else
 pub record IsSynced {D : Type 0} (tells : D → Bool) (reads : D → List ℕ) (moment : D → ℕ) (image : D → ℕ → List ℕ → Type 0) (disk : D) (bytes : List ℕ) : Type 0 where
@@ -69,6 +78,10 @@ pub record IsOpen {D : Type 0} (tells : D → Bool) (reads : D → List ℕ) (mo
 pub record IsRefused {D : Type 0} (tells : D → Bool) (reads : D → List ℕ) (moment : D → ℕ) (image : D → ℕ → List ℕ → Type 0) (count : D → ℕ) (old new : D) (cause : JournalCause) : Type 0 where
   pub has : HasCause (tells old) (reads old) (count old) (count new) cause
   pub opened : IsTrue (tells old) → HasOpened reads moment image old new
-  pub spared : IsTrue (tells old) → IsSpared (reads old) (reads new)
+  pub left : IsTrue (tells old) → Leaves (reads old) (reads new) cause
   pub same : tells new ≡ tells old
   pub later : count old ≤ count new
+
+-- bytes hold one list of records at most
+abbrev pub OneRecords : Type 0
+OneRecords = (bytes : List ℕ) (one other : List Record) → AreFound true bytes one → AreFound true bytes other → one ≡ other

@@ -3,9 +3,9 @@ ghost use Rattle.std.specs.Prelude.{◌≡◌, ◌≤◌, true, false, length, N
 ghost use Rattle.disk_model.specs.Calls.{Goes};
 ghost use Rattle.round_journal.specs.Bytes.{front};
 ghost use Rattle.round_journal.specs.Kept.{IsKeptAt};
-ghost use Rattle.round_journal.specs.Opened.{AreFound, HasOpened, HasTurned, HoldsAs, IsSpared, IsSynced};
+ghost use Rattle.round_journal.specs.Opened.{AreFound, HasOpened, HasTurned, HoldsAs, IsSpared, IsSynced, Leaves};
 ghost use Rattle.round_journal.specs.Records.{bodies_of};
-ghost use Rattle.round_journal.specs.Stops.{HasStop, IsHalt};
+ghost use Rattle.round_journal.specs.Stops.{cause_of, HasStop, IsHalt};
 
 use crate::empty::create;
 use crate::scan::{Scan, records_in};
@@ -29,7 +29,8 @@ pub(crate) fn open_disk<D: Disk>(alloc: Global, disk: &mut D) -> Result<Opening<
     ensures kept { IfOk result (λ o. IsTrue (D.tells disk.old) → IsKeptAt D.tells D.moment D.image disk.new o.scan.gate false (bodies_of o.scan.records.items) None) }
     ensures turned { IfOk result (λ o. IsTrue (D.tells disk.old) → HasTurned D.reads D.moment D.image disk.old (D.moment o.opened.value) disk.new) }
     ensures opened { IfErr result (λ _. IsTrue (D.tells disk.old) → HasOpened D.reads D.moment D.image disk.old disk.new) }
-    ensures spared { IsTrue (D.tells disk.old) → IsSpared (D.reads disk.old) (D.reads disk.new) }
+    ensures spared { IfOk result (λ _. IsTrue (D.tells disk.old) → IsSpared (D.reads disk.old) (D.reads disk.new)) }
+    ensures left { IfErr result (λ stop. IsTrue (D.tells disk.old) → Leaves (D.reads disk.old) (D.reads disk.new) (cause_of stop 0 0)) }
     ensures tells { D.tells disk.new ≡ D.tells disk.old }
     ensures later { D.count disk.old ≤ D.count disk.new }
     ensures stop { IfErr result (HasStop (D.tells disk.old) (D.reads disk.old) (D.count disk.old) (D.count disk.new)) }
@@ -61,7 +62,8 @@ fn found_or_made<D: Disk>(alloc: Global, disk: &mut D, bytes: &[u8]) -> Result<S
     ensures place { IfOk result (λ s. s.gate ≡ length (front (bodies_of s.records.items))) }
     ensures kept { IfOk result (λ s. IsSynced D.tells D.reads D.moment D.image disk.old bytes.now → IsKeptAt D.tells D.moment D.image disk.new s.gate false (bodies_of s.records.items) None) }
     ensures crash { IsSynced D.tells D.reads D.moment D.image disk.old bytes.now → Goes D.moment D.image disk.old disk.new (HoldsAs bytes.now) }
-    ensures spared { IsSynced D.tells D.reads D.moment D.image disk.old bytes.now → IsSpared bytes.now (D.reads disk.new) }
+    ensures spared { IfOk result (λ _. IsSynced D.tells D.reads D.moment D.image disk.old bytes.now → IsSpared bytes.now (D.reads disk.new)) }
+    ensures left { IfErr result (λ stop. IsSynced D.tells D.reads D.moment D.image disk.old bytes.now → Leaves bytes.now (D.reads disk.new) (cause_of stop 0 0)) }
     ensures tells { D.tells disk.new ≡ D.tells disk.old }
     ensures later { D.count disk.old ≤ D.count disk.new }
     ensures stop { IfErr result (HasStop true bytes.now (D.count disk.old) (D.count disk.new)) }

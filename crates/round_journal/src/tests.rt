@@ -32,16 +32,13 @@ fn disk_of(rt: &impl AllocGlobal, bytes: &[u8], fails: u64) -> Result<MemoryDisk
 
 // Whether the records are one, of caller 1 and FIRM A at 8.
 fn is_firm_a(records: &[Record]) -> bool {
-    match records {
-        [
-            Record {
-                offset: 8,
-                caller: 1,
-                act: Act::Firm { firm },
-            },
-        ] => firm.bytes() == b"A".as_slice(),
-        _ => false,
-    }
+    let [record] = records else {
+        return false;
+    };
+    let Act::Firm { firm } = &record.act else {
+        return false;
+    };
+    record.offset == 8 && record.caller == 1 && firm.bytes() == b"A".as_slice()
 }
 
 // The number of records at an opening, or its cause, and the number of bytes after it.
