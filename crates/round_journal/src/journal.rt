@@ -90,13 +90,13 @@ impl<D: Disk> Journal<D> {
         ensures cause { IfErr result (λ e. (e.before ≡ D.count self.old.disk) × (e.after ≡ D.count self.new.disk) × HasRisen e.before e.after) }
     {
         let before = self.log.disk.faults();
-        match self.log.append(body) {
-            Ok(()) => Ok(()),
-            Err(_) => Err(Device {
-                before,
-                after: self.log.disk.faults(),
-            }),
-        }
+        let Err(_) = self.log.append(body) else {
+            return Ok(());
+        };
+        Err(Device {
+            before,
+            after: self.log.disk.faults(),
+        })
     }
 
     /// The disk.

@@ -1,10 +1,10 @@
-use Rattle.std.proofs.Common.{rules, ◌≡◌, ◌++◌, ◌∷◌, [], ℕ, List, Option, None, Ok, Err, OnOk, sym, subst}
-use Rattle.round_journal.specs.Kept.{JournalView, IsKept}
+use Rattle.std.proofs.Common.{rules, ◌++◌, ◌∷◌, [], ℕ, List, Option, None, sym, subst}
+use Rattle.round_journal.specs.Kept.{JournalView, IsKept, IsKeptAt}
 use Rattle.round_journal.proofs.journal.Journal.append.Goals as goal
-use Rattle.round_journal.proofs.journal.Journal.append.Goals.{in-Ok, in-Err}
 
-pub returns-clause-done : goal.returns-clause-done
-returns-clause-done g c = elim c.match-append.branch [
-  | in-Ok w ↦ rw w.result-is (λ bodies last kept. w.in-Ok.ensures.done bodies last (subst (λ (s : JournalView g.row.D.Denot). IsKept g.D.Disk.tells g.D.Disk.moment g.D.Disk.image s bodies last) (sym c.self.view_is) kept))
-  | in-Err w ↦ rw w.result-is tt
-]
+pub returns-in_default-clause-done : goal.returns-in_default-clause-done
+returns-in_default-clause-done g c =
+    let done : (bodies : List (List ℕ)) (last : Option (List ℕ)) → IsKept g.D.Disk.tells g.D.Disk.moment g.D.Disk.image c.args.self.now bodies last
+        → IsKeptAt {D = g.row.D.Denot} g.D.Disk.tells g.D.Disk.moment g.D.Disk.image c.append.new.self.disk c.append.new.self.gate c.append.new.self.unsettled (bodies ++ c.args.body.now ∷ []) None =
+      λ bodies last kept. c.in_default.ensures.done bodies last (subst (λ (s : JournalView g.row.D.Denot). IsKept g.D.Disk.tells g.D.Disk.moment g.D.Disk.image s bodies last) (sym c.self.view_is) kept) in
+    search (rules, done)
