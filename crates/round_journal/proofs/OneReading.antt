@@ -1,11 +1,11 @@
 -- Bytes are read as one thing at most.
-use Rattle.std.proofs.Common.{◌≡◌, ◌≢◌, ◌⊎◌, inl, inr, ⊎_elim, ℕ, ◌+◌, ◌<◌, ◌≤◌, ◌^◌, List, [], ◌∷◌, ◌++◌, length, take, flat_map, All, refl, sym, ◌∙◌, ap, subst, arith, append_assoc, length-append}
+use Rattle.std.proofs.Common.{◌≡◌, ◌≢◌, ◌⊎◌, inl, inr, ⊎_elim, ℕ, List, [], ◌∷◌, ◌++◌, length, take, flat_map, All, refl, sym, ◌∙◌, ap, subst, arith, append_assoc}
 use Rattle.std.proofs.lemmas.List.{append_cancel_left, take_at}
 use Rattle.std.proofs.lemmas.List.Elements.{All-head, All-tail}
-use Rattle.round_journal.specs.Bytes.{header, measured, record_bytes, front, AreShort, EndsClosed, StandsFor, Holds}
-use Rattle.round_journal.specs.Reading.{LacksHeader, OpensAt, HasRecord, IsShort, IsBad, Reading, IsReading, OneReading}
+use Rattle.round_journal.specs.Bytes.{header, measured, record_bytes, front, AreShort, StandsFor, Holds}
+use Rattle.round_journal.specs.Reading.{LacksHeader, OpensAt, HasRecord, IsShort, IsBad, OneReading}
 use Rattle.round_journal.specs.Reading.Reading.{bodies_are, no_header, short_at, bad_at}
-use Rattle.round_journal.proofs.Short.{held_short, stands_long}
+use Rattle.round_journal.proofs.Short.{held_short}
 use Rattle.round_journal.proofs.Unique.{Short, same_record, unique, head_of, tail_of}
 
 -- what follows records begins with a gate

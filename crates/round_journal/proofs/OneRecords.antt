@@ -1,12 +1,11 @@
 -- Bytes hold one list of records at most.
-use Rattle.std.proofs.Common.{◌≡◌, ◌<◌, ℕ, ◌+◌, true, List, [], ◌∷◌, map, length, All, refl, sym, ◌∙◌, ap, arith}
+use Rattle.std.proofs.Common.{◌≡◌, ℕ, true, List, [], ◌∷◌, refl, sym, ◌∙◌, ap}
 use Rattle.std.proofs.lemmas.List.Elements.{All-head, All-tail}
-use Rattle.claim_history.specs.declared.act.Act.{Act}
 use Rattle.act_bodies.specs.Bodies.{body_of, is_keepable}
 use Rattle.act_bodies.specs.Laws.{OneCallLaw}
 use Rattle.round_journal.specs.Reading.{gates_from}
 use Rattle.round_journal.specs.Records.{bodies_of, offsets_of, AreKeepable}
-use Rattle.round_journal.specs.Opened.{AreFound, OneRecords}
+use Rattle.round_journal.specs.Opened.{OneRecords}
 use Rattle.round_journal.specs.declared.record.Record.{Record}
 use Rattle.round_journal.proofs.Unique.{head_of, tail_of}
 use Rattle.round_journal.proofs.OneReading.{one_list}

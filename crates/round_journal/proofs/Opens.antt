@@ -1,13 +1,13 @@
 -- An opening turns at its first sync.
-use Rattle.std.proofs.Common.{◌≡◌, ◌⊎◌, inl, inr, ⊎_elim, ℕ, ◌+◌, ◌<◌, ◌≤◌, max, true, false, List, [], ◌∷◌, ◌++◌, length, take, drop, None, Bool, IsTrue, refl, sym, ◌∙◌, ap, subst, arith}
+use Rattle.std.proofs.Common.{◌≡◌, ⊎_elim, ℕ, ◌≤◌, false, List, [], ◌∷◌, ◌++◌, length, None, Bool, IsTrue, refl, sym, ◌∙◌, ap, subst, arith}
 use Rattle.std.proofs.lemmas.List.{drop_all}
 use Rattle.std.proofs.lemmas.Bool.{cases_lt}
-use Rattle.disk_model.specs.Calls.{Passes, Goes, Now, Only, Torn, After}
+use Rattle.disk_model.specs.Calls.{Goes, Now, Only, Torn, After}
 use Rattle.disk_model.specs.Calls.{Holds as Written}
-use Rattle.disk_model.proofs.Moments.{still, goes_on, goes_wide, now_has}
-use Rattle.round_journal.specs.Bytes.{header, front, EndsClosed, StandsFor, StandsForNone, Holds}
+use Rattle.disk_model.proofs.Moments.{goes_wide, now_has}
+use Rattle.round_journal.specs.Bytes.{header, front, EndsClosed, StandsFor, Holds}
 use Rattle.round_journal.specs.Kept.{IsKeptAt}
-use Rattle.round_journal.specs.Opened.{HoldsAs, Turns, HasTurned, HasOpened, IsSpared, IsSynced, IsQuiet}
+use Rattle.round_journal.specs.Opened.{HoldsAs, Turns, HasTurned, IsSynced}
 use Rattle.round_journal.proofs.Short.{holds_short, held_short}
 
 abbrev empty_journal : List ℕ

@@ -1,13 +1,13 @@
 -- How the bytes of a journal are read from gate to gate.
-use Rattle.std.proofs.Common.{◌≡◌, ◌≢◌, ◌⊎◌, inl, inr, ℕ, ◌+◌, ◌-◌, ◌<◌, ◌≤◌, ◌^◌, true, List, [], ◌∷◌, ◌++◌, length, get_or, take, drop, map, flat_map, All, refl, sym, ◌∙◌, ap, subst, arith, append_assoc, length-append, take-append-drop, length-take-le, length-drop}
+use Rattle.std.proofs.Common.{◌≡◌, ◌≢◌, inl, inr, ℕ, ◌+◌, ◌-◌, ◌<◌, ◌^◌, true, List, [], ◌∷◌, ◌++◌, length, get_or, take, drop, flat_map, refl, sym, ◌∙◌, ap, subst, arith, append_assoc, length-append, take-append-drop, length-take-le, length-drop}
 use Rattle.std.specs.Int.{w32, to_be_bytes, from_be_bytes}
-use Rattle.std.proofs.lemmas.Nat.{be_bytes_4, from_be_bytes-to_be_bytes_4}
+use Rattle.std.proofs.lemmas.Nat.{be_bytes_4}
 use Rattle.std.proofs.lemmas.Bool.{cases_lt}
-use Rattle.std.proofs.lemmas.List.{get_or-take, take_all, get_or_past, length-take, take_at, drop_at, drop_more, map_push, append-nil}
+use Rattle.std.proofs.lemmas.List.{get_or-take, take_all, get_or_past, length-take, take_at, drop_more, map_push}
 use Rattle.std.proofs.lemmas.List.Elements.{All-push, All-map}
-use Rattle.act_bodies.specs.Bodies.{body_of, is_keepable, IsNoBody}
-use Rattle.round_journal.specs.Bytes.{header, measured, record_bytes, front, AreShort, StandsFor}
-use Rattle.round_journal.specs.Reading.{gates_from, OpensAt, HasRecord, IsShort, IsBad}
+use Rattle.act_bodies.specs.Bodies.{body_of, is_keepable}
+use Rattle.round_journal.specs.Bytes.{header, record_bytes, front, AreShort}
+use Rattle.round_journal.specs.Reading.{gates_from, OpensAt, HasRecord}
 use Rattle.round_journal.specs.Records.{IsBody, AreKeepable, bodies_of, offsets_of, HasRecords}
 use Rattle.round_journal.specs.Stops.{IsFault, IsBodyFault}
 use Rattle.round_journal.specs.declared.stop.Stop.{Stop}

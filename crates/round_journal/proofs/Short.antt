@@ -1,10 +1,10 @@
 -- At most nine bytes stand for no body.
-use Rattle.std.proofs.Common.{◌≡◌, ◌≢◌, ◌⊎◌, ◌↔◌, inl, inr, ⊎_elim, ℕ, ◌+◌, ◌<◌, ◌≤◌, true, false, List, [], ◌∷◌, ◌++◌, length, get_or, take, drop, flat_map, refl, sym, ◌∙◌, ap, subst, arith, length-append, take-append-drop, length-take-le}
-use Rattle.std.proofs.lemmas.List.{take_at, drop_at, drop_more, drop_all}
+use Rattle.std.proofs.Common.{◌≡◌, ◌≢◌, ◌⊎◌, ◌↔◌, inl, inr, ⊎_elim, ℕ, ◌+◌, ◌≤◌, List, [], ◌∷◌, ◌++◌, length, get_or, take, drop, flat_map, refl, sym, ◌∙◌, ap, subst, arith, length-append, take-append-drop}
+use Rattle.std.proofs.lemmas.List.{drop_more, drop_all}
 use Rattle.std.proofs.lemmas.Bool.{cases_lt, cases_eq, cases_Bool}
 use Rattle.std.proofs.lemmas.Slice.Eq.{bytes_eq-Decides}
 use Rattle.std.specs.Str.{bytes_eq}
-use Rattle.round_journal.specs.Bytes.{header, record_bytes, front, EndsClosed, StandsFor, StandsForNone, Holds}
+use Rattle.round_journal.specs.Bytes.{header, record_bytes, front, StandsFor, StandsForNone, Holds}
 
 pub length-record : (body : List ℕ) → length (record_bytes body) ≡ length body + 5
 length-record body = omega arith

@@ -1,11 +1,10 @@
 -- What each of the three writes of an append makes of what is kept.
-use Rattle.std.proofs.Common.{◌≡◌, ◌⊎◌, inl, inr, ⊎_elim, ℕ, ◌+◌, ◌<◌, ◌≤◌, ◌^◌, Bool, true, false, List, [], ◌∷◌, ◌++◌, length, Option, Some, None, IsTrue, refl, sym, ◌∙◌, ap, subst, arith, length-append}
-use Rattle.std.specs.Int.{w32, to_be_bytes}
+use Rattle.std.proofs.Common.{◌≡◌, ◌⊎◌, inl, inr, ⊎_elim, ℕ, ◌+◌, ◌<◌, ◌^◌, Bool, true, false, List, [], ◌∷◌, ◌++◌, length, Option, Some, None, IsTrue, refl, sym, ap, subst, arith, length-append}
 use Rattle.disk_model.specs.Calls.{Holds, Torn, After, Only, Goes, Now}
-use Rattle.disk_model.proofs.Moments.{goes_wide, goes_on, now_has, torn_same}
+use Rattle.disk_model.proofs.Moments.{goes_wide, goes_on, now_has}
 use Rattle.round_journal.specs.Bytes.{front, record_bytes, EndsClosed, StandsFor}
-use Rattle.round_journal.specs.Kept.{staged, HasBodies, HasStaged, IsKeptAt, IsStaged, IsLast, HoldsOne}
-use Rattle.round_journal.proofs.Images.{long, closed_torn, staged_written, staged_torn, gate_written}
+use Rattle.round_journal.specs.Kept.{staged, HasBodies, HasStaged, IsKeptAt, IsStaged, HoldsOne}
+use Rattle.round_journal.proofs.Images.{closed_torn, staged_written, staged_torn, gate_written}
 use Rattle.round_journal.proofs.Short.{length-record}
 use Rattle.round_journal.proofs.Bodies.{front_push, short_push, opened, with_or_without}
 

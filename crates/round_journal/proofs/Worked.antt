@@ -1,7 +1,7 @@
 -- The bytes of two small journals.
-use Rattle.std.proofs.Common.{◌≡◌, ◌+◌, ◌<◌, ℕ, List, [], ◌∷◌, ◌++◌, refl, arith}
+use Rattle.std.proofs.Common.{◌≡◌, ℕ, List, [], ◌∷◌, ◌++◌, refl, arith}
 use Rattle.std.proofs.lemmas.List.Elements.{All-nil, All-cons}
-use Rattle.round_journal.specs.Bytes.{header, front, StandsFor}
+use Rattle.round_journal.specs.Bytes.{header, StandsFor}
 use Rattle.round_journal.specs.Reading.{gates_from}
 use Rattle.round_journal.proofs.Unique.{Short}
 

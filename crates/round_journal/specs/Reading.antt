@@ -1,6 +1,6 @@
 -- What the bytes of a journal are read as: a list of bodies, or a fault.
 use Rattle.std.specs.Prelude.{◌≡◌, ◌≢◌, ◌+◌, ◌<◌, ◌^◌, ℕ, List, [], ◌∷◌, ◌++◌, length, take, All}
-use Rattle.round_journal.specs.Bytes.{header, measured, front, AreShort, StandsFor, Holds}
+use Rattle.round_journal.specs.Bytes.{header, measured, front, AreShort, Holds}
 
 -- the places of the gates of these bodies, the first of which is at this place
 abbrev pub gates_from : ℕ → List (List ℕ) → List ℕ

@@ -146,8 +146,10 @@ fn a_failed_append_is_settled(rt: HostRuntime) -> Result<(), Fail> {
         assert_eq!(rt; journal.gate(), 18);
         let disk = journal.close();
         assert_eq!(rt; disk.moment(), moment);
+        let bytes = disk.bytes();
+        assert!(rt; bytes.len() >= 19);
         assert_eq!(rt;
-            &disk.bytes()[8..19],
+            &bytes[8..19],
             [1, 0, 0, 0, 5, 0, 0, 0, 0, 13, 0].as_slice()
         );
     }

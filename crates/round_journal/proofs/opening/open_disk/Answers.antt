@@ -1,6 +1,4 @@
-use Rattle.std.proofs.Common.{◌≡◌, ℕ, List, IsTrue, inr, sym, subst}
-use Rattle.disk_model.specs.Calls.{Goes}
-use Rattle.round_journal.specs.Opened.{HoldsAs}
+use Rattle.std.proofs.Common.{inr}
 use Rattle.round_journal.proofs.Opens.{turned_on}
 use Rattle.round_journal.proofs.Results.{if_err_all}
 use Rattle.round_journal.proofs.opening.open_disk.Goals as goal

@@ -1,4 +1,4 @@
-use Rattle.std.proofs.Common.{◌≡◌, inl, inr, refl, None, Some, false}
+use Rattle.std.proofs.Common.{inl, inr, refl, None, Some}
 use Rattle.round_journal.proofs.Results.{on_err_all}
 use Rattle.round_journal.proofs.Steps.{kept_on, kept_off, run_settle, run_stage, run_gate}
 use Rattle.round_journal.proofs.log.Log.append.Goals as goal

@@ -1,8 +1,6 @@
-use Rattle.std.proofs.Common.{◌≡◌, true, false, rules}
-use Rattle.disk_model.proofs.Moments.{still}
-use Rattle.round_journal.specs.Kept.{HasBodies}
+use Rattle.std.proofs.Common.{◌≡◌, true, rules}
 use Rattle.round_journal.proofs.Results.{on_err_all}
-use Rattle.round_journal.proofs.Steps.{settle_crash_on, settle_failed_on, settle_done_on, settled_already}
+use Rattle.round_journal.proofs.Steps.{settle_crash_on, settle_failed_on, settle_done_on}
 use Rattle.round_journal.proofs.log.Log.settle.Goals as goal
 
 pub returns-in_err-write_and_sync-clause-failed : goal.returns-in_err-write_and_sync-clause-failed
