@@ -36,5 +36,5 @@ module _ (law : OneCallLaw) where
 
   pub one_records : OneRecords
   one_records bytes rs ss one other =
-      let same : bodies_of rs ≡ bodies_of ss = one_list bytes (bodies_of rs) (bodies_of ss) (one.holds refl) (other.holds refl) in
+      let same : bodies_of rs ≡ bodies_of ss = one_list bytes (bodies_of rs) (bodies_of ss) (one.reading refl).0 (other.reading refl).0 in
       all_records rs ss one.keepable other.keepable same (one.places ∙ ap (λ (bs : List (List ℕ)). gates_from 8 bs) same ∙ sym other.places)

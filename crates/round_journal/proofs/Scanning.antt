@@ -1,5 +1,5 @@
 -- How the bytes of a journal are read from gate to gate.
-use Rattle.std.proofs.Common.{◌≡◌, ◌≢◌, inl, inr, ℕ, ◌+◌, ◌-◌, ◌<◌, ◌^◌, true, List, [], ◌∷◌, ◌++◌, length, get_or, take, drop, flat_map, refl, sym, ◌∙◌, ap, subst, arith, append_assoc, length-append, take-append-drop, length-take-le, length-drop}
+use Rattle.std.proofs.Common.{All, ◌≡◌, ◌≢◌, inl, inr, ℕ, ◌+◌, ◌-◌, ◌<◌, ◌^◌, true, List, [], ◌∷◌, ◌++◌, length, get_or, take, drop, flat_map, refl, sym, ◌∙◌, ap, subst, arith, append_assoc, length-append, take-append-drop, length-take-le, length-drop}
 use Rattle.std.specs.Int.{w32, to_be_bytes, from_be_bytes}
 use Rattle.std.proofs.lemmas.Nat.{be_bytes_4}
 use Rattle.std.proofs.lemmas.Bool.{cases_lt}
@@ -56,10 +56,14 @@ module _ (bytes : List ℕ) (gate : ℕ) (records : List Record) (has : HasRead 
   pub whole : bytes ≡ front (bodies_of records) ++ get_or bytes gate 0 ∷ drop (gate + 1) bytes
   whole = sym (take-append-drop gate bytes) ∙ ap (λ (l : List ℕ). l ++ drop gate bytes) has.spelled ∙ ap (λ (l : List ℕ). front (bodies_of records) ++ l) (drop_more bytes gate 0 has.within)
 
+  all_good : All IsBody (bodies_of records)
+  all_good = All-map IsBody (λ (r : Record). body_of r.caller r.act) records (λ k d lt. let r : Record = get_or records k d in (r.caller, r.act, has.keepable k d lt, refl))
+
   pub read_end : get_or bytes gate 0 ≢ 1 → HasRecords bytes gate records
   read_end shut = record {
     stands = record { short = has.short; ends = record { gate = get_or bytes gate 0; rest = drop (gate + 1) bytes; closed = shut; spelled = whole } };
     keepable = has.keepable;
+    good = all_good;
     places = has.places;
     place = place;
   }
@@ -68,7 +72,7 @@ module _ (bytes : List ℕ) (gate : ℕ) (records : List Record) (has : HasRead 
   read_fault long is = record {
     bodies = bodies_of records;
     short = has.short;
-    good = All-map IsBody (λ (r : Record). body_of r.caller r.act) records (λ k d lt. let r : Record = get_or records k d in (r.caller, r.act, has.keepable k d lt, refl));
+    good = all_good;
     long = long;
     place = place;
     spelled = whole ∙ ap (λ (g : ℕ). front (bodies_of records) ++ g ∷ drop (gate + 1) bytes) is;

@@ -3,8 +3,9 @@ use Rattle.std.specs.Prelude.{◌≡◌, ◌⊎◌, ◌<◌, ◌≤◌, ℕ, Boo
 use Rattle.disk_model.specs.Calls.{Only, Goes, Now}
 use Rattle.round_journal.specs.Bytes.{front, StandsForNone, Holds}
 use Rattle.round_journal.specs.Kept.{JournalView, IsKept}
-use Rattle.round_journal.specs.Reading.{gates_from}
-use Rattle.round_journal.specs.Records.{bodies_of, offsets_of, AreKeepable}
+use Rattle.round_journal.specs.Reading.{gates_from, IsReading}
+use Rattle.round_journal.specs.Reading.Reading.{bodies_are}
+use Rattle.round_journal.specs.Records.{IsBody, bodies_of, offsets_of, AreKeepable}
 use Rattle.round_journal.specs.Stops.{HasCause}
 use Rattle.round_journal.specs.declared.cause.JournalCause.{JournalCause}
 use Rattle.round_journal.specs.declared.cause.JournalCause.TheVariants.{Memory, Device, BadHeader, BadRecord}
@@ -60,7 +61,7 @@ pub record IsQuiet {D : Type 0} (tells : D → Bool) (reads : D → List ℕ) (m
 
 -- these records, with their places, are those that the bytes hold, where the disk tells them
 pub record AreFound (told : Bool) (bytes : List ℕ) (records : List Record) : Type 0 where
-  pub holds : IsTrue told → Holds bytes (bodies_of records)
+  pub reading : IsTrue told → IsReading IsBody bytes (bodies_are (bodies_of records))
   pub keepable : AreKeepable records
   pub places : offsets_of records ≡ gates_from 8 (bodies_of records)
 

@@ -24,5 +24,6 @@ AreKeepable records = All (λ r. is_keepable r.caller r.act ≡ true) records
 pub record HasRecords (bytes : List ℕ) (gate : ℕ) (records : List Record) : Type 0 where
   pub stands : StandsFor bytes (bodies_of records)
   pub keepable : AreKeepable records
+  pub good : All IsBody (bodies_of records)
   pub places : offsets_of records ≡ gates_from 8 (bodies_of records)
   pub place : gate ≡ length (front (bodies_of records))
