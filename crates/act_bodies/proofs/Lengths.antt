@@ -1,6 +1,6 @@
 -- How long bodies are.
-use Rattle.std.proofs.Common.{◌≡◌, ℕ, ◌+◌, ◌*◌, ◌<◌, ◌≤◌, ◌^◌, Bool, true, false, List, [], ◌∷◌, ◌++◌, length, refl, sym, ap, ◌∙◌, arith, length-append}
-use Rattle.std.specs.Prelude.{ℤ, ◌&&◌, nat_le, nat_lt, unsigned_abs}
+use Rattle.std.proofs.Common.{◌≡◌, ℕ, ◌+◌, ◌*◌, ◌≤◌, true, List, [], ◌∷◌, length, refl, ap, ◌∙◌, arith, length-append}
+use Rattle.std.specs.Prelude.{ℤ, ◌&&◌, nat_le, unsigned_abs}
 use Rattle.std.specs.List.{flat_map, list_all}
 use Rattle.std.proofs.lemmas.Bool.{leb-true}
 use Rattle.std.proofs.lemmas.List.Concat.{flat_map-cons}

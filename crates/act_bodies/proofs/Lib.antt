@@ -1,7 +1,7 @@
 pub mod Keepable
 pub mod Readers
 pub mod Values
-pub mod Acts
+pub mod Calls
 pub mod Loops
 pub mod Found
 pub mod Lengths

@@ -1,7 +1,7 @@
 -- Names, days, kinds, prices and outcomes are read as they are written.
-use Rattle.std.proofs.Common.{◌≡◌, ℕ, zero, suc, ◌+◌, ◌^◌, ◌<◌, ◌≤◌, Bool, true, false, cond, ltb, List, [], ◌∷◌, ◌++◌, length, take, drop, Option, Some, None, refl, sym, ap, subst, ◌∙◌, append_assoc, arith}
+use Rattle.std.proofs.Common.{◌≡◌, ℕ, zero, suc, ◌^◌, ◌<◌, ◌≤◌, Bool, true, false, cond, ltb, List, [], ◌∷◌, ◌++◌, length, take, drop, Option, Some, None, refl, sym, ap, subst, ◌∙◌, arith}
 use Rattle.std.specs.Prelude.{ℤ, pos, ◌+ℤ◌, ◌-ℤ◌, unsigned_abs}
-use Rattle.std.specs.Int.{w32, w64, to_be_bytes}
+use Rattle.std.specs.Int.{w32, w64}
 use Rattle.std.proofs.lemmas.Bool.{ltb-false, le-ltb, leb-true}
 use Rattle.std.proofs.lemmas.Int.{ints}
 use Rattle.std.proofs.lemmas.List.{take_at, drop_at, take-append-drop, length-append, length-take}
@@ -11,10 +11,10 @@ use Rattle.setoff_model.specs.declared.kind.Kind.{Kind}
 use Rattle.setoff_model.specs.declared.kind.Kind.TheVariants.{Plain, Funded}
 use Rattle.setoff_model.specs.CutView.{OutcomeView}
 use Rattle.claim_history.specs.Days.{last_day}
-use Rattle.claim_history.specs.Acts.{is_key, is_day}
+use Rattle.claim_history.specs.Acts.{is_day}
 use Rattle.act_bodies.specs.Bodies.{four, eight, name_bytes, key_bytes, kind_byte, stored_price, discharges_bytes, prices_bytes, outcome_bytes}
-use Rattle.act_bodies.specs.Reading.{◌>>=◌, both_at, made_at, list_at, number_at, counted_at, name_at, day_at, kind_at, price_at, key_at, claim_at, account_at, outcome_at}
-use Rattle.act_bodies.proofs.Readers.{IsBytes, IsBytes-drop, IsBytes-rest, bind_some, past, some_is, Takes, IsField, field32, field64, both_field, counted, IsCounted, counted_field}
+use Rattle.act_bodies.specs.Reading.{made_at, number_at, counted_at, name_at, day_at, kind_at, price_at, key_at, claim_at, account_at, outcome_at}
+use Rattle.act_bodies.proofs.Readers.{IsBytes, IsBytes-drop, IsBytes-rest, bind_some, some_is, Takes, IsField, field32, field64, both_field, IsCounted, counted_field}
 
 -- a test that let a value through
 pub passed : {A : Type 0} (b : Bool) (x y : A) → cond b (Some x) None ≡ Some y → (b ≡ true) × (x ≡ y)

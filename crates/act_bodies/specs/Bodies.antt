@@ -1,5 +1,5 @@
 -- The body of an act's record in a journal: the caller, a tag and the act's fields. Numbers are big-endian.
-use Rattle.std.specs.Prelude.{◌≡◌, ◌^◌, ℕ, ℤ, pos, Bool, true, false, ◌&&◌, ◌||◌, nat_lt, nat_le, List, [], ◌∷◌, ◌++◌, length, unsigned_abs, ◌+ℤ◌}
+use Rattle.std.specs.Prelude.{◌≡◌, ◌^◌, ℕ, ℤ, pos, Bool, true, false, ◌&&◌, ◌||◌, nat_lt, nat_le, List, [], ◌∷◌, ◌++◌, length, slice_index, unsigned_abs, ◌+ℤ◌}
 use Rattle.std.specs.Int.{w32, w64, to_be_bytes}
 use Rattle.std.specs.List.{flat_map}
 use Rattle.setoff_model.specs.declared.name.Key.{Key}
@@ -74,6 +74,10 @@ is_abandonment _ = false
 -- the caller's number has 4 bytes, every field is in its range, and caller 0, the bureau itself, does nothing but abandon
 unfoldable pub is_keepable : ℕ → Act → Bool
 is_keepable caller a = nat_lt caller (2 ^ 32) && is_valid a && (nat_le 1 caller || is_abandonment a)
+
+-- the byte after the caller is the tag of a publication
+abbrev pub HasPublishTag : List ℕ → Type 0
+HasPublishTag bytes = slice_index bytes 4 ≡ 14
 
 -- the bytes are the body of no keepable call
 abbrev pub IsNoBody : List ℕ → Type 0

@@ -6,6 +6,7 @@ ghost use Rattle.claim_history.specs.Acts.{is_valid};
 ghost use Rattle.claim_history.specs.Needs.{body_length_of};
 ghost use Rattle.act_bodies.specs.Bodies.{four, eight, name_bytes, key_bytes, kind_byte, stored_price, outcome_bytes, fields_of, body_of, is_keepable};
 
+use crate::tag;
 use claim_history::{Act, Day};
 use setoff_model::{Key, Kind, Name, Outcome, put};
 
@@ -15,7 +16,7 @@ pub fn encode(buffer: &mut Vec<u8>, caller: u32, act: &Act)
     requires kept { is_keepable caller act.now ≡ true }
     requires spare { body_length_of act.now ≤ vec_capacity buffer.old }
     ensures body { buffer.new.items ≡ body_of caller act.now }
-    ensures len { vec_len buffer.new ≡ body_length_of act.now }
+    ensures len { length buffer.new.items ≡ body_length_of act.now }
     ensures room { vec_capacity buffer.old ≤ vec_capacity buffer.new }
 {
     buffer.clear();
@@ -33,28 +34,28 @@ fn put_act(buffer: &mut Vec<u8>, act: &Act)
     ensures room { vec_capacity buffer.old ≤ vec_capacity buffer.new }
 {
     match act {
-        Act::Firm { firm } => put_firm(buffer, 1, firm),
+        Act::Firm { firm } => put_firm(buffer, tag::FIRM, firm),
         Act::File {
             key,
             debtor,
             amount,
             due,
         } => put_file(buffer, key, debtor, *amount, due),
-        Act::Confirm { key, debtor } => put_claim(buffer, 3, key, debtor),
-        Act::Dispute { key, debtor } => put_claim(buffer, 4, key, debtor),
-        Act::Withdraw { key } => put_key(buffer, 5, key),
+        Act::Confirm { key, debtor } => put_claim(buffer, tag::CONFIRM, key, debtor),
+        Act::Dispute { key, debtor } => put_claim(buffer, tag::DISPUTE, key, debtor),
+        Act::Withdraw { key } => put_key(buffer, tag::WITHDRAW, key),
         Act::Receive { key, amount } => put_receive(buffer, key, *amount),
-        Act::Fund { firm, amount } => put_account(buffer, 7, firm, *amount),
-        Act::Draw { firm, amount } => put_account(buffer, 8, firm, *amount),
+        Act::Fund { firm, amount } => put_account(buffer, tag::FUND, firm, *amount),
+        Act::Draw { firm, amount } => put_account(buffer, tag::DRAW, firm, *amount),
         Act::Limit {
             firm,
             credit,
             ceiling,
         } => put_limit(buffer, firm, *credit, *ceiling),
-        Act::Offer { firm, amount } => put_account(buffer, 10, firm, *amount),
-        Act::Position { firm } => put_firm(buffer, 11, firm),
+        Act::Offer { firm, amount } => put_account(buffer, tag::OFFER, firm, *amount),
+        Act::Position { firm } => put_firm(buffer, tag::POSITION, firm),
         Act::Close { kind, horizon } => put_close(buffer, *kind, horizon),
-        Act::Abandon => put(buffer, &[13]),
+        Act::Abandon => put(buffer, &[tag::ABANDON]),
         Act::Publish { round, outcome } => put_publish(buffer, *round, outcome),
     }
 }
@@ -129,7 +130,7 @@ fn put_file(buffer: &mut Vec<u8>, key: &Key, debtor: &Name, amount: u64, due: &D
     ensures len { vec_len buffer.new ≡ vec_len buffer.old + 16 + length key.now.creditor + length key.now.invoice + length debtor.now }
     ensures room { vec_capacity buffer.old ≤ vec_capacity buffer.new }
 {
-    put_claim(buffer, 2, key, debtor);
+    put_claim(buffer, tag::FILE, key, debtor);
     put_eight(buffer, amount);
     put_four(buffer, due.number());
 }
@@ -140,7 +141,7 @@ fn put_receive(buffer: &mut Vec<u8>, key: &Key, amount: u64)
     ensures len { vec_len buffer.new ≡ vec_len buffer.old + 11 + length key.now.creditor + length key.now.invoice }
     ensures room { vec_capacity buffer.old ≤ vec_capacity buffer.new }
 {
-    put_key(buffer, 6, key);
+    put_key(buffer, tag::RECEIVE, key);
     put_eight(buffer, amount);
 }
 
@@ -161,7 +162,7 @@ fn put_limit(buffer: &mut Vec<u8>, firm: &Name, credit: u64, ceiling: u64)
     ensures len { vec_len buffer.new ≡ vec_len buffer.old + 18 + length firm.now }
     ensures room { vec_capacity buffer.old ≤ vec_capacity buffer.new }
 {
-    put_account(buffer, 9, firm, credit);
+    put_account(buffer, tag::LIMIT, firm, credit);
     put_eight(buffer, ceiling);
 }
 
@@ -171,7 +172,7 @@ fn put_close(buffer: &mut Vec<u8>, kind: Kind, horizon: &Day)
     ensures len { vec_len buffer.new ≡ vec_len buffer.old + 6 }
     ensures room { vec_capacity buffer.old ≤ vec_capacity buffer.new }
 {
-    put(buffer, &[12, byte_of(kind)]);
+    put(buffer, &[tag::CLOSE, byte_of(kind)]);
     put_four(buffer, horizon.number());
 }
 
@@ -193,7 +194,7 @@ fn put_publish(buffer: &mut Vec<u8>, round: u32, outcome: &Outcome)
     ensures len { vec_len buffer.new ≡ vec_len buffer.old + 13 + (8 * length outcome.now.discharges + 4 * length outcome.now.prices) }
     ensures room { vec_capacity buffer.old ≤ vec_capacity buffer.new }
 {
-    put(buffer, &[14]);
+    put(buffer, &[tag::PUBLISH]);
     put_four(buffer, round);
     let discharges = outcome.discharges();
     put_four(buffer, discharges.len() as u32);

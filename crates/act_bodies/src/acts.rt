@@ -3,6 +3,7 @@ ghost use Rattle.std.specs.Prelude.{◌≡◌};
 ghost use Rattle.act_bodies.specs.Reading.{Reads, firm_at, file_at, confirm_at, dispute_at, withdraw_at, receive_at, fund_at, draw_at, limit_at, offer_at, position_at, close_at, fields_at};
 
 use crate::fields::{take_account, take_claim, take_day, take_key, take_kind, take_name, take_u64};
+use crate::tag;
 use claim_history::Act;
 
 // The act of a tag other than a publication's.
@@ -11,19 +12,19 @@ pub(crate) fn take_fields(tag: u8, bytes: &[u8]) -> Option<(Act, &[u8])>
     ensures { Reads (λ x. (x.0, x.1.now)) result (fields_at tag bytes.now) }
 {
     match tag {
-        1 => take_firm(bytes),
-        2 => take_file(bytes),
-        3 => take_confirm(bytes),
-        4 => take_dispute(bytes),
-        5 => take_withdraw(bytes),
-        6 => take_receive(bytes),
-        7 => take_fund(bytes),
-        8 => take_draw(bytes),
-        9 => take_limit(bytes),
-        10 => take_offer(bytes),
-        11 => take_position(bytes),
-        12 => take_close(bytes),
-        13 => Some((Act::Abandon, bytes)),
+        tag::FIRM => take_firm(bytes),
+        tag::FILE => take_file(bytes),
+        tag::CONFIRM => take_confirm(bytes),
+        tag::DISPUTE => take_dispute(bytes),
+        tag::WITHDRAW => take_withdraw(bytes),
+        tag::RECEIVE => take_receive(bytes),
+        tag::FUND => take_fund(bytes),
+        tag::DRAW => take_draw(bytes),
+        tag::LIMIT => take_limit(bytes),
+        tag::OFFER => take_offer(bytes),
+        tag::POSITION => take_position(bytes),
+        tag::CLOSE => take_close(bytes),
+        tag::ABANDON => Some((Act::Abandon, bytes)),
         _ => None,
     }
 }
