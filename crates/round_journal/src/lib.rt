@@ -10,7 +10,7 @@
 //! leaves that gate unsettled, and the next append closes it first, with a write and a sync of their own.
 //!
 //! An opening syncs, asks for the length, and reads all bytes. Where at most nine bytes stand for no journal it makes
-//! one with no records. Nothing else is ever written over. `read_records` reads the same records and writes nothing.
+//! one with no records, and otherwise it writes nothing. `read_records` reads the same records and never writes.
 //!
 //! What a journal keeps is said by `IsKept`, of any list of bodies: a caller that knows the records of the opening and
 //! its own appends knows what each crash leaves. What is said of bytes holds where the disk tells them. Of a disk that
