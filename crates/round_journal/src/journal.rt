@@ -68,9 +68,10 @@ impl<D: Disk> Journal<D> {
         }
     }
 
-    /// Appends a record with this body. It asks that the record ends within 2^30 bytes. Four calls of the disk are
-    /// made: the record and a closed gate behind it are written behind the gate and synced, and then the gate is opened
-    /// and synced. Where an append that failed may have begun to open the gate, two calls before these close it again.
+    /// Appends a record with this body, of at most 2,162,705 bytes. It asks that the record ends within the first 2^30
+    /// bytes, and takes no memory. Four calls of the disk are made: length, body and a closed gate are written behind the
+    /// record's gate and synced, and then this gate is opened and synced. Where an append that failed may have begun to
+    /// open the gate, two calls before these close it again.
     ///
     /// After an Ok every present image has the record. An Err means that the disk failed. Then the records are kept as
     /// they were, and an image may have the new one behind them, or the one of the append that failed before.
