@@ -1,0 +1,129 @@
+//! An open journal.
+ghost use Rattle.std.specs.Prelude.{◌≡◌, ◌+◌, ◌^◌, ◌≤◌, ℕ, List, [], ◌∷◌, ◌++◌, length, Option, None, IfErr, IfOk, OnOk, OnErr};
+ghost use Rattle.disk_model.specs.Calls.{Goes};
+ghost use Rattle.disk_model.specs.Counts.{HasRisen};
+ghost use Rattle.round_journal.specs.Kept.{IsKept, IsLast, HoldsOne};
+ghost use Rattle.round_journal.specs.Opened.{IsOpen, IsRefused};
+
+use crate::cause::JournalCause;
+use crate::device::Device;
+use crate::log::Log;
+use crate::open_refused::OpenRefused;
+use crate::opening::{Opening, open_disk};
+use crate::record::Record;
+use disk_model::Disk;
+use std::alloc::Global;
+use std::marker::Model;
+use std::snapshot::Snapshot;
+
+/// A journal on a disk. It keeps the records of its opening and of each append since then that succeeded.
+#[derive(Drop)]
+pub struct Journal<D: Disk> {
+    log: Log<D>,
+    opened: Snapshot<D>,
+}
+
+impl<D: Disk> Model for Journal<D> {
+    ghost use Rattle.round_journal.specs.Kept.{JournalView};
+
+    ghost Value = { JournalView D };
+
+    ghost view = { λ j. record { disk = j.log.disk; gate = j.log.gate; unsettled = j.log.unsettled; opened = j.opened.value } };
+}
+
+impl<D: Disk> Journal<D> {
+    /// Opens a journal, and gives its records in order. It syncs the disk, asks for the length, and reads all bytes. A
+    /// disk of at most nine bytes that stand for no journal is made one with no records: nine bytes are written at 0 and
+    /// synced. Otherwise nothing is written.
+    ///
+    /// After an Ok every present image stands for the records. An Err hands the disk back. Memory: there was none for
+    /// the bytes, the records or the longest record. Device: the disk failed. BadHeader: there are more than nine bytes,
+    /// and they do not begin with the header. BadRecord: the record behind the first faulty open gate runs past the end
+    /// or lacks the next gate (Short), or its body is no act (Body).
+    pub fn open(alloc: Global, mut disk: D) -> Result<(Journal<D>, Vec<Record>), OpenRefused<D>>
+        ensures ok { IfOk result (λ r. IsOpen D.tells D.reads D.moment D.image D.count disk r.0 r.1.items) }
+        ensures err { IfErr result (λ e. IsRefused D.tells D.reads D.moment D.image D.count disk e.disk e.cause) }
+    {
+        let before = disk.faults();
+        let Ok(staging) = Vec::with_capacity(alloc, 2_162_710) else {
+            return Err(OpenRefused {
+                disk,
+                cause: JournalCause::Memory,
+            });
+        };
+        match open_disk(alloc, &mut disk) {
+            Ok(Opening { scan, opened }) => {
+                let log = Log {
+                    disk,
+                    gate: scan.gate,
+                    unsettled: false,
+                    staging,
+                };
+                Ok((Journal { log, opened }, scan.records))
+            }
+            Err(stop) => {
+                let cause = stop.cause(before, disk.faults());
+                Err(OpenRefused { disk, cause })
+            }
+        }
+    }
+
+    /// Appends a record with this body. It asks that the record ends within 2^30 bytes. Four calls of the disk are
+    /// made: the record and a closed gate behind it are written behind the gate and synced, and then the gate is opened
+    /// and synced. Where an append that failed may have begun to open the gate, two calls before these close it again.
+    ///
+    /// After an Ok every present image has the record. An Err means that the disk failed. Then the records are kept as
+    /// they were, and an image may have the new one behind them, or the one of the append that failed before.
+    pub fn append(&mut self, body: &[u8]) -> Result<(), Device>
+        requires short { length body.now ≤ 2162705 }
+        requires near { self.old.gate + 5 + length body.now ≤ 2 ^ 30 }
+        ensures done { OnOk result ((bodies : List (List ℕ)) (last : Option (List ℕ)) → IsKept D.tells D.moment D.image self.old bodies last → IsKept D.tells D.moment D.image self.new (bodies ++ body.now ∷ []) None) }
+        ensures failed { OnErr result ((bodies : List (List ℕ)) (last : Option (List ℕ)) → IsKept D.tells D.moment D.image self.old bodies last
+            → (after : Option (List ℕ)) × IsLast last body.now after × IsKept D.tells D.moment D.image self.new bodies after) }
+        ensures crash { (bodies : List (List ℕ)) (last : Option (List ℕ)) → IsKept D.tells D.moment D.image self.old bodies last
+            → Goes D.moment D.image self.old.disk self.new.disk (HoldsOne bodies last body.now) }
+        ensures gate { OnOk result (self.new.gate ≡ self.old.gate + 5 + length body.now) }
+        ensures gate_err { OnErr result (self.new.gate ≡ self.old.gate) }
+        ensures opened { self.new.opened ≡ self.old.opened }
+        ensures tells { D.tells self.new.disk ≡ D.tells self.old.disk }
+        ensures counts { D.count self.old.disk ≤ D.count self.new.disk }
+        ensures cause { IfErr result (λ e. (e.before ≡ D.count self.old.disk) × (e.after ≡ D.count self.new.disk) × HasRisen e.before e.after) }
+    {
+        let before = self.log.disk.faults();
+        match self.log.append(body) {
+            Ok(()) => Ok(()),
+            Err(_) => Err(Device {
+                before,
+                after: self.log.disk.faults(),
+            }),
+        }
+    }
+
+    /// The disk.
+    pub fn disk(&self) -> &D
+        ensures { result.now ≡ self.now.disk }
+    {
+        &self.log.disk
+    }
+
+    /// The place of the next record's gate: the number of bytes of the header and of the records.
+    pub fn gate(&self) -> u64
+        ensures { result ≡ self.now.gate }
+    {
+        self.log.gate
+    }
+
+    /// Gives the disk back.
+    pub fn close(self) -> D
+        ensures { result ≡ self.disk }
+    {
+        let Journal { log, opened: _ } = self;
+        let Log {
+            disk,
+            gate: _,
+            unsettled: _,
+            staging: _,
+        } = log;
+        disk
+    }
+}

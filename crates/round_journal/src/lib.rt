@@ -1,0 +1,44 @@
+//! A journal of acts on a disk: after a crash the records are there, all but perhaps the last.
+//!
+//! The file begins with the eight bytes `BUREAUJ1`. Then come records: a gate byte, a length of four bytes, big-endian,
+//! and a body. After the last record comes the gate of the next one. A gate is open exactly where it is 1, and anything
+//! may follow a gate that is not. The bytes stand for the bodies of the records behind open gates, in order. A body is
+//! the bytes of an act with the number of its caller.
+//!
+//! An append writes the record and a closed gate behind it, syncs, opens the record's gate, and syncs. So no crash
+//! leaves an open gate before bytes that were not synced. An append that failed once it may have begun to open its gate
+//! leaves that gate unsettled, and the next append closes it first, with a write and a sync of their own.
+//!
+//! An opening syncs, asks for the length, and reads all bytes. Where at most nine bytes stand for no journal it makes
+//! one with no records. Nothing else is ever written over. `read_records` reads the same records and writes nothing.
+//!
+//! What a journal keeps is said by `IsKept`, of any list of bodies: a caller that knows the records of the opening and
+//! its own appends knows what each crash leaves. What is said of bytes holds where the disk tells them. Of a disk that
+//! does not, the counts of faults are known, and that the places and lengths of the records fit one another.
+#![tactic(auto)]
+
+mod cause;
+mod device;
+mod empty;
+mod journal;
+mod laws;
+mod log;
+mod open_refused;
+mod opening;
+mod reading;
+mod record;
+mod scan;
+mod stop;
+mod whole;
+mod written;
+
+pub use cause::{JournalCause, RecordWhy};
+pub use device::Device;
+pub use journal::Journal;
+pub use laws::{bytes_hold_one_list, what_is_kept_stands};
+pub use open_refused::OpenRefused;
+pub use reading::read_records;
+pub use record::Record;
+
+#[cfg(test)]
+mod tests;

@@ -1,0 +1,123 @@
+//! The bytes of a journal on its disk, and the writes of an append.
+ghost use Rattle.std.specs.Prelude.{◌≡◌, ◌+◌, ◌^◌, ◌<◌, ◌≤◌, ℕ, false, List, [], ◌∷◌, ◌++◌, length, Option, Some, None, IsTrue, OnOk, OnErr, vec_capacity};
+ghost use Rattle.disk_model.specs.Calls.{Goes};
+ghost use Rattle.disk_model.specs.Counts.{Counts};
+ghost use Rattle.round_journal.specs.Bytes.{front};
+ghost use Rattle.round_journal.specs.Kept.{staged, HasBodies, HasStaged, IsKeptAt, IsStaged, IsLast, HoldsOne};
+
+use crate::written::write_and_sync;
+use disk_model::{Disk, DiskFailed};
+
+/// A disk with the place of the next record's gate, whether an append that failed may have begun to open that gate, and
+/// room for the bytes of the longest record.
+#[derive(Drop)]
+pub(crate) struct Log<D: Disk> {
+    pub(crate) disk: D,
+    pub(crate) gate: u64,
+    pub(crate) unsettled: bool,
+    pub(crate) staging: Vec<u8>,
+    ghost room: { 2162710 ≤ vec_capacity staging },
+    ghost safe: { IsTrue (D.tells disk) → gate < length (D.reads disk) },
+}
+
+impl<D: Disk> Log<D> {
+    /// Settles the gate where that is due, writes a record behind it, and opens it.
+    pub(crate) fn append(&mut self, body: &[u8]) -> Result<(), DiskFailed>
+        requires short { length body.now ≤ 2162705 }
+        requires near { self.old.gate + 5 + length body.now ≤ 2 ^ 30 }
+        ensures done { OnOk result ((bodies : List (List ℕ)) (last : Option (List ℕ)) → IsKeptAt D.tells D.moment D.image self.old.disk self.old.gate self.old.unsettled bodies last
+            → IsKeptAt D.tells D.moment D.image self.new.disk self.new.gate self.new.unsettled (bodies ++ body.now ∷ []) None) }
+        ensures failed { OnErr result ((bodies : List (List ℕ)) (last : Option (List ℕ)) → IsKeptAt D.tells D.moment D.image self.old.disk self.old.gate self.old.unsettled bodies last
+            → (after : Option (List ℕ)) × IsLast last body.now after × IsKeptAt D.tells D.moment D.image self.new.disk self.new.gate self.new.unsettled bodies after) }
+        ensures crash { (bodies : List (List ℕ)) (last : Option (List ℕ)) → IsKeptAt D.tells D.moment D.image self.old.disk self.old.gate self.old.unsettled bodies last
+            → Goes D.moment D.image self.old.disk self.new.disk (HoldsOne bodies last body.now) }
+        ensures gate { OnOk result (self.new.gate ≡ self.old.gate + 5 + length body.now) }
+        ensures gate_err { OnErr result (self.new.gate ≡ self.old.gate) }
+        ensures tells { D.tells self.new.disk ≡ D.tells self.old.disk }
+        ensures cause { Counts (D.count self.old.disk) (D.count self.new.disk) result }
+    {
+        self.settle()?;
+        self.stage(body)?;
+        self.open_gate(body.len() as u64)?;
+        Ok(())
+    }
+
+    // Closes a gate that an append has begun to open and may not have opened.
+    fn settle(&mut self) -> Result<(), DiskFailed>
+        requires { self.old.gate ≤ 2 ^ 30 }
+        ensures done { OnOk result ((bodies : List (List ℕ)) (last : Option (List ℕ)) → IsKeptAt D.tells D.moment D.image self.old.disk self.old.gate self.old.unsettled bodies last
+            → IsKeptAt D.tells D.moment D.image self.new.disk self.new.gate self.new.unsettled bodies None) }
+        ensures failed { OnErr result ((bodies : List (List ℕ)) (last : Option (List ℕ)) → IsKeptAt D.tells D.moment D.image self.old.disk self.old.gate self.old.unsettled bodies last
+            → IsKeptAt D.tells D.moment D.image self.new.disk self.new.gate self.new.unsettled bodies last) }
+        ensures crash { (bodies : List (List ℕ)) (last : Option (List ℕ)) → IsKeptAt D.tells D.moment D.image self.old.disk self.old.gate self.old.unsettled bodies last
+            → Goes D.moment D.image self.old.disk self.new.disk (HasBodies bodies last) }
+        ensures settled { OnOk result (self.new.unsettled ≡ false) }
+        ensures gate { self.new.gate ≡ self.old.gate }
+        ensures tells { D.tells self.new.disk ≡ D.tells self.old.disk }
+        ensures cause { Counts (D.count self.old.disk) (D.count self.new.disk) result }
+    {
+        if !self.unsettled {
+            return Ok(());
+        }
+        write_and_sync(&mut self.disk, self.gate, &[0])?;
+        self.unsettled = false;
+        Ok(())
+    }
+
+    // Writes the record and the next gate behind the gate, which stays closed.
+    fn stage(&mut self, body: &[u8]) -> Result<(), DiskFailed>
+        requires short { length body.now ≤ 2162705 }
+        requires near { self.old.gate ≤ 2 ^ 30 }
+        requires settled { self.old.unsettled ≡ false }
+        ensures done { OnOk result ((bodies : List (List ℕ)) → IsKeptAt D.tells D.moment D.image self.old.disk self.old.gate false bodies None
+            → IsStaged D.tells D.moment D.image self.new.disk self.new.gate bodies body.now) }
+        ensures failed { OnErr result ((bodies : List (List ℕ)) → IsKeptAt D.tells D.moment D.image self.old.disk self.old.gate false bodies None
+            → IsKeptAt D.tells D.moment D.image self.new.disk self.new.gate false bodies None) }
+        ensures crash { (bodies : List (List ℕ)) → IsKeptAt D.tells D.moment D.image self.old.disk self.old.gate false bodies None
+            → Goes D.moment D.image self.old.disk self.new.disk (HasBodies bodies None) }
+        ensures long { OnOk result (IsTrue (D.tells self.new.disk) → self.old.gate + 5 + length body.now < length (D.reads self.new.disk)) }
+        ensures settled { self.new.unsettled ≡ false }
+        ensures gate { self.new.gate ≡ self.old.gate }
+        ensures tells { D.tells self.new.disk ≡ D.tells self.old.disk }
+        ensures cause { Counts (D.count self.old.disk) (D.count self.new.disk) result }
+    {
+        fill(&mut self.staging, body);
+        write_and_sync(&mut self.disk, self.gate + 1, &self.staging)?;
+        Ok(())
+    }
+
+    // Opens the gate before the record that stands behind it.
+    fn open_gate(&mut self, len: u64) -> Result<(), DiskFailed>
+        requires near { self.old.gate + 5 + len ≤ 2 ^ 30 }
+        requires long { IsTrue (D.tells self.old.disk) → self.old.gate + 5 + len < length (D.reads self.old.disk) }
+        ensures done { OnOk result ((bodies : List (List ℕ)) (body : List ℕ) → length body ≡ len → IsStaged D.tells D.moment D.image self.old.disk self.old.gate bodies body
+            → IsKeptAt D.tells D.moment D.image self.new.disk self.new.gate self.new.unsettled (bodies ++ body ∷ []) None) }
+        ensures failed { OnErr result ((bodies : List (List ℕ)) (body : List ℕ) → length body ≡ len → IsStaged D.tells D.moment D.image self.old.disk self.old.gate bodies body
+            → IsKeptAt D.tells D.moment D.image self.new.disk self.new.gate self.new.unsettled bodies (Some body)) }
+        ensures crash { (bodies : List (List ℕ)) (body : List ℕ) → length body ≡ len → IsStaged D.tells D.moment D.image self.old.disk self.old.gate bodies body
+            → Goes D.moment D.image self.old.disk self.new.disk (HasStaged (front bodies) (staged body)) }
+        ensures gate { OnOk result (self.new.gate ≡ self.old.gate + 5 + len) }
+        ensures gate_err { OnErr result (self.new.gate ≡ self.old.gate) }
+        ensures tells { D.tells self.new.disk ≡ D.tells self.old.disk }
+        ensures cause { Counts (D.count self.old.disk) (D.count self.new.disk) result }
+    {
+        self.unsettled = true;
+        write_and_sync(&mut self.disk, self.gate, &[1])?;
+        self.unsettled = false;
+        self.gate += 5 + len;
+        Ok(())
+    }
+}
+
+// Puts the length, the body and a closed gate into the buffer.
+fn fill(staging: &mut Vec<u8>, body: &[u8])
+    requires room { 2162710 ≤ vec_capacity staging.old }
+    requires short { length body.now ≤ 2162705 }
+    ensures items { staging.new.items ≡ staged body.now }
+    ensures room { 2162710 ≤ vec_capacity staging.new }
+{
+    staging.clear();
+    let _ = staging.extend_from_slice(&(body.len() as u32).to_be_bytes());
+    let _ = staging.extend_from_slice(body);
+    let _ = staging.push(0);
+}
