@@ -17,3 +17,6 @@ pub use publication::publication_reply;
 pub use replay_stop::ReplayStop;
 pub use replaying::replay;
 pub use room::Room;
+
+#[cfg(test)]
+mod tests;

@@ -35,9 +35,7 @@ pub fn publication_reply(
         return Ok(Reply::Refused(Why::NoRound));
     }
     if owner != caller {
-        return Ok(Reply::Refused(Why::NotOwner {
-            round: cut.round(),
-        }));
+        return Ok(Reply::Refused(Why::NotOwner { round: cut.round() }));
     }
     proof_reply(alloc, cut, outcome)
 }

@@ -59,12 +59,7 @@ fn replay_one(alloc: Global, book: &mut LimitedBook, kept: &Record) -> Result<()
 }
 
 // The same of an act that is no Close and no publication.
-fn replay_act(
-    book: &mut LimitedBook,
-    offset: u64,
-    caller: u32,
-    act: &Act,
-) -> Result<(), ReplayStop>
+fn replay_act(book: &mut LimitedBook, offset: u64, caller: u32, act: &Act) -> Result<(), ReplayStop>
     requires valid { is_valid act.now ≡ true }
     requires apart { is_publication act.now ≡ false }
     requires other { is_close act.now ≡ false }
@@ -115,7 +110,9 @@ fn replay_close(
     let act = Act::Close { kind, horizon };
     book.reserve(&act)?;
     match book.answer(caller, &act) {
-        Reply::Opened { round } => replay_opening(alloc, book, offset, caller, kind, horizon, round),
+        Reply::Opened { round } => replay_opening(
+            alloc, book, offset, caller, kind, horizon, round,
+        ),
         reply => put_reply(book, offset, Entry { caller, act, reply }),
     }
 }
@@ -138,7 +135,14 @@ fn replay_opening(
 {
     cut_of_a_history_is_of_its_facts();
     let known = book.book();
-    let cut = build_cut(alloc, known.claims(), known.accounts(), kind, horizon, round)?;
+    let cut = build_cut(
+        alloc,
+        known.claims(),
+        known.accounts(),
+        kind,
+        horizon,
+        round,
+    )?;
     if book.fits_opening(caller, kind, horizon, &cut).is_err() {
         return Err(ReplayStop::Overfull { offset });
     }
