@@ -1,0 +1,3 @@
+pub mod Limited
+pub mod Replays
+pub mod Laws
