@@ -1,5 +1,5 @@
 -- The steps of a replay.
-use Rattle.std.specs.Prelude.{reverse, Result, IfErr}
+use Rattle.std.specs.Prelude.{reverse}
 use Rattle.std.proofs.Common.{◌≡◌, ℕ, ◌+◌, ◌<◌, Bool, true, false, not, ◌||◌, List, [], ◌∷◌, ◌++◌, length, get_or, take, drop, map, All, refl, sym, ◌∙◌, ap, ap₂, subst, true≢false, take-append-drop, append_assoc}
 use Rattle.std.proofs.lemmas.List.{map-append, reverse-append, reverse-reverse, take_more}
 use Rattle.std.proofs.lemmas.List.Elements.{All-push}
@@ -14,7 +14,7 @@ use Rattle.claim_history.specs.Acts.{is_publication}
 use Rattle.claim_history.specs.Facts.{claim_facts, account_facts}
 use Rattle.claim_history.specs.Cut.{cut_of}
 use Rattle.claim_history.specs.States.{state, state_of}
-use Rattle.claim_history.specs.History.{AreValid, Call, IsLegal, answer, answer_of, ask, is_accepted, is_no_refusal, is_opening, replay_after, replay_of, replied}
+use Rattle.claim_history.specs.History.{AreValid, Call, IsLegal, answer, answer_of, ask, is_accepted, is_no_refusal, is_opening, replay_after, replied}
 use Rattle.claim_history.specs.Needs.{IsWithinLimits, is_full, with_due}
 use Rattle.claim_history.proofs.Pasts.{entry_of}
 use Rattle.claim_history.proofs.Replies.{opens}
@@ -26,7 +26,7 @@ use Rattle.limited_book.proofs.Limits.{publication_of}
 use Rattle.limited_book.proofs.Publications.{false_so}
 use Rattle.limited_book.specs.declared.replay_stop.ReplayStop.{ReplayStop}
 use Rattle.limited_book.specs.declared.replay_stop.ReplayStop.TheVariants.{Memory, BadAct, Overfull}
-use Rattle.limited_book.specs.Replays.{AreSound, IsFirstFaulty, IsReplayed, StopsFirst, Tells, TellsFirst, call_of, history_of, is_close, is_faulty}
+use Rattle.limited_book.specs.Replays.{AreSound, IsReplayed, StopsFirst, Tells, call_of, history_of, is_close, is_faulty}
 
 -- ---- Closes
 

@@ -1,7 +1,5 @@
-use Rattle.std.specs.Prelude.{Option}
-use Rattle.std.specs.Option.{option_map}
 use Rattle.std.proofs.Common.{sym, ◌∙◌, ap, subst}
-use Rattle.setoff_model.specs.CutView.{CutView, WellFormed}
+use Rattle.setoff_model.specs.CutView.{WellFormed}
 use Rattle.claim_book.specs.Book.{BookView, open_cut_of}
 use Rattle.claim_history.specs.States.{state_of}
 use Rattle.limited_book.proofs.Needs.{open_of}
