@@ -1,0 +1,4 @@
+pub mod Results
+pub mod Histories
+pub mod Grow
+pub mod Recording

@@ -1,0 +1,5 @@
+pub mod Calls
+pub mod Moments
+pub mod Devices
+pub mod Rounds
+pub mod Recorded
