@@ -225,6 +225,16 @@ impl Book {
         }
     }
 
+    /// The cut of the open round; None exactly where no round is open. It takes no memory.
+    pub fn kept_cut(&self) -> Option<&Cut>
+        ensures { option_map (λ cut. cut.now) result ≡ open_cut_of self.now.history }
+    {
+        match &self.kept {
+            None => None,
+            Some(round) => Some(&round.cut),
+        }
+    }
+
     /// The number of the open round; None exactly where no round is open. It takes no memory.
     pub fn open_round(&self) -> Option<u32>
         ensures { result ≡ option_map (λ round. round.cut.round) (state_of self.now.history).open_round }
