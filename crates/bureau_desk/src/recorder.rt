@@ -1,19 +1,20 @@
 //! The record of a desk's calls on its disk.
-ghost use Rattle.std.specs.Prelude.{◌≡◌, ◌+◌, ◌^◌, ◌≤◌, ℕ, List, [], ◌∷◌, ◌++◌, length, true, IfErr, IfOk, OnOk, OnErr, IsTrue};
+ghost use Rattle.std.specs.Prelude.{◌≡◌, ◌+◌, ◌^◌, ◌≤◌, ℕ, List, [], ◌∷◌, ◌++◌, length, true, false, IfErr, IfOk, OnOk, OnErr, IsTrue};
 ghost use Rattle.disk_model.specs.Calls.{Goes};
 ghost use Rattle.disk_model.specs.Counts.{HasRisen};
 ghost use Rattle.claim_history.specs.declared.entry.Entry.{Entry};
 ghost use Rattle.claim_history.specs.declared.entry.Reply.{Reply};
 ghost use Rattle.claim_history.specs.declared.entry.Reply.TheVariants as reply;
 ghost use Rattle.claim_history.specs.declared.entry.Why.TheVariants as why;
-ghost use Rattle.claim_history.specs.History.{is_no_refusal};
-ghost use Rattle.claim_history.specs.Needs.{body_length_of};
+ghost use Rattle.claim_history.specs.History.{is_no_refusal, answer_of, MayFollow};
+ghost use Rattle.claim_history.specs.Needs.{body_length_of, is_of_device};
 ghost use Rattle.act_bodies.specs.Bodies.{is_keepable};
 ghost use Rattle.bureau_desk.specs.Calls.{HoldsDuring};
 ghost use Rattle.bureau_desk.specs.Recorded.{Records};
+ghost use Rattle.bureau_desk.specs.Devices.{IsReplied};
 
 use act_bodies::encode;
-use claim_history::Act;
+use claim_history::{Act, Reply, Why};
 use disk_model::Disk;
 use round_journal::{Device, Journal};
 use std::alloc::AllocError;
@@ -77,6 +78,38 @@ impl<D: Disk> Recorder<D> {
         self.journal.append(&self.body)
     }
 
+    /// Keeps a reply that is due to a call: the call is appended where the reply accepts its act, and the disk is not called
+    /// otherwise. There is room for its body, and a record of it ends within 2^30 bytes. It takes no memory.
+    ///
+    /// The reply that is given is the due one, or tells that the disk failed between the two counts.
+    pub fn keep(&mut self, caller: u32, act: &Act, due: Reply) -> Reply
+        requires kept { is_keepable caller act.now ≡ true }
+        requires room { body_length_of act.now ≤ self.old.spare }
+        requires near { is_no_refusal due ≡ true → self.old.journal.gate + 5 + body_length_of act.now ≤ 2 ^ 30 }
+        requires undevice { is_of_device due ≡ false }
+        ensures records { (history : List Entry) → Records D.tells D.moment D.image D.count self.old history
+            → Records D.tells D.moment D.image D.count self.new (history ++ record { caller = caller; act = act.now; reply = result } ∷ []) }
+        ensures follows { (history : List Entry) → Records D.tells D.moment D.image D.count self.old history → due ≡ answer_of history caller act.now
+            → MayFollow history (record { caller = caller; act = act.now; reply = result }) }
+        ensures crash { (history : List Entry) → Records D.tells D.moment D.image D.count self.old history → IsTrue (D.tells self.old.journal.disk)
+            → Goes D.moment D.image self.old.journal.disk self.new.journal.disk (HoldsDuring history (record { caller = caller; act = act.now })) }
+        ensures replied { IsReplied (D.count self.old.journal.disk) (D.count self.new.journal.disk) due result }
+        ensures quiet { is_no_refusal due ≡ false → self.new ≡ self.old }
+        ensures tells { D.tells self.new.journal.disk ≡ D.tells self.old.journal.disk }
+        ensures room { self.old.spare ≤ self.new.spare }
+        ensures opening { self.new.journal.opened ≡ self.old.journal.opened }
+        ensures opened { (self.new.opened ≡ self.old.opened) × (self.new.opened_with ≡ self.old.opened_with) }
+        ensures cleared { (self.new.cleared ≡ self.old.cleared) × (self.new.cleared_with ≡ self.old.cleared_with) }
+    {
+        if !accepts(due) {
+            return due;
+        }
+        match self.append(caller, act) {
+            Ok(()) => due,
+            Err(Device { before, after }) => Reply::Refused(Why::Device { before, after }),
+        }
+    }
+
     /// Sets the last clearing to the present moment and so many entries.
     pub fn clear(&mut self, entries: u64)
         ensures journal { self.new.journal ≡ self.old.journal }
@@ -110,4 +143,10 @@ impl<D: Disk> Recorder<D> {
         } = self;
         journal.close()
     }
+}
+
+fn accepts(reply: Reply) -> bool
+    ensures { result ≡ is_no_refusal reply }
+{
+    !matches!(reply, Reply::Refused(_))
 }
