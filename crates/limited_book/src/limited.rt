@@ -88,6 +88,7 @@ impl LimitedBook {
         ensures openings { (state_of self.now.history).openings ≤ result.entries }
         ensures legal { IsLegal self.now.history }
         ensures valid { AreValid self.now.history }
+        ensures within { IsWithinLimits self.now.history }
     {
         let _history = self.book.history();
         Need {
