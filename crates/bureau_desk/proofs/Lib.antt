@@ -2,3 +2,4 @@ pub mod Results
 pub mod Histories
 pub mod Grow
 pub mod Recording
+pub mod Acted

@@ -3,3 +3,4 @@ pub mod Moments
 pub mod Devices
 pub mod Rounds
 pub mod Recorded
+pub mod Acting

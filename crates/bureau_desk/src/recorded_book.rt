@@ -1,0 +1,113 @@
+//! A book whose accepted acts are in a journal.
+ghost use Rattle.std.specs.Prelude.{◌≡◌, ◌+◌, ◌≤◌, ◌++◌, ◌∷◌, [], true, false, IfOk, IfErr, OnOk, OnErr};
+ghost use Rattle.claim_history.specs.Acts.{is_valid, is_publication};
+ghost use Rattle.claim_history.specs.States.{state_of};
+ghost use Rattle.claim_history.specs.History.{answer_of, is_opening};
+ghost use Rattle.claim_history.specs.Needs.{body_length_of, is_full};
+ghost use Rattle.act_bodies.specs.Bodies.{is_keepable};
+ghost use Rattle.claim_book.specs.Book.{room_for};
+ghost use Rattle.bureau_desk.specs.Recorded.{Records};
+ghost use Rattle.bureau_desk.specs.Acting.{is_close, HasActed, IsActError, IsSameBase, IsUntouched};
+
+use crate::act_error::ActError;
+use crate::recorder::Recorder;
+use act_bodies::body_length;
+use claim_history::{Act, Entry, Reply};
+use disk_model::Disk;
+use limited_book::{Full, LimitedBook};
+use std::alloc::AllocError;
+use std::marker::Model;
+
+/// A book within the limits, with the record of its calls on a disk.
+#[derive(Drop)]
+pub struct RecordedBook<D: Disk> {
+    pub(crate) recorder: Recorder<D>,
+    pub(crate) book: LimitedBook,
+}
+
+impl<D: Disk> Model for RecordedBook<D> {
+    ghost use Rattle.bureau_desk.specs.Acting.{RecordedView};
+    ghost use Rattle.bureau_desk.specs.Recorded.{Records};
+
+    ghost Value = { RecordedView D };
+
+    ghost view = { λ b. record { recorder = b.recorder; book = b.book } };
+
+    ghost invariant = { λ b. Records D.tells D.moment D.image D.count b.recorder b.book.history };
+}
+
+impl<D: Disk> RecordedBook<D> {
+    /// The book, of whose history the record is.
+    pub fn book(&self) -> &LimitedBook
+        ensures book { result.now ≡ self.now.book }
+        ensures records { Records D.tells D.moment D.image D.count self.now.recorder self.now.book.history }
+    {
+        &self.book
+    }
+
+    /// Makes the room that an act needs in the book, and for its body. It lowers no room that was made before. The only error
+    /// is that memory is missing.
+    pub fn make_room(&mut self, act: &Act) -> Result<(), AllocError>
+        requires valid { is_valid act.now ≡ true }
+        ensures room { OnOk result (room_for (state_of self.old.book.history) act.now ≤ self.new.book.room) }
+        ensures spare { OnOk result (body_length_of act.now ≤ self.new.recorder.spare) }
+        ensures untouched { IsUntouched self.old self.new }
+        ensures spare_kept { self.old.recorder.spare ≤ self.new.recorder.spare }
+        ensures base { IsSameBase self.old.recorder self.new.recorder }
+    {
+        self.recorder.reserve(body_length(act) as usize)?;
+        self.book.reserve(act)?;
+        Ok(())
+    }
+
+    /// Keeps the reply that is due to an act, and puts its entry at the end. The act publishes nothing, and its reply opens no
+    /// round. There is room for it, and it is within the limits.
+    pub fn put(&mut self, caller: u32, act: Act, due: Reply) -> Reply
+        requires kept { is_keepable caller act ≡ true }
+        requires apart { is_publication act ≡ false }
+        requires no_opening { is_opening due ≡ false }
+        requires due { due ≡ answer_of self.old.book.history caller act }
+        requires fits { is_full self.old.book.history caller act ≡ false }
+        requires room { room_for (state_of self.old.book.history) act ≤ self.old.book.room }
+        requires spare { body_length_of act ≤ self.old.recorder.spare }
+        ensures acted { HasActed D.tells D.moment D.image D.count self.old.recorder.journal.disk self.new.recorder.journal.disk self.old.book.history self.new.book.history caller act result }
+        ensures room { self.old.book.room ≤ self.new.book.room + 1 }
+        ensures spare { self.old.recorder.spare ≤ self.new.recorder.spare }
+        ensures base { IsSameBase self.old.recorder self.new.recorder }
+    {
+        let reply = self.recorder.keep(caller, &act, due);
+        self.book.apply(Entry { caller, act, reply });
+        reply
+    }
+
+    /// Asks an act that is no Close and no publication, by a caller other than the bureau itself.
+    pub fn act(&mut self, caller: u32, act: Act) -> Result<Reply, ActError>
+        requires caller { 1 ≤ caller }
+        requires valid { is_valid act ≡ true }
+        requires apart { is_publication act ≡ false }
+        requires other { is_close act ≡ false }
+        ensures acted { IfOk result (λ got. HasActed D.tells D.moment D.image D.count self.old.recorder.journal.disk self.new.recorder.journal.disk self.old.book.history self.new.book.history caller act got) }
+        ensures error { IfErr result (IsActError self.old.book.history caller act) }
+        ensures untouched { OnErr result (IsUntouched self.old self.new) }
+        ensures room { OnOk result (room_for (state_of self.old.book.history) act ≤ self.new.book.room + 1) }
+        ensures spare { self.old.recorder.spare ≤ self.new.recorder.spare }
+        ensures base { IsSameBase self.old.recorder self.new.recorder }
+    {
+        if self.make_room(&act).is_err() {
+            return Err(ActError::Memory);
+        }
+        let due = self.book.answer(caller, &act);
+        match self.book.fits(caller, &act, due) {
+            Ok(()) => Ok(self.put(caller, act, due)),
+            Err(Full {
+                what,
+                needed,
+                limit,
+            }) => Err(ActError::Full {
+                what,
+                needed,
+                limit,
+            }),
+        }
+    }
+}
