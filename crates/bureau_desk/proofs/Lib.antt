@@ -3,3 +3,5 @@ pub mod Histories
 pub mod Grow
 pub mod Recording
 pub mod Acted
+pub mod Cuts
+pub mod Keeping

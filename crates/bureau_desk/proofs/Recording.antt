@@ -21,7 +21,7 @@ use Rattle.bureau_desk.specs.Moments.{HoldsAt, HasMoments, HeldSince}
 use Rattle.bureau_desk.specs.Devices.{IsBetween, AreBetween}
 use Rattle.bureau_desk.specs.Recorded.{RecorderView, IsTried, KeepsAccepted, IsRecorded, Records}
 use Rattle.bureau_desk.proofs.Histories.{accepted_more, accepted_same, bodies_append, tried_new, tried_stays, during_accepted, during_failed, all_holds}
-use Rattle.bureau_desk.proofs.Grow.{moments_kept, moments_grow, held_on}
+use Rattle.bureau_desk.proofs.Grow.{moments_kept, moments_grow, held_on, held_now}
 
 -- what an append may leave is what is left by the history, or its accepted calls and the one in progress
 pub during_of_one : (history : List Entry) (last : Option (List ℕ)) (call : Call) (c : List ℕ) → IsTried history last → HoldsOne (bodies_of_calls (accepted_calls history)) last (body_of call.caller call.act) c → HoldsDuring history call c
@@ -116,6 +116,26 @@ module _ {D : Type 0} (tells : D → Bool) (moment : D → ℕ) (image : D → �
           since = held_on (moment r.journal.disk) (moment r.journal.disk) (image r.journal.disk) (image r.journal.disk) (moment r.cleared) r.cleared_with history e empty has.cleared_few was.since stays (λ c no. absurd no);
         };
       }
+
+  -- a clearing
+  pub records_cleared : (r r' : RecorderView D) (history : List Entry) → Records tells moment image count r history → r'.journal ≡ r.journal → r'.opened ≡ r.opened → r'.opened_with ≡ r.opened_with → r'.cleared ≡ r.journal.disk → r'.cleared_with ≡ length history → Records tells moment image count r' history
+  records_cleared r r' history has journal opened opened_with cleared cleared_with =
+      let was : Records tells moment image count (view_at r.journal r'.spare r.opened r.opened_with r.journal.disk (length history)) history = record {
+        place = has.place;
+        opened_few = has.opened_few;
+        cleared_few = omega arith;
+        counted = has.counted;
+        later = has.later;
+        between = has.between;
+        told = λ told. let was = has.told told in record { kept = was.kept; moments = was.moments; since = held_now (moment r.journal.disk) (image r.journal.disk) (moment r.journal.opened) r.opened_with history was.moments };
+      } in
+      let is : view_at r.journal r'.spare r.opened r.opened_with r.journal.disk (length history) ≡ r' =
+      ap (λ (j : JournalView D). view_at j r'.spare r.opened r.opened_with r.journal.disk (length history)) (sym journal)
+      ∙ ap (λ (d : D). view_at r'.journal r'.spare d r.opened_with r.journal.disk (length history)) (sym opened)
+      ∙ ap (λ (n : ℕ). view_at r'.journal r'.spare r'.opened n r.journal.disk (length history)) (sym opened_with)
+      ∙ ap (λ (d : D). view_at r'.journal r'.spare r'.opened r'.opened_with d (length history)) (sym cleared)
+      ∙ ap (λ (n : ℕ). view_at r'.journal r'.spare r'.opened r'.opened_with r'.cleared n) (sym cleared_with) in
+      subst (λ (v : RecorderView D). Records tells moment image count v history) is was
 
   -- an append of the call of an entry
   module _ (j j' : JournalView D) (spare spare' : ℕ) (opened : D) (opened_with : ℕ) (cleared : D) (cleared_with : ℕ) (history : List Entry) (e : Entry) (body : List ℕ)

@@ -4,3 +4,4 @@ pub mod Devices
 pub mod Rounds
 pub mod Recorded
 pub mod Acting
+pub mod Desks

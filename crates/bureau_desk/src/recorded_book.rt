@@ -1,5 +1,5 @@
 //! A book whose accepted acts are in a journal.
-ghost use Rattle.std.specs.Prelude.{◌≡◌, ◌+◌, ◌≤◌, ◌++◌, ◌∷◌, [], true, false, IfOk, IfErr, OnOk, OnErr};
+ghost use Rattle.std.specs.Prelude.{◌≡◌, ◌+◌, ◌≤◌, ◌++◌, ◌∷◌, [], length, true, false, IfOk, IfErr, OnOk, OnErr};
 ghost use Rattle.claim_history.specs.Acts.{is_valid, is_publication};
 ghost use Rattle.claim_history.specs.States.{state_of};
 ghost use Rattle.claim_history.specs.History.{answer_of, is_opening};
@@ -109,5 +109,40 @@ impl<D: Disk> RecordedBook<D> {
                 limit,
             }),
         }
+    }
+
+    /// Sets the last clearing to the present.
+    pub fn clear(&mut self)
+        ensures book { self.new.book ≡ self.old.book }
+        ensures journal { self.new.recorder.journal ≡ self.old.recorder.journal }
+        ensures room { self.new.recorder.spare ≡ self.old.recorder.spare }
+        ensures opened { (self.new.recorder.opened ≡ self.old.recorder.opened) × (self.new.recorder.opened_with ≡ self.old.recorder.opened_with) }
+        ensures cleared { self.new.recorder.cleared ≡ self.old.recorder.journal.disk }
+        ensures cleared_with { self.new.recorder.cleared_with ≡ length self.old.book.history }
+    {
+        let entries = self.book.book().history().len() as u64;
+        self.recorder.clear(entries);
+    }
+
+    /// The disk's count of faults.
+    pub fn faults(&self) -> u64
+        ensures { result ≡ D.count self.now.recorder.journal.disk }
+    {
+        self.recorder.faults()
+    }
+
+    /// How many entries were opened.
+    pub fn opened_with(&self) -> u64
+        ensures { result ≡ self.now.recorder.opened_with }
+    {
+        self.recorder.opened_with()
+    }
+
+    /// Gives the disk back.
+    pub fn close(self) -> D
+        ensures { result ≡ self.recorder.journal.disk }
+    {
+        let RecordedBook { recorder, book: _ } = self;
+        recorder.close()
     }
 }

@@ -122,6 +122,13 @@ impl<D: Disk> Recorder<D> {
         self.cleared_with = entries;
     }
 
+    /// How many entries were opened.
+    pub fn opened_with(&self) -> u64
+        ensures { result ≡ self.now.opened_with }
+    {
+        self.opened_with
+    }
+
     /// The disk's count of faults.
     pub fn faults(&self) -> u64
         ensures { result ≡ D.count self.now.journal.disk }

@@ -1,0 +1,157 @@
+-- The rounds of a desk, and the memory for the publication of the open one.
+use Rattle.std.proofs.Common.{◌≡◌, ◌∙◌, ◌⊎◌, ⊎_elim, inl, inr, ℕ, ◌+◌, ◌<◌, ◌≤◌, Bool, true, false, if◌then◌else◌, Option, Some, None, List, [], ◌∷◌, ◌++◌, length, reverse, refl, sym, ap, subst, arith, length-append}
+use Rattle.std.specs.Prelude.{is_some, nat_lt}
+use Rattle.std.proofs.lemmas.Bool.{le-ltb, lt-ltb}
+use Rattle.std.proofs.lemmas.List.{reverse-append, length-reverse, append-nil}
+use Rattle.setoff_model.specs.CutView.{CutView}
+use Rattle.setoff_model.specs.declared.kind.Kind.{Kind}
+use Rattle.claim_history.specs.declared.act.Act.{Act}
+use Rattle.claim_history.specs.declared.act.Act.TheVariants as act
+use Rattle.claim_history.specs.declared.entry.Entry.{Entry}
+use Rattle.claim_history.specs.declared.entry.Reply.{Reply}
+use Rattle.claim_history.specs.declared.entry.Reply.TheVariants as reply
+use Rattle.claim_history.specs.declared.entry.Why.{Why}
+use Rattle.claim_history.specs.declared.entry.Why.TheVariants as why
+use Rattle.claim_history.specs.declared.fact.Position.{Position}
+use Rattle.claim_history.specs.Acts.{is_publication}
+use Rattle.claim_history.specs.States.{OpenRound, State, state, state_of, after}
+use Rattle.claim_history.specs.History.{answer, answer_of, close_answer, abandon_answer, close_refusals, abandon_refusals, is_opening, is_no_refusal, IsReply}
+use Rattle.claim_history.specs.History.IsReply.{replied}
+use Rattle.claim_history.proofs.Histories.{answer_cases}
+use Rattle.claim_history.proofs.Rows.{by_rows}
+use Rattle.claim_history.proofs.Replies.{opens}
+use Rattle.claim_book.specs.Book.{room_for}
+use Rattle.bureau_desk.specs.Devices.{IsReplied}
+use Rattle.bureau_desk.specs.Rounds.{cut_published, cuts_past, cuts_after}
+use Rattle.bureau_desk.specs.Recorded.{RecorderView}
+use Rattle.bureau_desk.specs.Acting.{RecordedView, IsSameBase, is_close, entry_of, publication_bytes}
+use Rattle.bureau_desk.specs.Desks.{IsDesk, HasPlaces}
+
+-- ---- cuts
+
+all_before : (count : ℕ) (past : List Entry) → length past ≤ count → cuts_past count past ≡ []
+all_before count [] le = refl
+all_before count (e ∷ past) le = ap (λ (b : Bool). if b then [] else cuts_past count past ++ cut_published (state past).open_round e.reply) (lt-ltb (length past) count (omega (arith, le)))
+
+pub cuts_none : (history : List Entry) → cuts_after (length history) history ≡ []
+cuts_none history = all_before (length history) (reverse history) (omega (arith, length-reverse history))
+
+pub cuts_more : (count : ℕ) (history : List Entry) (e : Entry) → count ≤ length history → cuts_after count (history ++ e ∷ []) ≡ cuts_after count history ++ cut_published (state_of history).open_round e.reply
+cuts_more count history e le =
+    ap (cuts_past count) (reverse-append history (e ∷ []))
+    ∙ ap (λ (b : Bool). if b then [] else cuts_past count (reverse history) ++ cut_published (state_of history).open_round e.reply) (le-ltb (length (reverse history)) count (omega (arith, le, length-reverse history)))
+
+-- the reply publishes nothing
+abbrev pub IsUnpublished : Reply → Type 0
+IsUnpublished r = (o : Option OpenRound) → cut_published o r ≡ []
+
+refused_publishes : (w : Why) → IsUnpublished (reply.Refused w)
+refused_publishes w None = refl
+refused_publishes w (Some round) = refl
+
+done_publishes : IsUnpublished reply.Done
+done_publishes None = refl
+done_publishes (Some round) = refl
+
+position_publishes : (p : Position) → IsUnpublished (reply.Position p)
+position_publishes p None = refl
+position_publishes p (Some round) = refl
+
+opened_publishes : (n : ℕ) → IsUnpublished (reply.Opened n)
+opened_publishes n None = refl
+opened_publishes n (Some round) = refl
+
+continued_publishes : (n : ℕ) → IsUnpublished (reply.Continued n)
+continued_publishes n None = refl
+continued_publishes n (Some round) = refl
+
+abandoned_publishes : (n : ℕ) → IsUnpublished (reply.Abandoned n)
+abandoned_publishes n None = refl
+abandoned_publishes n (Some round) = refl
+
+close_publishes : (n : ℕ) (o : Option OpenRound) (caller : ℕ) (kind : Kind) (horizon : ℕ) → IsUnpublished (close_answer n o caller kind horizon)
+close_publishes n None caller kind horizon = opened_publishes (n + 1)
+close_publishes n (Some round) caller kind horizon = by_rows IsUnpublished (close_refusals round caller kind horizon) (reply.Continued round.cut.round) refused_publishes (λ h. continued_publishes round.cut.round)
+
+abandon_publishes : (o : Option OpenRound) (caller : ℕ) → IsUnpublished (abandon_answer o caller)
+abandon_publishes None caller = refused_publishes why.NoRound
+abandon_publishes (Some round) caller = by_rows IsUnpublished (abandon_refusals round caller) (reply.Abandoned round.cut.round) refused_publishes (λ h. abandoned_publishes round.cut.round)
+
+pub answer_publishes : (s : State) (caller : ℕ) (a : Act) → is_publication a ≡ false → IsUnpublished (answer s caller a)
+answer_publishes s caller (act.Close kind horizon) other = close_publishes s.openings s.open_round caller kind horizon
+answer_publishes s caller act.Abandon other = abandon_publishes s.open_round caller
+answer_publishes s caller (act.Publish number outcome) other = absurd (cc other)
+answer_publishes s caller a other = answer_cases IsUnpublished s caller a refl refused_publishes done_publishes (λ firm. position_publishes _)
+
+pub got_publishes : (before counted : ℕ) (due got : Reply) → IsUnpublished due → IsReplied before counted due got → IsUnpublished got
+got_publishes before counted due got un told = ⊎_elim
+    (λ same. subst IsUnpublished (sym same) un)
+    (λ failed. subst IsUnpublished (sym failed.1) (refused_publishes (why.Device before counted)))
+    told
+
+-- ---- the open round
+
+not_true : (b : Bool) → (b ≡ true → ⊥) → b ≡ false
+not_true true f = absurd (f refl)
+not_true false f = refl
+
+pub answer_opens_none : (s : State) (caller : ℕ) (a : Act) → is_close a ≡ false → is_opening (answer s caller a) ≡ false
+answer_opens_none s caller a other = not_true (is_opening (answer s caller a)) (λ opening. let o = opens s 0 caller a (answer s caller a) (replied refl) opening in cc (other, ap is_close o.act_is))
+
+pub got_opens_none : (before counted : ℕ) (due got : Reply) → is_opening due ≡ false → IsReplied before counted due got → is_opening got ≡ false
+got_opens_none before counted due got un told = ⊎_elim (λ same. ap is_opening same ∙ un) (λ failed. ap is_opening failed.1) told
+
+open_before : (caller : ℕ) (a : Act) (r : Reply) (s : State) (round : OpenRound) → is_opening r ≡ false → (after caller a r s).open_round ≡ Some round → s.open_round ≡ Some round
+open_before caller a (reply.Opened n) s round un is = absurd (cc un)
+open_before caller a (reply.Published total) s round un is = absurd (cc is)
+open_before caller a (reply.Abandoned n) s round un is = absurd (cc is)
+open_before caller a r s round un is = is
+
+room_open : (s : State) (a : Act) (round : OpenRound) → s.open_round ≡ Some round → room_for s a ≡ 2
+room_open s (act.Close kind horizon) round is = refl
+room_open s a round is = ap (λ (o : Option OpenRound). if is_some o then 2 else 1) is
+
+-- ---- a desk
+
+module _ {D : Type 0} (kept kept' : RecordedView D) (rounds : List CutView) (len capacity : ℕ) (was : IsDesk kept rounds len capacity) where
+  -- an entry that opens and publishes nothing
+  pub desk_acted : (caller : ℕ) (a : Act) (got : Reply) → IsUnpublished got → is_opening got ≡ false → kept'.book.history ≡ kept.book.history ++ entry_of caller a got ∷ [] → kept'.recorder.cleared_with ≡ kept.recorder.cleared_with
+    → room_for (state_of kept.book.history) a ≤ kept'.book.room + 1 → kept.recorder.spare ≤ kept'.recorder.spare → IsDesk kept' rounds len capacity
+  desk_acted caller a got unpublished unopening later same room spare =
+      let long : length kept'.book.history ≡ length kept.book.history + 1 = ap length later ∙ length-append kept.book.history (entry_of caller a got ∷ []) in
+      let cuts : cuts_after kept'.recorder.cleared_with kept'.book.history ≡ cuts_after kept.recorder.cleared_with kept.book.history =
+      ap (λ (n : ℕ). cuts_after n kept'.book.history) same ∙ ap (cuts_after kept.recorder.cleared_with) later
+      ∙ cuts_more kept.recorder.cleared_with kept.book.history (entry_of caller a got) was.few
+      ∙ ap (λ (l : List CutView). cuts_after kept.recorder.cleared_with kept.book.history ++ l) (unpublished (state_of kept.book.history).open_round) ∙ append-nil (cuts_after kept.recorder.cleared_with kept.book.history) in
+      record {
+        few = omega (arith, was.few, same, long);
+        cuts = was.cuts ∙ sym cuts;
+        ready = λ round is.
+        let now : (after caller a got (state_of kept.book.history)).open_round ≡ Some round = ap (λ (past : List Entry). (state past).open_round) (sym (ap reverse later ∙ reverse-append kept.book.history (entry_of caller a got ∷ []))) ∙ is in
+        let before : (state_of kept.book.history).open_round ≡ Some round = open_before caller a got (state_of kept.book.history) round unopening now in
+        let places = was.ready round before in
+        record { entry = omega (arith, room, room_open (state_of kept.book.history) a round before); body = omega (arith, places.body, spare); cut = places.cut };
+      }
+
+  -- no entry
+  pub desk_untouched : kept'.book.history ≡ kept.book.history → kept'.recorder.cleared_with ≡ kept.recorder.cleared_with → kept.book.room ≤ kept'.book.room → kept.recorder.spare ≤ kept'.recorder.spare → IsDesk kept' rounds len capacity
+  desk_untouched history same room spare = record {
+    few = omega (arith, was.few, same, ap length history);
+    cuts = was.cuts ∙ sym (ap (λ (n : ℕ). cuts_after n kept'.book.history) same ∙ ap (cuts_after kept.recorder.cleared_with) history);
+    ready = λ round is.
+    let places = was.ready round (ap (λ (h : List Entry). (state_of h).open_round) (sym history) ∙ is) in
+    record { entry = omega (arith, places.entry, room); body = omega (arith, places.body, spare); cut = places.cut };
+  }
+
+  -- a clearing
+  pub desk_cleared : (capacity' : ℕ) → kept'.book ≡ kept.book → kept'.recorder.cleared_with ≡ length kept.book.history → kept'.recorder.spare ≡ kept.recorder.spare → capacity ≤ capacity' → IsDesk kept' [] 0 capacity'
+  desk_cleared capacity' book same spare places' =
+      let history : kept'.book.history ≡ kept.book.history = cc in
+      let room : kept'.book.room ≡ kept.book.room = cc in
+      record {
+        few = omega (arith, same, ap length history);
+        cuts = sym (ap (λ (n : ℕ). cuts_after n kept'.book.history) (same ∙ ap length (sym history)) ∙ cuts_none kept'.book.history);
+        ready = λ round is.
+        let places = was.ready round (ap (λ (h : List Entry). (state_of h).open_round) (sym history) ∙ is) in
+        record { entry = omega (arith, places.entry, room); body = omega (arith, places.body, spare); cut = omega (arith, places.cut, places') };
+      }

@@ -1,0 +1,113 @@
+//! A desk: a book over a journal on a disk.
+ghost use Rattle.std.specs.Prelude.{◌≡◌, ◌≤◌, ◌+◌, [], length, true, false, IfOk, IfErr, OnErr, ℕ};
+ghost use Rattle.claim_history.specs.Acts.{is_valid, is_publication};
+ghost use Rattle.bureau_desk.specs.Acting.{is_close, HasActed, IsActError};
+ghost use Rattle.bureau_desk.specs.Desks.{HasSameBase, KeepsDesk};
+
+use crate::act_error::ActError;
+use crate::recorded_book::RecordedBook;
+use crate::recorder::Recorder;
+use claim_book::Book;
+use claim_history::{Act, Reply};
+use disk_model::Disk;
+use setoff_model::Cut;
+use std::marker::Model;
+
+/// A book whose accepted acts are in a journal on a disk, with the cuts of the rounds that were published since the last
+/// clearing.
+#[derive(Drop)]
+pub struct Desk<D: Disk> {
+    kept: RecordedBook<D>,
+    rounds: Vec<Cut>,
+}
+
+impl<D: Disk> Model for Desk<D> {
+    ghost use Rattle.std.specs.Prelude.{vec_len, vec_capacity};
+    ghost use Rattle.bureau_desk.specs.Desks.{DeskView, desk_view, IsDesk};
+
+    ghost Value = { DeskView D };
+
+    ghost view = { λ d. desk_view d.kept d.rounds.items };
+
+    ghost invariant = { λ d. IsDesk d.kept d.rounds.items (vec_len d.rounds) (vec_capacity d.rounds) };
+}
+
+impl<D: Disk> Desk<D> {
+    /// Asks an act of a caller other than the bureau itself. Each field of the act is in its range, and it is no Close and no
+    /// publication.
+    ///
+    /// The reply is the one of the history, or `Refused(Device)`, which comes only where the act would be accepted and the
+    /// disk's count of faults rose in this call, or stands at its last value. The history grows by this entry alone. An accepted
+    /// act is on the disk when it is answered.
+    ///
+    /// Memory: there was none for the act. Full: it needs more entries or bytes than there may be; entries are tested first.
+    /// After an Err nothing has changed.
+    pub fn act(&mut self, caller: u32, act: Act) -> Result<Reply, ActError>
+        requires caller { 1 ≤ caller }
+        requires valid { is_valid act ≡ true }
+        requires apart { is_publication act ≡ false }
+        requires other { is_close act ≡ false }
+        ensures acted { IfOk result (λ got. HasActed D.tells D.moment D.image D.count self.old.disk self.new.disk self.old.history self.new.history caller act got) }
+        ensures error { IfErr result (IsActError self.old.history caller act) }
+        ensures unchanged { OnErr result (self.new ≡ self.old) }
+        ensures rounds { self.new.rounds ≡ self.old.rounds }
+        ensures base { HasSameBase self.old self.new }
+    {
+        self.kept.act(caller, act)
+    }
+
+    /// The book. The facts of the desk hold of it. It takes no memory.
+    pub fn book(&self) -> &Book
+        ensures history { result.now.history ≡ self.now.history }
+        ensures keeps { KeepsDesk D.tells D.moment D.image D.count self.now }
+    {
+        let book = self.kept.book().book();
+        let _history = book.history();
+        book
+    }
+
+    /// The cuts, in order, of the rounds that were published since the last `clear_rounds`, or since the opening where there
+    /// was none. It takes no memory.
+    pub fn rounds(&self) -> &[Cut]
+        ensures { result.now ≡ self.now.rounds }
+    {
+        &self.rounds
+    }
+
+    /// The disk's count of faults. It takes no memory.
+    pub fn faults(&self) -> u64
+        ensures { result ≡ D.count self.now.disk }
+    {
+        self.kept.faults()
+    }
+
+    /// How many entries stood when the desk was opened, without an abandonment. It takes no memory.
+    pub fn opened_with(&self) -> u64
+        ensures { result ≡ self.now.opened_with }
+    {
+        self.kept.opened_with()
+    }
+
+    /// Empties the cuts of the published rounds, and counts them from here on. It takes no memory.
+    pub fn clear_rounds(&mut self)
+        ensures disk { self.new.disk ≡ self.old.disk }
+        ensures history { self.new.history ≡ self.old.history }
+        ensures rounds { self.new.rounds ≡ [] }
+        ensures cleared { self.new.cleared ≡ self.old.disk }
+        ensures cleared_with { self.new.cleared_with ≡ length self.old.history }
+        ensures opening { (self.new.first ≡ self.old.first) × (self.new.opened ≡ self.old.opened) × (self.new.opened_with ≡ self.old.opened_with) }
+    {
+        self.kept.clear();
+        self.rounds.clear();
+    }
+
+    /// Gives the disk back. The facts of the desk hold of it. It takes no memory.
+    pub fn close(self) -> D
+        ensures disk { result ≡ self.disk }
+        ensures keeps { KeepsDesk D.tells D.moment D.image D.count self }
+    {
+        let _book = self.book();
+        let Desk { kept, rounds: _ } = self;
+        kept.close()
+    }
+}
