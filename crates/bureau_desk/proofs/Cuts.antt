@@ -1,7 +1,8 @@
 -- The rounds of a desk, and the memory for the publication of the open one.
 use Rattle.std.proofs.Common.{◌≡◌, ◌∙◌, ◌⊎◌, ⊎_elim, inl, inr, ℕ, ◌+◌, ◌<◌, ◌≤◌, Bool, true, false, if◌then◌else◌, Option, Some, None, List, [], ◌∷◌, ◌++◌, length, reverse, refl, sym, ap, subst, arith, length-append}
 use Rattle.std.specs.Prelude.{is_some, nat_lt}
-use Rattle.std.proofs.lemmas.Bool.{le-ltb, lt-ltb}
+use Rattle.std.proofs.lemmas.Bool.{le-ltb, lt-ltb, eq-eqb}
+use Rattle.std.proofs.lemmas.Option.{same_Some}
 use Rattle.std.proofs.lemmas.List.{reverse-append, length-reverse, append-nil}
 use Rattle.setoff_model.specs.CutView.{CutView}
 use Rattle.setoff_model.specs.declared.kind.Kind.{Kind}
@@ -20,11 +21,12 @@ use Rattle.claim_history.specs.History.IsReply.{replied}
 use Rattle.claim_history.proofs.Histories.{answer_cases}
 use Rattle.claim_history.proofs.Rows.{by_rows}
 use Rattle.claim_history.proofs.Replies.{opens}
-use Rattle.claim_book.specs.Book.{room_for}
+use Rattle.claim_history.specs.Laws.{IsOwned}
+use Rattle.claim_book.specs.Book.{room_for, GivesCut}
 use Rattle.bureau_desk.specs.Devices.{IsReplied}
 use Rattle.bureau_desk.specs.Rounds.{cut_published, cuts_past, cuts_after}
 use Rattle.bureau_desk.specs.Recorded.{RecorderView}
-use Rattle.bureau_desk.specs.Acting.{RecordedView, IsSameBase, is_close, entry_of, publication_bytes}
+use Rattle.bureau_desk.specs.Acting.{RecordedView, IsSameBase, is_close, entry_of, publication_bytes, has_closed, closed_last}
 use Rattle.bureau_desk.specs.Desks.{IsDesk, HasPlaces}
 
 -- ---- cuts
@@ -130,7 +132,7 @@ module _ {D : Type 0} (kept kept' : RecordedView D) (rounds : List CutView) (len
         let now : (after caller a got (state_of kept.book.history)).open_round ≡ Some round = ap (λ (past : List Entry). (state past).open_round) (sym (ap reverse later ∙ reverse-append kept.book.history (entry_of caller a got ∷ []))) ∙ is in
         let before : (state_of kept.book.history).open_round ≡ Some round = open_before caller a got (state_of kept.book.history) round unopening now in
         let places = was.ready round before in
-        record { entry = omega (arith, room, room_open (state_of kept.book.history) a round before); body = omega (arith, places.body, spare); cut = places.cut };
+        record { entry = λ closed. omega (arith, room, room_open (state_of kept.book.history) a round before); body = omega (arith, places.body, spare); cut = places.cut };
       }
 
   -- no entry
@@ -140,7 +142,7 @@ module _ {D : Type 0} (kept kept' : RecordedView D) (rounds : List CutView) (len
     cuts = was.cuts ∙ sym (ap (λ (n : ℕ). cuts_after n kept'.book.history) same ∙ ap (cuts_after kept.recorder.cleared_with) history);
     ready = λ round is.
     let places = was.ready round (ap (λ (h : List Entry). (state_of h).open_round) (sym history) ∙ is) in
-    record { entry = omega (arith, places.entry, room); body = omega (arith, places.body, spare); cut = places.cut };
+    record { entry = λ closed. omega (arith, places.entry (ap (has_closed round.owner) (sym history) ∙ closed), room); body = omega (arith, places.body, spare); cut = places.cut };
   }
 
   -- a clearing
@@ -153,5 +155,58 @@ module _ {D : Type 0} (kept kept' : RecordedView D) (rounds : List CutView) (len
         cuts = sym (ap (λ (n : ℕ). cuts_after n kept'.book.history) (same ∙ ap length (sym history)) ∙ cuts_none kept'.book.history);
         ready = λ round is.
         let places = was.ready round (ap (λ (h : List Entry). (state_of h).open_round) (sym history) ∙ is) in
-        record { entry = omega (arith, places.entry, room); body = omega (arith, places.body, spare); cut = omega (arith, places.cut, places') };
+        record { entry = λ closed. omega (arith, places.entry (ap (has_closed round.owner) (sym history) ∙ closed), room); body = omega (arith, places.body, spare); cut = omega (arith, places.cut, places') };
       }
+
+  -- a publication that succeeded
+  pub desk_published : (caller : ℕ) (a : Act) (total : ℕ) (cut : CutView) (capacity' : ℕ) → GivesCut (state_of kept.book.history).open_round (entry_of caller a (reply.Published total)) (Some cut)
+    → kept'.book.history ≡ kept.book.history ++ entry_of caller a (reply.Published total) ∷ [] → kept'.recorder.cleared_with ≡ kept.recorder.cleared_with → IsDesk kept' (rounds ++ cut ∷ []) (len + 1) capacity'
+  desk_published caller a total cut capacity' gives later same =
+      let e = entry_of caller a (reply.Published total) in
+      let long : length kept'.book.history ≡ length kept.book.history + 1 = ap length later ∙ length-append kept.book.history (e ∷ []) in
+      let published : cut_published (state_of kept.book.history).open_round (reply.Published total) ≡ cut ∷ [] =
+      ap (λ (o : Option OpenRound). cut_published o (reply.Published total)) gives.1.1 ∙ ap (λ (k : CutView). k ∷ []) (sym gives.1.2) in
+      let cuts : cuts_after kept'.recorder.cleared_with kept'.book.history ≡ rounds ++ cut ∷ [] =
+      ap (λ (n : ℕ). cuts_after n kept'.book.history) same ∙ ap (cuts_after kept.recorder.cleared_with) later
+      ∙ cuts_more kept.recorder.cleared_with kept.book.history e was.few
+      ∙ ap (λ (l : List CutView). cuts_after kept.recorder.cleared_with kept.book.history ++ l) published
+      ∙ ap (λ (l : List CutView). l ++ cut ∷ []) (sym was.cuts) in
+      record {
+        few = omega (arith, was.few, same, long);
+        cuts = sym cuts;
+        ready = λ round is.
+        let now : None ≡ Some round = ap (λ (past : List Entry). (state past).open_round) (sym (ap reverse later ∙ reverse-append kept.book.history (e ∷ []))) ∙ is in
+        absurd (cc now);
+      }
+
+  -- a publication that failed: its round is open, and its owner has to close again
+  pub desk_failed : (caller : ℕ) (a : Act) (before counted : ℕ) (open_now : OpenRound) → IsOwned caller (state_of kept.book.history) open_now
+    → kept'.book.history ≡ kept.book.history ++ entry_of caller a (reply.Refused (why.Device before counted)) ∷ [] → kept'.recorder.cleared_with ≡ kept.recorder.cleared_with → kept.recorder.spare ≤ kept'.recorder.spare → IsDesk kept' rounds len capacity
+  desk_failed caller a before counted open_now owned later same spare =
+      let got = reply.Refused (why.Device before counted) in
+      let e = entry_of caller a got in
+      let past : reverse kept'.book.history ≡ e ∷ reverse kept.book.history = ap reverse later ∙ reverse-append kept.book.history (e ∷ []) in
+      let long : length kept'.book.history ≡ length kept.book.history + 1 = ap length later ∙ length-append kept.book.history (e ∷ []) in
+      let cuts : cuts_after kept'.recorder.cleared_with kept'.book.history ≡ cuts_after kept.recorder.cleared_with kept.book.history =
+      ap (λ (n : ℕ). cuts_after n kept'.book.history) same ∙ ap (cuts_after kept.recorder.cleared_with) later
+      ∙ cuts_more kept.recorder.cleared_with kept.book.history e was.few
+      ∙ ap (λ (l : List CutView). cuts_after kept.recorder.cleared_with kept.book.history ++ l) (refused_publishes (why.Device before counted) (state_of kept.book.history).open_round) ∙ append-nil (cuts_after kept.recorder.cleared_with kept.book.history) in
+      record {
+        few = omega (arith, was.few, same, long);
+        cuts = was.cuts ∙ sym cuts;
+        ready = λ round is.
+        let before_it : (state_of kept.book.history).open_round ≡ Some round = ap (λ (p : List Entry). (state p).open_round) (sym past) ∙ is in
+        let places = was.ready round before_it in
+        let one : open_now ≡ round = same_Some open_now round (sym owned.is_open ∙ before_it) in
+        let by : caller ≡ round.owner = sym owned.owner ∙ ap (λ (r : OpenRound). r.owner) one in
+        let none : has_closed round.owner kept'.book.history ≡ false =
+        ap (closed_last round.owner) past ∙ ap (λ (b : Bool). if b then false else closed_last round.owner (reverse kept.book.history)) (eq-eqb caller round.owner by) in
+        record { entry = λ closed. absurd (cc (none, closed)); body = omega (arith, places.body, spare); cut = places.cut };
+      }
+
+-- what a publication got that was due, and was not accepted or was
+pub failed_reply : (before counted total : ℕ) (due got : Reply) → reply.Published total ≡ due → IsReplied before counted due got → is_no_refusal got ≡ false → got ≡ reply.Refused (why.Device before counted)
+failed_reply before counted total due got is told refused = ⊎_elim (λ same. absurd (cc (ap is_no_refusal (same ∙ sym is), refused))) (λ failed. failed.1) told
+
+pub published_reply : (before counted total : ℕ) (due got : Reply) → reply.Published total ≡ due → IsReplied before counted due got → is_no_refusal got ≡ true → got ≡ reply.Published total
+published_reply before counted total due got is told accepts = ⊎_elim (λ same. same ∙ sym is) (λ failed. absurd (cc (ap is_no_refusal failed.1, accepts))) told

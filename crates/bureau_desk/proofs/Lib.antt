@@ -5,3 +5,4 @@ pub mod Recording
 pub mod Acted
 pub mod Cuts
 pub mod Keeping
+pub mod Publications

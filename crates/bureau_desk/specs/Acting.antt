@@ -1,17 +1,26 @@
 -- What is done of an act that is asked of a desk.
-use Rattle.std.specs.Prelude.{◌≡◌, ◌+◌, ◌*◌, ◌≤◌, ℕ, Bool, true, false, List, [], ◌∷◌, ◌++◌, length, Some, IsTrue}
+use Rattle.std.specs.Prelude.{◌≡◌, ◌+◌, ◌*◌, ◌≤◌, ℕ, Bool, true, false, List, [], ◌∷◌, ◌++◌, length, reverse, Some, IsTrue, ◌&&◌, ◌==◌, if◌then◌else◌}
 use Rattle.disk_model.specs.Calls.{Goes, Now}
 use Rattle.claim_history.specs.declared.act.Act.{Act}
 use Rattle.claim_history.specs.declared.act.Act.TheVariants as act
 use Rattle.claim_history.specs.declared.entry.Entry.{Entry}
 use Rattle.claim_history.specs.declared.entry.Reply.{Reply}
+use Rattle.claim_history.specs.declared.entry.Reply.TheVariants as reply
+use Rattle.claim_history.specs.declared.entry.Why.TheVariants as why
+use Rattle.setoff_model.specs.CutView.{CutView, OutcomeView, WellFormed, obligations}
+use Rattle.setoff_model.specs.Setoff.{Proves}
 use Rattle.claim_history.specs.States.{OpenRound, state_of}
 use Rattle.claim_history.specs.History.{answer_of, is_no_refusal}
 use Rattle.claim_history.specs.Needs.{is_full}
-use Rattle.claim_book.specs.Book.{BookView}
+use Rattle.claim_history.specs.Laws.{IsOwned}
+use Rattle.claim_book.specs.Book.{BookView, open_cut_of}
 use Rattle.limited_book.specs.Limited.{IsFull}
 use Rattle.bureau_desk.specs.declared.act_error.ActError.{ActError}
 use Rattle.bureau_desk.specs.declared.act_error.ActError.TheVariants.{Memory, Full}
+use Rattle.bureau_desk.specs.declared.cut_reply.CutReply.{CutReply}
+use Rattle.bureau_desk.specs.declared.cut_reply.CutReply.TheVariants.{Frozen, Refused}
+use Rattle.bureau_desk.specs.declared.publish_reply.PublishReply.{PublishReply}
+use Rattle.bureau_desk.specs.declared.publish_reply.PublishReply.TheVariants.{Published, Device}
 use Rattle.bureau_desk.specs.Calls.{accepted_calls, HoldsDuring, HoldsFirst}
 use Rattle.bureau_desk.specs.Devices.{IsReplied}
 use Rattle.bureau_desk.specs.Recorded.{RecorderView}
@@ -65,6 +74,40 @@ pub record IsUntouched {D : Type 0} (old new : RecordedView D) : Type 0 where
 abbrev pub publication_bytes : OpenRound → ℕ
 publication_bytes round = 17 + (8 * length round.cut.claims + 4 * length round.cut.parties)
 
--- there is the memory for the publication of the round that is open, if one is
-abbrev pub IsReady : List Entry → ℕ → ℕ → Type 0
-IsReady history room spare = (round : OpenRound) → (state_of history).open_round ≡ Some round → (1 ≤ room) × (publication_bytes round ≤ spare)
+-- there is the memory for the body of the publication of the open round, if one is open
+abbrev pub IsSpared : {D : Type 0} → RecordedView D → Type 0
+IsSpared kept = (round : OpenRound) → (state_of kept.book.history).open_round ≡ Some round → publication_bytes round ≤ kept.recorder.spare
+
+-- what is told of the reply to a Close: a copy of the open cut where it accepts, else why it is refused
+abbrev pub IsCutReply : Reply → List Entry → CutReply → Type 0
+IsCutReply got history (Frozen cut) = (is_no_refusal got ≡ true) × (open_cut_of history ≡ Some cut)
+IsCutReply got history (Refused w) = got ≡ reply.Refused w
+
+-- what is told of the reply to a publication
+abbrev pub IsPublishReply : Reply → PublishReply → Type 0
+IsPublishReply got (Published total) = got ≡ reply.Published total
+IsPublishReply got (Device before after) = got ≡ reply.Refused (why.Device before after)
+
+-- the last entry of the caller in a past is an accepted Close
+abbrev pub closed_last : ℕ → List Entry → Bool
+closed_last caller [] = false
+closed_last caller (e ∷ past) = if e.caller == caller then is_no_refusal e.reply && is_close e.act else closed_last caller past
+
+-- the same of a history
+abbrev pub has_closed : ℕ → List Entry → Bool
+has_closed caller history = closed_last caller (reverse history)
+
+-- the caller owns the open round, which has this cut, and its last entry is an accepted Close
+pub record IsPublishable (history : List Entry) (caller : ℕ) (cut : CutView) : Type 0 where
+  pub round : OpenRound
+  pub owned : IsOwned caller (state_of history) round
+  pub cut_is : cut ≡ round.cut
+  pub closed : has_closed caller history ≡ true
+
+-- an outcome that the caller may publish: it is proved for the cut of the open round, which has this number and is the caller's
+pub record IsOutcomeDue (history : List Entry) (caller number : ℕ) (outcome : OutcomeView) : Type 0 where
+  pub round : OpenRound
+  pub owned : IsOwned caller (state_of history) round
+  pub number_is : number ≡ round.cut.round
+  pub well_formed : WellFormed round.cut
+  pub proved : Proves (obligations round.cut) outcome.discharges outcome.prices

@@ -1,16 +1,22 @@
 -- What a desk shows, and what it keeps.
-use Rattle.std.specs.Prelude.{◌≡◌, ◌<◌, ◌≤◌, ℕ, Bool, List, length, Some, IsTrue}
-use Rattle.setoff_model.specs.CutView.{CutView}
+use Rattle.std.specs.Prelude.{◌≡◌, ◌<◌, ◌≤◌, ℕ, Bool, List, [], ◌∷◌, ◌++◌, length, Some, IsTrue, true}
+use Rattle.setoff_model.specs.CutView.{CutView, OutcomeView}
+use Rattle.setoff_model.specs.Setoff.{total_of}
+use Rattle.claim_history.specs.declared.act.Act.TheVariants as act
+use Rattle.claim_history.specs.declared.entry.Reply.{Reply}
+use Rattle.claim_history.specs.declared.entry.Reply.TheVariants as reply
+use Rattle.bureau_desk.specs.declared.publish_reply.PublishReply.{PublishReply}
+use Rattle.bureau_desk.specs.declared.publish_reply.PublishReply.TheVariants.{Published, Device}
 use Rattle.claim_history.specs.declared.entry.Entry.{Entry}
 use Rattle.claim_history.specs.States.{OpenRound, state_of}
-use Rattle.claim_history.specs.History.{IsLegal, AreValid}
+use Rattle.claim_history.specs.History.{answer_of, IsLegal, AreValid}
 use Rattle.claim_history.specs.Needs.{IsWithinLimits}
 use Rattle.disk_model.specs.Calls.{Now}
 use Rattle.bureau_desk.specs.Calls.{accepted_calls, HoldsFirst}
 use Rattle.bureau_desk.specs.Moments.{HasMoments, HeldSince}
 use Rattle.bureau_desk.specs.Devices.{AreBetween}
 use Rattle.bureau_desk.specs.Rounds.{cuts_after}
-use Rattle.bureau_desk.specs.Acting.{RecordedView, publication_bytes}
+use Rattle.bureau_desk.specs.Acting.{RecordedView, publication_bytes, has_closed, HasActed, IsPublishReply}
 
 -- What contracts see of a desk: its disk and its history; the cuts of the rounds that were published since the last clearing;
 -- the disk when the first sync of the opening had succeeded, and at the end of the opening; how many entries were opened; and
@@ -37,9 +43,10 @@ desk_view kept rounds = record {
   cleared_with = kept.recorder.cleared_with;
 }
 
--- there is the memory for the publication of a round: for its entry, for its body, and for its cut among the rounds
+-- There is the memory for the publication of a round: for its body, for its cut among the rounds and, while the last entry of
+-- its owner is an accepted Close, for its entry.
 pub record HasPlaces {D : Type 0} (kept : RecordedView D) (len capacity : ℕ) (round : OpenRound) : Type 0 where
-  pub entry : 1 ≤ kept.book.room
+  pub entry : has_closed round.owner kept.book.history ≡ true → 1 ≤ kept.book.room
   pub body : publication_bytes round ≤ kept.recorder.spare
   pub cut : len < capacity
 
@@ -73,3 +80,17 @@ pub record KeepsDesk {D : Type 0} (tells : D → Bool) (moment : D → ℕ) (ima
   pub moments : IsTrue (tells d.disk) → HasMoments (moment d.disk) (image d.disk) (moment d.first) d.opened_with d.history
   pub present : IsTrue (tells d.disk) → (c : List ℕ) → Now moment image d.disk c → HoldsFirst (accepted_calls d.history) c
   pub since : IsTrue (tells d.disk) → HeldSince (moment d.cleared) d.cleared_with (moment d.disk) (image d.disk) d.history
+
+-- what a publication adds to the rounds
+abbrev pub cut_told : CutView → PublishReply → List CutView
+cut_told cut (Published total) = cut ∷ []
+cut_told cut (Device before after) = []
+
+-- A publication was asked and got the reply that is told. The reply of the history is that it is published, with the sum of its
+-- discharges. Where it is, the cut is put at the end of the rounds.
+pub record HasPublished {D : Type 0} (tells : D → Bool) (moment : D → ℕ) (image : D → ℕ → List ℕ → Type 0) (count : D → ℕ) (old new : DeskView D) (caller : ℕ) (cut : CutView) (outcome : OutcomeView) (told : PublishReply) : Type 0 where
+  pub got : Reply
+  pub acted : HasActed tells moment image count old.disk new.disk old.history new.history caller (act.Publish cut.round outcome) got
+  pub due : answer_of old.history caller (act.Publish cut.round outcome) ≡ reply.Published (total_of outcome.discharges)
+  pub told_is : IsPublishReply got told
+  pub rounds : new.rounds ≡ old.rounds ++ cut_told cut told

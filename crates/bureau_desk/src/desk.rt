@@ -1,15 +1,18 @@
 //! A desk: a book over a journal on a disk.
 ghost use Rattle.std.specs.Prelude.{◌≡◌, ◌≤◌, ◌+◌, [], length, true, false, IfOk, IfErr, OnErr, ℕ};
+ghost use Rattle.claim_history.specs.declared.entry.Reply.TheVariants as replies;
+ghost use Rattle.claim_history.specs.declared.entry.Why.TheVariants as whys;
 ghost use Rattle.claim_history.specs.Acts.{is_valid, is_publication};
-ghost use Rattle.bureau_desk.specs.Acting.{is_close, HasActed, IsActError};
-ghost use Rattle.bureau_desk.specs.Desks.{HasSameBase, KeepsDesk};
+ghost use Rattle.bureau_desk.specs.Acting.{is_close, HasActed, IsActError, IsPublishable, IsPublishReply};
+ghost use Rattle.bureau_desk.specs.Desks.{HasSameBase, KeepsDesk, HasPublished};
 
 use crate::act_error::ActError;
+use crate::publish_reply::PublishReply;
 use crate::recorded_book::RecordedBook;
-use crate::recorder::Recorder;
 use claim_book::Book;
-use claim_history::{Act, Reply};
+use claim_history::{Act, Reply, Why};
 use disk_model::Disk;
+use setoff_checker::Checked;
 use setoff_model::Cut;
 use std::marker::Model;
 
@@ -54,6 +57,28 @@ impl<D: Disk> Desk<D> {
         ensures base { HasSameBase self.old self.new }
     {
         self.kept.act(caller, act)
+    }
+
+    /// Publishes an outcome that was found greatest for the cut of the open round. The round is the caller's, and the caller's
+    /// last entry is an accepted Close. It takes no memory.
+    ///
+    /// Device comes only where the disk's count of faults rose in this call, or stands at its last value. Then the round is
+    /// open, and the outcome stands in the entry.
+    pub fn publish(&mut self, caller: u32, checked: Checked) -> PublishReply
+        requires caller { 1 ≤ caller }
+        requires owned { IsPublishable self.old.history caller checked.cut }
+        ensures published { HasPublished D.tells D.moment D.image D.count self.old self.new caller checked.cut checked.outcome result }
+        ensures base { HasSameBase self.old self.new }
+    {
+        let (cut, outcome) = checked.parts();
+        let (reply, published) = self.kept.publish(caller, cut.round(), outcome);
+        match published {
+            Some(cut) => {
+                let _ = self.rounds.push(cut);
+                published_of(reply)
+            }
+            None => device_of(reply),
+        }
     }
 
     /// The book. The facts of the desk hold of it. It takes no memory.
@@ -109,5 +134,25 @@ impl<D: Disk> Desk<D> {
         let _book = self.book();
         let Desk { kept, rounds: _ } = self;
         kept.close()
+    }
+}
+
+fn published_of(reply: Reply) -> PublishReply
+    requires { (total : ℕ) × (reply ≡ replies.Published total) }
+    ensures { IsPublishReply reply result }
+{
+    match reply {
+        Reply::Published { total } => PublishReply::Published { total },
+        _ => unreachable!(),
+    }
+}
+
+fn device_of(reply: Reply) -> PublishReply
+    requires { (before : ℕ) × (after : ℕ) × (reply ≡ replies.Refused (whys.Device before after)) }
+    ensures { IsPublishReply reply result }
+{
+    match reply {
+        Reply::Refused(Why::Device { before, after }) => PublishReply::Device { before, after },
+        _ => unreachable!(),
     }
 }

@@ -2,11 +2,15 @@
 #![tactic(auto)]
 
 mod act_error;
+mod cut_reply;
 mod desk;
+mod publish_reply;
 mod recorded_book;
 mod recorder;
 
 pub use act_error::ActError;
+pub use cut_reply::CutReply;
 pub use desk::Desk;
+pub use publish_reply::PublishReply;
 pub use recorded_book::RecordedBook;
 pub use recorder::Recorder;

@@ -1,13 +1,16 @@
 //! A book whose accepted acts are in a journal.
 ghost use Rattle.std.specs.Prelude.{◌≡◌, ◌+◌, ◌≤◌, ◌++◌, ◌∷◌, [], length, true, false, IfOk, IfErr, OnOk, OnErr};
+ghost use Rattle.setoff_model.specs.Setoff.{total_of};
+ghost use Rattle.claim_history.specs.declared.act.Act.TheVariants as acts;
+ghost use Rattle.claim_history.specs.declared.entry.Reply.TheVariants as replies;
 ghost use Rattle.claim_history.specs.Acts.{is_valid, is_publication};
 ghost use Rattle.claim_history.specs.States.{state_of};
 ghost use Rattle.claim_history.specs.History.{answer_of, is_opening};
 ghost use Rattle.claim_history.specs.Needs.{body_length_of, is_full};
 ghost use Rattle.act_bodies.specs.Bodies.{is_keepable};
-ghost use Rattle.claim_book.specs.Book.{room_for};
+ghost use Rattle.claim_book.specs.Book.{room_for, GivesCut};
 ghost use Rattle.bureau_desk.specs.Recorded.{Records};
-ghost use Rattle.bureau_desk.specs.Acting.{is_close, HasActed, IsActError, IsSameBase, IsUntouched};
+ghost use Rattle.bureau_desk.specs.Acting.{is_close, HasActed, IsActError, IsSameBase, IsUntouched, IsSpared, IsOutcomeDue, entry_of};
 
 use crate::act_error::ActError;
 use crate::recorder::Recorder;
@@ -15,6 +18,7 @@ use act_bodies::body_length;
 use claim_history::{Act, Entry, Reply};
 use disk_model::Disk;
 use limited_book::{Full, LimitedBook};
+use setoff_model::{Cut, Outcome, total};
 use std::alloc::AllocError;
 use std::marker::Model;
 
@@ -109,6 +113,37 @@ impl<D: Disk> RecordedBook<D> {
                 limit,
             }),
         }
+    }
+
+    /// Publishes an outcome that is proved for the cut of the open round, which is the caller's and has this number. It gives the
+    /// reply, and the cut of the round where it was published. The memory for it was made.
+    pub fn publish(
+        &mut self,
+        caller: u32,
+        number: u32,
+        outcome: Outcome,
+    ) -> (Reply, Option<Cut>)
+        requires caller { 1 ≤ caller }
+        requires due { IsOutcomeDue self.old.book.history caller number outcome }
+        requires room { 1 ≤ self.old.book.room }
+        requires spare { IsSpared self.old }
+        ensures acted { HasActed D.tells D.moment D.image D.count self.old.recorder.journal.disk self.new.recorder.journal.disk self.old.book.history self.new.book.history caller (acts.Publish number outcome) result.0 }
+        ensures due { replies.Published (total_of outcome.discharges) ≡ answer_of self.old.book.history caller (acts.Publish number outcome) }
+        ensures cut { GivesCut (state_of self.old.book.history).open_round (entry_of caller (acts.Publish number outcome) result.0) result.1 }
+        ensures room { self.old.book.room ≤ self.new.book.room + 1 }
+        ensures spare { self.old.recorder.spare ≤ self.new.recorder.spare }
+        ensures base { IsSameBase self.old.recorder self.new.recorder }
+    {
+        let book = self.book.book();
+        let _history = book.history();
+        let total = total(&outcome);
+        let act = Act::Publish {
+            round: number,
+            outcome,
+        };
+        let reply = self.recorder.keep(caller, &act, Reply::Published { total });
+        let published = self.book.apply_publish(Entry { caller, act, reply });
+        (reply, published)
     }
 
     /// Sets the last clearing to the present.
