@@ -1,2 +1,5 @@
 pub mod Limits
 pub mod Needs
+pub mod Publications
+pub mod Replays
+pub mod Ends

@@ -92,7 +92,8 @@ by_test : (P : Type 0) (b : Bool) → (b ≡ true → P) → (b ≡ false → P)
 by_test P true = λ yes no. yes refl
 by_test P false = λ yes no. no refl
 
-publication_of : (history : List Entry) (caller : ℕ) (a : Act) → IsLegal history → IsWithinLimits history → is_publication a ≡ true → is_no_refusal (answer_of history caller a) ≡ true → Fits history caller a
+-- a publication that is accepted fits
+pub publication_of : (history : List Entry) (caller : ℕ) (a : Act) → IsLegal history → IsWithinLimits history → is_publication a ≡ true → is_no_refusal (answer_of history caller a) ≡ true → Fits history caller a
 publication_of history caller (act.Publish number outcome) legal within is accepted =
     (endings_law history legal within).publication caller number (total_of outcome.discharges) outcome
     (publishes (state_of history) 0 caller number outcome (answer_of history caller (act.Publish number outcome)) (replied refl) accepted)

@@ -175,13 +175,7 @@ impl LimitedBook {
 
     /// Whether the Close that opens a round is within the limits, where this cut is that of the history so far. The rest is as
     /// for `fits`. It takes no memory.
-    pub fn fits_opening(
-        &self,
-        caller: u32,
-        kind: Kind,
-        horizon: Day,
-        cut: &Cut,
-    ) -> Result<(), Full>
+    pub fn fits_opening(&self, caller: u32, kind: Kind, horizon: Day, cut: &Cut) -> Result<(), Full>
         requires opens { is_opening (answer_of self.now.history caller (acts.Close kind horizon)) ≡ true }
         requires cut { cut.now ≡ cut_of ((state_of self.now.history).openings + 1) (ledger_of self.now.history) kind horizon }
         ensures fits { IfOk result (λ _. is_full self.now.history caller (acts.Close kind horizon) ≡ false) }

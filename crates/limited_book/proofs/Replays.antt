@@ -1,0 +1,159 @@
+-- The steps of a replay.
+use Rattle.std.specs.Prelude.{reverse, Result, IfErr}
+use Rattle.std.proofs.Common.{◌≡◌, ℕ, ◌+◌, ◌<◌, Bool, true, false, not, ◌||◌, List, [], ◌∷◌, ◌++◌, length, get_or, take, drop, map, All, refl, sym, ◌∙◌, ap, ap₂, subst, true≢false, take-append-drop, append_assoc}
+use Rattle.std.proofs.lemmas.List.{map-append, reverse-append, reverse-reverse, take_more}
+use Rattle.std.proofs.lemmas.List.Elements.{All-push}
+use Rattle.setoff_model.specs.declared.kind.Kind.{Kind}
+use Rattle.setoff_model.specs.CutView.{CutView, OutcomeView}
+use Rattle.claim_history.specs.declared.act.Act.{Act}
+use Rattle.claim_history.specs.declared.act.Act.TheVariants as act
+use Rattle.claim_history.specs.declared.entry.Reply.{Reply}
+use Rattle.claim_history.specs.declared.entry.Reply.TheVariants as reply
+use Rattle.claim_history.specs.declared.entry.Entry.{Entry}
+use Rattle.claim_history.specs.Acts.{is_publication}
+use Rattle.claim_history.specs.Facts.{claim_facts, account_facts}
+use Rattle.claim_history.specs.Cut.{cut_of}
+use Rattle.claim_history.specs.States.{state, state_of}
+use Rattle.claim_history.specs.History.{AreValid, Call, IsLegal, answer, answer_of, ask, is_accepted, is_no_refusal, is_opening, replay_after, replay_of, replied}
+use Rattle.claim_history.specs.Needs.{IsWithinLimits, is_full, with_due}
+use Rattle.claim_history.proofs.Pasts.{entry_of}
+use Rattle.claim_history.proofs.Replies.{opens}
+use Rattle.claim_history.proofs.Room.{use_law}
+use Rattle.round_cut.specs.CutOfFacts.{cut_of_facts}
+use Rattle.round_cut.specs.CutLaw.{CutLaw}
+use Rattle.round_journal.specs.declared.record.Record.{Record}
+use Rattle.limited_book.proofs.Limits.{publication_of}
+use Rattle.limited_book.proofs.Publications.{false_so}
+use Rattle.limited_book.specs.declared.replay_stop.ReplayStop.{ReplayStop}
+use Rattle.limited_book.specs.declared.replay_stop.ReplayStop.TheVariants.{Memory, BadAct, Overfull}
+use Rattle.limited_book.specs.Replays.{AreSound, IsFirstFaulty, IsReplayed, StopsFirst, Tells, TellsFirst, call_of, history_of, is_close, is_faulty}
+
+-- ---- Closes
+
+-- an act that is no Close opens no round
+pub other_opens_none : (history : List Entry) (caller : ℕ) (a : Act) (r : Reply) → r ≡ answer_of history caller a → is_close a ≡ false → is_opening r ≡ false
+other_opens_none history caller a r due other =
+    false_so (is_opening r) (λ e. true≢false (sym (ap is_close (opens (state_of history) 0 caller a r (replied due) e).act_is ∙ refl) ∙ other))
+
+made_cut : (history : List Entry) (caller : ℕ) (kind : Kind) (horizon round : ℕ) (cut : CutView) → CutLaw → IsLegal history → AreValid history → reply.Opened round ≡ answer_of history caller (act.Close kind horizon)
+    → cut ≡ cut_of_facts round (claim_facts (state_of history).ledger) (account_facts (state_of history).ledger) kind horizon
+    → cut ≡ cut_of ((state_of history).openings + 1) (state_of history).ledger kind horizon
+made_cut history caller kind horizon round cut law legal valid due is =
+    let number : reply.Opened round ≡ reply.Opened ((state_of history).openings + 1) = (opens (state_of history) 0 caller (act.Close kind horizon) (reply.Opened round) (replied due) refl).reply_is in
+    let same : round ≡ (state_of history).openings + 1 = cc in
+    is ∙ law history round kind horizon legal valid ∙ ap (λ (n : ℕ). cut_of n (state_of history).ledger kind horizon) same
+
+-- the cut that is made of the facts of the known history is the history's cut
+pub opening_cut : (known history : List Entry) (caller : ℕ) (kind : Kind) (horizon round : ℕ) (cut : CutView) → known ≡ history → CutLaw → IsLegal known → AreValid known → reply.Opened round ≡ answer_of history caller (act.Close kind horizon)
+    → cut ≡ cut_of_facts round (claim_facts (state_of known).ledger) (account_facts (state_of known).ledger) kind horizon
+    → cut ≡ cut_of ((state_of history).openings + 1) (state_of history).ledger kind horizon
+opening_cut known history caller kind horizon round cut same law legal valid due is =
+    let due_known = subst (λ (h : List Entry). reply.Opened round ≡ answer_of h caller (act.Close kind horizon)) (sym same) due in
+    subst (λ (h : List Entry). cut ≡ cut_of ((state_of h).openings + 1) (state_of h).ledger kind horizon) same (made_cut known caller kind horizon round cut law legal valid due_known is)
+
+-- so it is, however the Close is named
+pub same_cut : (history : List Entry) (kind k : Kind) (horizon h : ℕ) (cut : CutView) → cut ≡ cut_of ((state_of history).openings + 1) (state_of history).ledger kind horizon → act.Close kind horizon ≡ act.Close k h
+    → cut ≡ cut_of ((state_of history).openings + 1) (state_of history).ledger k h
+same_cut history kind k horizon h cut is same =
+    let kinds : kind ≡ k = cc in
+    let horizons : horizon ≡ h = cc in
+    is ∙ ap₂ (λ (x : Kind) (y : ℕ). cut_of ((state_of history).openings + 1) (state_of history).ledger x y) kinds horizons
+
+-- the act is another than those that have arms of their own
+pub no_close : (a : Act) → ((kind : Kind) (horizon : ℕ) → a ≡ act.Close kind horizon → ⊥) → is_close a ≡ false
+no_close (act.Close kind horizon) other = absurd (other kind horizon refl)
+no_close a other = refl
+
+pub no_publication : (a : Act) → ((number : ℕ) (outcome : OutcomeView) → a ≡ act.Publish number outcome → ⊥) → is_publication a ≡ false
+no_publication (act.Publish number outcome) other = absurd (other number outcome refl)
+no_publication a other = refl
+
+-- a publication that is accepted is within the limits
+pub published_so : (known history kept new : List Entry) (caller number : ℕ) (outcome made : OutcomeView) (r : Reply) → new ≡ kept ++ entry_of caller (act.Publish number made) r ∷ [] → kept ≡ history → made ≡ outcome
+    → known ≡ history → IsLegal known → r ≡ answer_of known caller (act.Publish number outcome) → is_no_refusal r ≡ true → IsWithinLimits history → IsReplayed history new caller (act.Publish number outcome)
+published_so known history kept new caller number outcome made r is same copied known_is legal_known due_known accepted within =
+    let legal = subst IsLegal known_is legal_known in
+    let due : r ≡ answer_of history caller (act.Publish number outcome) = due_known ∙ ap (λ (h : List Entry). answer_of h caller (act.Publish number outcome)) known_is in
+    let fits_due : is_no_refusal (answer_of history caller (act.Publish number outcome)) ≡ true = sym (ap is_no_refusal due) ∙ accepted in
+    let entry : entry_of caller (act.Publish number made) r ≡ entry_of caller (act.Publish number outcome) (answer_of history caller (act.Publish number outcome)) =
+    ap₂ (λ (o : OutcomeView) (x : Reply). entry_of caller (act.Publish number o) x) copied due in
+    record {
+      history = is ∙ ap₂ (λ (h : List Entry) (e : Entry). h ++ e ∷ []) same entry;
+      accepted = fits_due;
+      fits = publication_of history caller (act.Publish number outcome) legal within refl fits_due;
+    }
+
+-- ---- one more record
+
+pub replay_append : (past : List Entry) (xs ys : List Call) → replay_after past (xs ++ ys) ≡ replay_after (replay_after past xs) ys
+replay_append past [] ys = refl
+replay_append past (x ∷ xs) ys = replay_append (ask past x) xs ys
+
+-- the newest entry of the records with one more
+pub more_asked : (before after : List Record) (r : Record) → replay_after [] (map call_of (before ++ r ∷ after)) ≡ replay_after (ask (replay_after [] (map call_of before)) (call_of r)) (map call_of after)
+more_asked before after r =
+    ap (replay_after []) (map-append call_of before (r ∷ after)) ∙ replay_append [] (map call_of before) (map call_of (r ∷ after))
+
+pub history_more : (before : List Record) (r : Record) → history_of (before ++ r ∷ []) ≡ with_due (history_of before) r.caller r.act
+history_more before r =
+    let past = replay_after [] (map call_of before) in
+    let reply_in : List Entry → Entry = λ p. entry_of r.caller r.act (answer (state p) r.caller r.act) in
+    let asked : history_of (before ++ r ∷ []) ≡ reverse (reply_in past ∷ past) = ap reverse (more_asked before [] r) in
+    let last : reverse (reply_in past ∷ past) ≡ reverse past ++ reply_in past ∷ [] = reverse-append (reply_in past ∷ []) past in
+    asked ∙ last ∙ ap (λ (p : List Entry). reverse past ++ reply_in p ∷ []) (sym (reverse-reverse past))
+
+pub sound_more : (before : List Record) (r : Record) (new : List Entry) → AreSound before → IsReplayed (history_of before) new r.caller r.act → AreSound (before ++ r ∷ [])
+sound_more before r new sound done =
+    let e : Entry = entry_of r.caller r.act (answer_of (history_of before) r.caller r.act) in
+    record {
+      accepted = subst (All (λ x. is_accepted x ≡ true)) (sym (history_more before r)) (All-push (λ (x : Entry). is_accepted x ≡ true) (history_of before) e sound.accepted done.accepted);
+      within = subst IsWithinLimits (sym (history_more before r)) ((use_law (history_of before) e).within sound.within done.fits);
+    }
+
+-- ---- the end
+
+or_true : (a b : Bool) → b ≡ true → (a || b) ≡ true
+or_true true b e = refl
+or_true false b e = e
+
+tells_faulty : (history : List Entry) (offset caller : ℕ) (a : Act) (got : Reply) → got ≡ answer_of history caller a → is_no_refusal got ≡ false → is_faulty history caller a ≡ true
+tells_faulty history offset caller a got due refused =
+    ap (λ (b : Bool). not b || is_full history caller a) (sym (ap is_no_refusal due) ∙ refused)
+
+pub first_stop : (records before after : List Record) (r : Record) (stop : ReplayStop) → records ≡ before ++ r ∷ after → AreSound before → Tells (history_of before) r.offset r.caller r.act stop → StopsFirst records stop
+first_stop records before after r Memory parts sound tells = tt
+first_stop records before after r (BadAct at got) parts sound tells = record {
+  before = before;
+  record_is = r;
+  first = record { after = after; parts = parts; sound = sound; faulty = tells_faulty (history_of before) r.offset r.caller r.act got tells.1 tells.2 };
+  tells = tells;
+}
+first_stop records before after r (Overfull at) parts sound tells = record {
+  before = before;
+  record_is = r;
+  first = record { after = after; parts = parts; sound = sound; faulty = or_true _ _ tells.2 };
+  tells = tells;
+}
+
+-- ---- the loop
+
+-- the records up to this one
+item_more : (records : List Record) (i : ℕ) (r : Record) → i < length records → r ≡ get_or records i r → take (i + 1) records ≡ take i records ++ r ∷ []
+item_more records i r inside is = take_more records i r inside ∙ ap (λ (x : Record). take i records ++ x ∷ []) (sym is)
+
+pub replayed_more : (records : List Record) (i : ℕ) (r : Record) (history new : List Entry) → i < length records → r ≡ get_or records i r → history ≡ history_of (take i records) → AreSound (take i records)
+    → IsReplayed history new r.caller r.act → (new ≡ history_of (take (i + 1) records)) × AreSound (take (i + 1) records)
+replayed_more records i r history new inside is same sound done =
+    let here : IsReplayed (history_of (take i records)) new r.caller r.act = subst (λ (h : List Entry). IsReplayed h new r.caller r.act) same done in
+    let items = item_more records i r inside is in (
+      here.history ∙ sym (history_more (take i records) r) ∙ ap history_of (sym items),
+      subst AreSound (sym items) (sound_more (take i records) r new sound here),
+    )
+
+pub stopped_at : (records : List Record) (i : ℕ) (r : Record) (history : List Entry) (stop : ReplayStop) → i < length records → r ≡ get_or records i r → history ≡ history_of (take i records) → AreSound (take i records)
+    → Tells history r.offset r.caller r.act stop → StopsFirst records stop
+stopped_at records i r history stop inside is same sound tells =
+    let rest = drop (i + 1) records in
+    let parts : records ≡ take i records ++ r ∷ rest =
+    sym (take-append-drop (i + 1) records) ∙ ap (λ (rs : List Record). rs ++ rest) (item_more records i r inside is) ∙ append_assoc (take i records) (r ∷ []) rest in
+    first_stop records (take i records) rest r stop parts sound (subst (λ (h : List Entry). Tells h r.offset r.caller r.act stop) same tells)
