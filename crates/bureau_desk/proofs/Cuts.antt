@@ -23,10 +23,11 @@ use Rattle.claim_history.proofs.Rows.{by_rows}
 use Rattle.claim_history.proofs.Replies.{opens}
 use Rattle.claim_history.specs.Laws.{IsOwned}
 use Rattle.claim_book.specs.Book.{room_for, GivesCut}
+use Rattle.limited_book.specs.Replays.{is_close}
 use Rattle.bureau_desk.specs.Devices.{IsReplied}
 use Rattle.bureau_desk.specs.Rounds.{cut_published, cuts_past, cuts_after}
 use Rattle.bureau_desk.specs.Recorded.{RecorderView}
-use Rattle.bureau_desk.specs.Acting.{RecordedView, IsSameBase, is_close, entry_of, publication_bytes, has_closed, closed_last}
+use Rattle.bureau_desk.specs.Acting.{RecordedView, IsSameBase, entry_of, publication_bytes, has_closed, closed_last, IsSpared}
 use Rattle.bureau_desk.specs.Desks.{IsDesk, HasPlaces}
 
 -- ---- cuts
@@ -156,6 +157,32 @@ module _ {D : Type 0} (kept kept' : RecordedView D) (rounds : List CutView) (len
         ready = λ round is.
         let places = was.ready round (ap (λ (h : List Entry). (state_of h).open_round) (sym history) ∙ is) in
         record { entry = λ closed. omega (arith, places.entry (ap (has_closed round.owner) (sym history) ∙ closed), room); body = omega (arith, places.body, spare); cut = omega (arith, places.cut, places') };
+      }
+
+  -- more memory for the rounds
+  pub desk_wider : (capacity' : ℕ) → capacity ≤ capacity' → IsDesk kept rounds len capacity'
+  desk_wider capacity' wide = record {
+    few = was.few;
+    cuts = was.cuts;
+    ready = λ round is. let places = was.ready round is in record { entry = places.entry; body = places.body; cut = omega (arith, places.cut, wide) };
+  }
+
+  spared : IsSpared kept
+  spared round is = (was.ready round is).body
+
+  -- a Close, with the memory for the publication of its round
+  pub desk_closed : (caller : ℕ) (a : Act) (got : Reply) (capacity' : ℕ) → IsUnpublished got → kept'.book.history ≡ kept.book.history ++ entry_of caller a got ∷ [] → kept'.recorder.cleared_with ≡ kept.recorder.cleared_with
+    → 1 ≤ kept'.book.room → (IsSpared kept → IsSpared kept') → len < capacity' → IsDesk kept' rounds len capacity'
+  desk_closed caller a got capacity' unpublished later same room stays places =
+      let long : length kept'.book.history ≡ length kept.book.history + 1 = ap length later ∙ length-append kept.book.history (entry_of caller a got ∷ []) in
+      let cuts : cuts_after kept'.recorder.cleared_with kept'.book.history ≡ cuts_after kept.recorder.cleared_with kept.book.history =
+      ap (λ (n : ℕ). cuts_after n kept'.book.history) same ∙ ap (cuts_after kept.recorder.cleared_with) later
+      ∙ cuts_more kept.recorder.cleared_with kept.book.history (entry_of caller a got) was.few
+      ∙ ap (λ (l : List CutView). cuts_after kept.recorder.cleared_with kept.book.history ++ l) (unpublished (state_of kept.book.history).open_round) ∙ append-nil (cuts_after kept.recorder.cleared_with kept.book.history) in
+      record {
+        few = omega (arith, was.few, same, long);
+        cuts = was.cuts ∙ sym cuts;
+        ready = λ round is. record { entry = λ closed. room; body = stays spared round is; cut = places };
       }
 
   -- a publication that succeeded

@@ -6,3 +6,4 @@ pub mod Acted
 pub mod Cuts
 pub mod Keeping
 pub mod Publications
+pub mod Closes

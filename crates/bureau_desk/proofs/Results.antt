@@ -13,3 +13,7 @@ if_err_three (Err e) p q f g = g p q e f
 pub either : {T E P Q G : Type 0} {F : T → Type 0} (r : Result T E) → IfOk r F → OnOk r P → OnErr r Q → ((x : T) → F x → P → G) → (Q → G) → G
 either (Ok x) f p q done failed = done x f p
 either (Err e) f p q done failed = failed q
+
+pub if_ok_map : {T E : Type 0} {F G : T → Type 0} (r : Result T E) → IfOk r F → ((x : T) → F x → G x) → IfOk r G
+if_ok_map (Ok x) f g = g x f
+if_ok_map (Err e) f g = tt

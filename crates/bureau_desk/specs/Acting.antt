@@ -15,6 +15,7 @@ use Rattle.claim_history.specs.Needs.{is_full}
 use Rattle.claim_history.specs.Laws.{IsOwned}
 use Rattle.claim_book.specs.Book.{BookView, open_cut_of}
 use Rattle.limited_book.specs.Limited.{IsFull}
+use Rattle.limited_book.specs.Replays.{is_close}
 use Rattle.bureau_desk.specs.declared.act_error.ActError.{ActError}
 use Rattle.bureau_desk.specs.declared.act_error.ActError.TheVariants.{Memory, Full}
 use Rattle.bureau_desk.specs.declared.cut_reply.CutReply.{CutReply}
@@ -24,11 +25,6 @@ use Rattle.bureau_desk.specs.declared.publish_reply.PublishReply.TheVariants.{Pu
 use Rattle.bureau_desk.specs.Calls.{accepted_calls, HoldsDuring, HoldsFirst}
 use Rattle.bureau_desk.specs.Devices.{IsReplied}
 use Rattle.bureau_desk.specs.Recorded.{RecorderView}
-
--- the act is a Close
-abbrev pub is_close : Act → Bool
-is_close (act.Close kind horizon) = true
-is_close _ = false
 
 -- a recorder and a book
 pub record RecordedView (D : Type 0) : Type 0 where
@@ -111,3 +107,9 @@ pub record IsOutcomeDue (history : List Entry) (caller number : ℕ) (outcome : 
   pub number_is : number ≡ round.cut.round
   pub well_formed : WellFormed round.cut
   pub proved : Proves (obligations round.cut) outcome.discharges outcome.prices
+
+-- A Close was asked, and this is told of its reply.
+pub record HasClosed {D : Type 0} (tells : D → Bool) (moment : D → ℕ) (image : D → ℕ → List ℕ → Type 0) (count : D → ℕ) (old new : D) (history later : List Entry) (caller : ℕ) (a : Act) (told : CutReply) : Type 0 where
+  pub got : Reply
+  pub acted : HasActed tells moment image count old new history later caller a got
+  pub told_is : IsCutReply got later told

@@ -1,19 +1,22 @@
 //! A desk: a book over a journal on a disk.
 ghost use Rattle.std.specs.Prelude.{◌≡◌, ◌≤◌, ◌+◌, [], length, true, false, IfOk, IfErr, OnErr, ℕ};
+ghost use Rattle.claim_history.specs.declared.act.Act.TheVariants as acts;
 ghost use Rattle.claim_history.specs.declared.entry.Reply.TheVariants as replies;
 ghost use Rattle.claim_history.specs.declared.entry.Why.TheVariants as whys;
 ghost use Rattle.claim_history.specs.Acts.{is_valid, is_publication};
-ghost use Rattle.bureau_desk.specs.Acting.{is_close, HasActed, IsActError, IsPublishable, IsPublishReply};
+ghost use Rattle.limited_book.specs.Replays.{is_close};
+ghost use Rattle.bureau_desk.specs.Acting.{HasActed, HasClosed, IsActError, IsPublishable, IsPublishReply};
 ghost use Rattle.bureau_desk.specs.Desks.{HasSameBase, KeepsDesk, HasPublished};
 
 use crate::act_error::ActError;
+use crate::cut_reply::CutReply;
 use crate::publish_reply::PublishReply;
 use crate::recorded_book::RecordedBook;
 use claim_book::Book;
-use claim_history::{Act, Reply, Why};
+use claim_history::{Act, Day, Reply, Why};
 use disk_model::Disk;
 use setoff_checker::Checked;
-use setoff_model::Cut;
+use setoff_model::{Cut, Kind};
 use std::marker::Model;
 
 /// A book whose accepted acts are in a journal on a disk, with the cuts of the rounds that were published since the last
@@ -57,6 +60,31 @@ impl<D: Disk> Desk<D> {
         ensures base { HasSameBase self.old self.new }
     {
         self.kept.act(caller, act)
+    }
+
+    /// Asks a Close of a caller other than the bureau itself: it opens a round of this kind and horizon, or continues the one that
+    /// the caller opened with them. `Frozen` has a copy of the cut of the open round.
+    ///
+    /// All memory is taken before the disk is called, also that for the publication of the round, which is kept while the round
+    /// is open and its owner's last entry is this Close. The rest is as for `act`.
+    pub fn cut(
+        &mut self,
+        caller: u32,
+        kind: Kind,
+        horizon: Day,
+    ) -> Result<CutReply, ActError>
+        requires caller { 1 ≤ caller }
+        ensures closed { IfOk result (HasClosed D.tells D.moment D.image D.count self.old.disk self.new.disk self.old.history self.new.history caller (acts.Close kind horizon)) }
+        ensures error { IfErr result (IsActError self.old.history caller (acts.Close kind horizon)) }
+        ensures unchanged { OnErr result (self.new ≡ self.old) }
+        ensures rounds { self.new.rounds ≡ self.old.rounds }
+        ensures base { HasSameBase self.old self.new }
+    {
+        let _number = horizon.number();
+        if self.rounds.reserve(1).is_err() {
+            return Err(ActError::Memory);
+        }
+        self.kept.close_round(caller, kind, horizon)
     }
 
     /// Publishes an outcome that was found greatest for the cut of the open round. The round is the caller's, and the caller's

@@ -1,25 +1,34 @@
 //! A book whose accepted acts are in a journal.
-ghost use Rattle.std.specs.Prelude.{◌≡◌, ◌+◌, ◌≤◌, ◌++◌, ◌∷◌, [], length, true, false, IfOk, IfErr, OnOk, OnErr};
+ghost use Rattle.std.specs.Prelude.{◌≡◌, ◌+◌, ◌≤◌, ◌++◌, ◌∷◌, [], length, Some, true, false, ◌*◌, ℕ, List, IfOk, IfErr, OnOk, OnErr};
 ghost use Rattle.setoff_model.specs.Setoff.{total_of};
+ghost use Rattle.setoff_model.specs.CutView.{WellFormed};
+ghost use Rattle.claim_history.specs.Cut.{cut_of};
+ghost use Rattle.claim_history.specs.declared.entry.Entry.{Entry};
+ghost use Rattle.claim_history.specs.declared.act.Act.{Act};
+ghost use Rattle.limited_book.specs.Limited.{IsFull};
 ghost use Rattle.claim_history.specs.declared.act.Act.TheVariants as acts;
 ghost use Rattle.claim_history.specs.declared.entry.Reply.TheVariants as replies;
-ghost use Rattle.claim_history.specs.Acts.{is_valid, is_publication};
+ghost use Rattle.claim_history.specs.Acts.{is_valid, is_publication, is_day};
 ghost use Rattle.claim_history.specs.States.{state_of};
 ghost use Rattle.claim_history.specs.History.{answer_of, is_opening};
 ghost use Rattle.claim_history.specs.Needs.{body_length_of, is_full};
 ghost use Rattle.act_bodies.specs.Bodies.{is_keepable};
-ghost use Rattle.claim_book.specs.Book.{room_for, GivesCut};
+ghost use Rattle.claim_book.specs.Book.{room_for, GivesCut, ledger_of, open_cut_of};
+ghost use Rattle.limited_book.specs.Replays.{is_close};
 ghost use Rattle.bureau_desk.specs.Recorded.{Records};
-ghost use Rattle.bureau_desk.specs.Acting.{is_close, HasActed, IsActError, IsSameBase, IsUntouched, IsSpared, IsOutcomeDue, entry_of};
+ghost use Rattle.bureau_desk.specs.Acting.{HasActed, IsActError, IsSameBase, IsUntouched, IsSpared, IsOutcomeDue, HasClosed, IsCutReply, entry_of};
 
 use crate::act_error::ActError;
+use crate::cut_reply::CutReply;
 use crate::recorder::Recorder;
 use act_bodies::body_length;
-use claim_history::{Act, Entry, Reply};
+use claim_book::Book;
+use claim_history::{Act, Day, Entry, Reply};
 use disk_model::Disk;
 use limited_book::{Full, LimitedBook};
-use setoff_model::{Cut, Outcome, total};
-use std::alloc::AllocError;
+use round_cut::{build_cut, cut_of_a_history_is_of_its_facts};
+use setoff_model::{Cut, Kind, Outcome, total};
+use std::alloc::{AllocError, Global};
 use std::marker::Model;
 
 /// A book within the limits, with the record of its calls on a disk.
@@ -27,6 +36,7 @@ use std::marker::Model;
 pub struct RecordedBook<D: Disk> {
     pub(crate) recorder: Recorder<D>,
     pub(crate) book: LimitedBook,
+    pub(crate) alloc: Global,
 }
 
 impl<D: Disk> Model for RecordedBook<D> {
@@ -103,15 +113,143 @@ impl<D: Disk> RecordedBook<D> {
         let due = self.book.answer(caller, &act);
         match self.book.fits(caller, &act, due) {
             Ok(()) => Ok(self.put(caller, act, due)),
-            Err(Full {
-                what,
-                needed,
-                limit,
-            }) => Err(ActError::Full {
-                what,
-                needed,
-                limit,
-            }),
+            Err(full) => Err(error_of(full)),
+        }
+    }
+
+    /// Asks a Close of a caller other than the bureau itself. All memory is taken before the disk is called: also that for the
+    /// publication's body.
+    pub fn close_round(
+        &mut self,
+        caller: u32,
+        kind: Kind,
+        horizon: Day,
+    ) -> Result<CutReply, ActError>
+        requires caller { 1 ≤ caller }
+        requires day { is_day horizon ≡ true }
+        ensures closed { IfOk result (HasClosed D.tells D.moment D.image D.count self.old.recorder.journal.disk self.new.recorder.journal.disk self.old.book.history self.new.book.history caller (acts.Close kind horizon)) }
+        ensures error { IfErr result (IsActError self.old.book.history caller (acts.Close kind horizon)) }
+        ensures untouched { OnErr result (IsUntouched self.old self.new) }
+        ensures room { OnOk result (1 ≤ self.new.book.room) }
+        ensures spared { IsSpared self.old → IsSpared self.new }
+        ensures spare { self.old.recorder.spare ≤ self.new.recorder.spare }
+        ensures base { IsSameBase self.old.recorder self.new.recorder }
+    {
+        let act = Act::Close { kind, horizon };
+        if self.make_room(&act).is_err() {
+            return Err(ActError::Memory);
+        }
+        match self.book.answer(caller, &act) {
+            Reply::Opened { round } => self.open_round(caller, kind, horizon, round),
+            due => self.continue_round(caller, kind, horizon, due),
+        }
+    }
+
+    // Opens a round of this number.
+    fn open_round(
+        &mut self,
+        caller: u32,
+        kind: Kind,
+        horizon: Day,
+        round: u32,
+    ) -> Result<CutReply, ActError>
+        requires caller { 1 ≤ caller }
+        requires day { is_day horizon ≡ true }
+        requires due { replies.Opened round ≡ answer_of self.old.book.history caller (acts.Close kind horizon) }
+        requires room { 2 ≤ self.old.book.room }
+        requires spare { 10 ≤ self.old.recorder.spare }
+        ensures closed { IfOk result (HasClosed D.tells D.moment D.image D.count self.old.recorder.journal.disk self.new.recorder.journal.disk self.old.book.history self.new.book.history caller (acts.Close kind horizon)) }
+        ensures error { IfErr result (IsActError self.old.book.history caller (acts.Close kind horizon)) }
+        ensures untouched { OnErr result (IsUntouched self.old self.new) }
+        ensures room { OnOk result (1 ≤ self.new.book.room) }
+        ensures spared { IsSpared self.old → IsSpared self.new }
+        ensures spare { self.old.recorder.spare ≤ self.new.recorder.spare }
+        ensures base { IsSameBase self.old.recorder self.new.recorder }
+    {
+        let Ok(cut) = make_cut(self.alloc, self.book.book(), caller, kind, horizon, round) else {
+            return Err(ActError::Memory);
+        };
+        let Ok(copy) = cut.clone() else {
+            return Err(ActError::Memory);
+        };
+        if self.recorder.reserve(publication_length(&cut)).is_err() {
+            return Err(ActError::Memory);
+        }
+        match self.book.fits_opening(caller, kind, horizon, &cut) {
+            Ok(()) => Ok(self.put_opening(caller, kind, horizon, round, cut, copy)),
+            Err(full) => Err(error_of(full)),
+        }
+    }
+
+    // Puts the entry of a Close at the end that opens a round with this cut.
+    fn put_opening(
+        &mut self,
+        caller: u32,
+        kind: Kind,
+        horizon: Day,
+        round: u32,
+        cut: Cut,
+        copy: Cut,
+    ) -> CutReply
+        requires caller { 1 ≤ caller }
+        requires day { is_day horizon ≡ true }
+        requires due { replies.Opened round ≡ answer_of self.old.book.history caller (acts.Close kind horizon) }
+        requires fits { is_full self.old.book.history caller (acts.Close kind horizon) ≡ false }
+        requires cut { cut ≡ cut_of ((state_of self.old.book.history).openings + 1) (ledger_of self.old.book.history) kind horizon }
+        requires copy { copy ≡ cut }
+        requires room { 2 ≤ self.old.book.room }
+        requires spare { 10 ≤ self.old.recorder.spare }
+        requires publication { 17 + (8 * length cut.claims + 4 * length cut.parties) ≤ self.old.recorder.spare }
+        ensures closed { HasClosed D.tells D.moment D.image D.count self.old.recorder.journal.disk self.new.recorder.journal.disk self.old.book.history self.new.book.history caller (acts.Close kind horizon) result }
+        ensures room { 1 ≤ self.new.book.room }
+        ensures spared { IsSpared self.old → IsSpared self.new }
+        ensures spare { self.old.recorder.spare ≤ self.new.recorder.spare }
+        ensures base { IsSameBase self.old.recorder self.new.recorder }
+    {
+        let act = Act::Close { kind, horizon };
+        let reply = self.recorder.keep(caller, &act, Reply::Opened { round });
+        match reply {
+            Reply::Refused(why) => {
+                self.book.apply(Entry { caller, act, reply });
+                CutReply::Refused(why)
+            }
+            _ => {
+                self.book.apply_close(Entry { caller, act, reply }, cut);
+                CutReply::Frozen(copy)
+            }
+        }
+    }
+
+    // Continues the open round, or refuses the Close.
+    fn continue_round(
+        &mut self,
+        caller: u32,
+        kind: Kind,
+        horizon: Day,
+        due: Reply,
+    ) -> Result<CutReply, ActError>
+        requires caller { 1 ≤ caller }
+        requires day { is_day horizon ≡ true }
+        requires no_opening { is_opening due ≡ false }
+        requires due { due ≡ answer_of self.old.book.history caller (acts.Close kind horizon) }
+        requires room { 2 ≤ self.old.book.room }
+        requires spare { 10 ≤ self.old.recorder.spare }
+        ensures closed { IfOk result (HasClosed D.tells D.moment D.image D.count self.old.recorder.journal.disk self.new.recorder.journal.disk self.old.book.history self.new.book.history caller (acts.Close kind horizon)) }
+        ensures error { IfErr result (IsActError self.old.book.history caller (acts.Close kind horizon)) }
+        ensures untouched { OnErr result (IsUntouched self.old self.new) }
+        ensures room { OnOk result (1 ≤ self.new.book.room) }
+        ensures spared { IsSpared self.old → IsSpared self.new }
+        ensures spare { self.old.recorder.spare ≤ self.new.recorder.spare }
+        ensures base { IsSameBase self.old.recorder self.new.recorder }
+    {
+        let act = Act::Close { kind, horizon };
+        if let Err(full) = self.book.fits(caller, &act, due) {
+            return Err(error_of(full));
+        }
+        match self.book.book().open_cut(self.alloc) {
+            Ok(Some(cut)) => Ok(told_cut(self.put(caller, act, due), cut)),
+            Ok(None) => unreachable!(),
+            Err(_) => Err(ActError::Memory),
         }
     }
 
@@ -177,7 +315,63 @@ impl<D: Disk> RecordedBook<D> {
     pub fn close(self) -> D
         ensures { result ≡ self.recorder.journal.disk }
     {
-        let RecordedBook { recorder, book: _ } = self;
+        let RecordedBook {
+            recorder,
+            book: _,
+            alloc: _,
+        } = self;
         recorder.close()
+    }
+}
+
+// The cut of the next round, of this number.
+fn make_cut(
+    alloc: Global,
+    book: &Book,
+    caller: u32,
+    kind: Kind,
+    horizon: Day,
+    round: u32,
+) -> Result<Cut, AllocError>
+    requires due { replies.Opened round ≡ answer_of book.now.history caller (acts.Close kind horizon) }
+    ensures cut { IfOk result (λ cut. cut ≡ cut_of ((state_of book.now.history).openings + 1) (ledger_of book.now.history) kind horizon) }
+    ensures formed { IfOk result WellFormed }
+{
+    let _ = caller;
+    cut_of_a_history_is_of_its_facts();
+    build_cut(alloc, book.claims(), book.accounts(), kind, horizon, round)
+}
+
+// The bytes of the body of a publication for a cut.
+fn publication_length(cut: &Cut) -> usize
+    requires { WellFormed cut.now }
+    ensures { result ≡ 17 + (8 * length cut.now.claims + 4 * length cut.now.parties) }
+{
+    17 + (8 * cut.claims().len() + 4 * cut.parties().len())
+}
+
+// What is told of the reply to a Close, where this is the open cut.
+fn told_cut(reply: Reply, cut: Cut) -> CutReply
+    ensures { (history : List Entry) → open_cut_of history ≡ Some cut → IsCutReply reply history result }
+{
+    match reply {
+        Reply::Refused(why) => CutReply::Refused(why),
+        _ => CutReply::Frozen(cut),
+    }
+}
+
+// Why an act is not asked that is full.
+fn error_of(full: Full) -> ActError
+    ensures { (history : List Entry) (caller : ℕ) (a : Act) → IsFull history caller a full → IsActError history caller a result }
+{
+    let Full {
+        what,
+        needed,
+        limit,
+    } = full;
+    ActError::Full {
+        what,
+        needed,
+        limit,
     }
 }
