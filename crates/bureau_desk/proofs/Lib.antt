@@ -7,3 +7,5 @@ pub mod Cuts
 pub mod Keeping
 pub mod Publications
 pub mod Closes
+pub mod Openings
+pub mod Abandonments

@@ -55,7 +55,7 @@ tried_noted : (history : List Entry) (e : Entry) (last : Option (List ℕ)) → 
 tried_noted history e None refused tried = tt
 tried_noted history e (Some body) refused tried = (tried.0, tried_stays history e tried.0 refused tried.1, tried.2)
 
-accepted_count : (r : Reply) → is_no_refusal r ≡ true → second_count r ≡ 0
+pub accepted_count : (r : Reply) → is_no_refusal r ≡ true → second_count r ≡ 0
 accepted_count (reply.Refused w) is = absurd (cc is)
 accepted_count r is = refl
 
@@ -63,7 +63,7 @@ undevice_count : (r : Reply) → is_of_device r ≡ false → second_count r ≡
 undevice_count (reply.Refused (why.Device before counted)) is = absurd (cc is)
 undevice_count r is = refl
 
-accepted_is_no_device : (r : Reply) → is_no_refusal r ≡ true → is_of_device r ≡ false
+pub accepted_is_no_device : (r : Reply) → is_no_refusal r ≡ true → is_of_device r ≡ false
 accepted_is_no_device (reply.Refused w) is = absurd (cc is)
 accepted_is_no_device r is = refl
 
@@ -77,7 +77,7 @@ own_refused : (a : Act) (r : Reply) → is_no_refusal r ≡ false → own_bytes 
 own_refused a r is = ap (λ (b : Bool). if b then record_length_of a else 0) is
 
 -- no entry but one that tells of a device has counts
-no_counts : (low high : ℕ) (e : Entry) → is_of_device e.reply ≡ false → IsBetween low high e
+pub no_counts : (low high : ℕ) (e : Entry) → is_of_device e.reply ≡ false → IsBetween low high e
 no_counts low high e is before counted told = absurd (cc (is, ap is_of_device told))
 
 between_more : (low high high' : ℕ) (history : List Entry) (e : Entry) → high ≤ high' → AreBetween low high history → IsBetween low high' e → AreBetween low high' (history ++ e ∷ [])

@@ -5,3 +5,4 @@ pub mod Rounds
 pub mod Recorded
 pub mod Acting
 pub mod Desks
+pub mod Opening

@@ -1,5 +1,5 @@
 //! A book whose accepted acts are in a journal.
-ghost use Rattle.std.specs.Prelude.{◌≡◌, ◌+◌, ◌≤◌, ◌++◌, ◌∷◌, [], length, Some, true, false, ◌*◌, ℕ, List, IfOk, IfErr, OnOk, OnErr};
+ghost use Rattle.std.specs.Prelude.{◌≡◌, ◌+◌, ◌≤◌, ◌++◌, ◌∷◌, [], length, Some, is_some, true, false, ◌*◌, ◌⊎◌, All, ℕ, List, IfOk, IfErr, OnOk, OnErr};
 ghost use Rattle.setoff_model.specs.Setoff.{total_of};
 ghost use Rattle.setoff_model.specs.CutView.{WellFormed};
 ghost use Rattle.claim_history.specs.Cut.{cut_of};
@@ -10,22 +10,29 @@ ghost use Rattle.claim_history.specs.declared.act.Act.TheVariants as acts;
 ghost use Rattle.claim_history.specs.declared.entry.Reply.TheVariants as replies;
 ghost use Rattle.claim_history.specs.Acts.{is_valid, is_publication, is_day};
 ghost use Rattle.claim_history.specs.States.{state_of};
-ghost use Rattle.claim_history.specs.History.{answer_of, is_opening};
+ghost use Rattle.claim_history.specs.History.{answer_of, is_opening, is_accepted};
 ghost use Rattle.claim_history.specs.Needs.{body_length_of, is_full};
 ghost use Rattle.act_bodies.specs.Bodies.{is_keepable};
 ghost use Rattle.claim_book.specs.Book.{room_for, GivesCut, ledger_of, open_cut_of};
-ghost use Rattle.limited_book.specs.Replays.{is_close};
+ghost use Rattle.limited_book.specs.Replays.{is_close, history_of, AreSound};
+ghost use Rattle.round_journal.specs.Opened.{IsOpen};
+ghost use Rattle.round_journal.specs.declared.record.Record.{Record};
+ghost use Rattle.disk_model.specs.Counts.{HasRisen};
+ghost use Rattle.bureau_desk.specs.declared.desk_refused.DeskCause.TheVariants as causes;
+ghost use Rattle.bureau_desk.specs.Opening.{IsOpenedHistory};
 ghost use Rattle.bureau_desk.specs.Recorded.{Records};
 ghost use Rattle.bureau_desk.specs.Acting.{HasActed, IsActError, IsSameBase, IsUntouched, IsSpared, IsOutcomeDue, HasClosed, IsCutReply, entry_of};
 
 use crate::act_error::ActError;
 use crate::cut_reply::CutReply;
+use crate::desk_refused::DeskCause;
 use crate::recorder::Recorder;
 use act_bodies::body_length;
 use claim_book::Book;
-use claim_history::{Act, Day, Entry, Reply};
+use claim_history::{Act, Day, Entry, Reply, Why};
 use disk_model::Disk;
 use limited_book::{Full, LimitedBook};
+use round_journal::Journal;
 use round_cut::{build_cut, cut_of_a_history_is_of_its_facts};
 use setoff_model::{Cut, Kind, Outcome, total};
 use std::alloc::{AllocError, Global};
@@ -51,6 +58,63 @@ impl<D: Disk> Model for RecordedBook<D> {
 }
 
 impl<D: Disk> RecordedBook<D> {
+    /// An opened journal with the book of its records.
+    pub fn new(alloc: Global, journal: Journal<D>, book: LimitedBook) -> RecordedBook<D>
+        requires opened { (disk : D) × (records : List Record) × IsOpen D.tells D.reads D.moment D.image D.count disk journal records × AreSound records × (book.history ≡ history_of records) }
+        ensures book { result.book ≡ book }
+        ensures journal { result.recorder.journal ≡ journal }
+        ensures opened { (result.recorder.opened ≡ journal.disk) × (result.recorder.opened_with ≡ length book.history) }
+        ensures cleared { (result.recorder.cleared ≡ journal.disk) × (result.recorder.cleared_with ≡ length book.history) }
+    {
+        let entries = book.book().history().len() as u64;
+        let recorder = Recorder::new(alloc, journal, entries);
+        RecordedBook {
+            recorder,
+            book,
+            alloc,
+        }
+    }
+
+    /// Abandons the open round as the bureau itself, where one is open. An Err means that there was no memory, or that the disk
+    /// failed.
+    pub fn abandon(&mut self) -> Result<(), DeskCause>
+        ensures done { OnOk result (IsOpenedHistory self.old.book.history self.new.book.history) }
+        ensures cause { IfErr result (λ e. (e ≡ causes.Memory) ⊎ ((before : ℕ) × (after : ℕ) × (e ≡ causes.Device before after) × (before ≡ D.count self.old.recorder.journal.disk) × (after ≡ D.count self.new.recorder.journal.disk) × HasRisen before after)) }
+        ensures tells { D.tells self.new.recorder.journal.disk ≡ D.tells self.old.recorder.journal.disk }
+        ensures counts { D.count self.old.recorder.journal.disk ≤ D.count self.new.recorder.journal.disk }
+        ensures base { IsSameBase self.old.recorder self.new.recorder }
+    {
+        if !has_open(self.book.book()) {
+            return Ok(());
+        }
+        if self.make_room(&Act::Abandon).is_err() {
+            return Err(DeskCause::Memory);
+        }
+        let book = self.book.book();
+        let _history = book.history();
+        let due = self.book.answer(0, &Act::Abandon);
+        match self.put(0, Act::Abandon, due) {
+            Reply::Refused(Why::Device { before, after }) => {
+                Err(DeskCause::Device { before, after })
+            }
+            _ => Ok(()),
+        }
+    }
+
+    /// Sets the end of the opening, and the last clearing, to the present. No entry tells of a device.
+    pub fn begin(&mut self)
+        requires { All (λ e. is_accepted e ≡ true) self.old.book.history }
+        ensures book { self.new.book ≡ self.old.book }
+        ensures journal { self.new.recorder.journal ≡ self.old.recorder.journal }
+        ensures opened { self.new.recorder.opened ≡ self.old.recorder.journal.disk }
+        ensures opened_with { self.new.recorder.opened_with ≡ self.old.recorder.opened_with }
+        ensures cleared { self.new.recorder.cleared ≡ self.old.recorder.journal.disk }
+        ensures cleared_with { self.new.recorder.cleared_with ≡ length self.old.book.history }
+    {
+        let entries = self.book.book().history().len() as u64;
+        self.recorder.begin(entries);
+    }
+
     /// The book, of whose history the record is.
     pub fn book(&self) -> &LimitedBook
         ensures book { result.now ≡ self.now.book }
@@ -87,6 +151,8 @@ impl<D: Disk> RecordedBook<D> {
         ensures acted { HasActed D.tells D.moment D.image D.count self.old.recorder.journal.disk self.new.recorder.journal.disk self.old.book.history self.new.book.history caller act result }
         ensures room { self.old.book.room ≤ self.new.book.room + 1 }
         ensures spare { self.old.recorder.spare ≤ self.new.recorder.spare }
+        ensures tells { D.tells self.new.recorder.journal.disk ≡ D.tells self.old.recorder.journal.disk }
+        ensures counts { D.count self.old.recorder.journal.disk ≤ D.count self.new.recorder.journal.disk }
         ensures base { IsSameBase self.old.recorder self.new.recorder }
     {
         let reply = self.recorder.keep(caller, &act, due);
@@ -374,4 +440,11 @@ fn error_of(full: Full) -> ActError
         needed,
         limit,
     }
+}
+
+// Whether a round is open.
+fn has_open(book: &Book) -> bool
+    ensures { result ≡ is_some (state_of book.now.history).open_round }
+{
+    book.open_round().is_some()
 }

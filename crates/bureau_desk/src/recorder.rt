@@ -17,7 +17,7 @@ use act_bodies::encode;
 use claim_history::{Act, Reply, Why};
 use disk_model::Disk;
 use round_journal::{Device, Journal};
-use std::alloc::AllocError;
+use std::alloc::{AllocError, Global};
 use std::marker::Model;
 use std::snapshot::Snapshot;
 
@@ -43,6 +43,24 @@ impl<D: Disk> Model for Recorder<D> {
 }
 
 impl<D: Disk> Recorder<D> {
+    /// The recorder of an opened journal, with the number of its entries. It takes no memory.
+    pub fn new(alloc: Global, journal: Journal<D>, entries: u64) -> Recorder<D>
+        ensures journal { result.journal ≡ journal }
+        ensures opened { (result.opened ≡ journal.disk) × (result.opened_with ≡ entries) }
+        ensures cleared { (result.cleared ≡ journal.disk) × (result.cleared_with ≡ entries) }
+    {
+        let opened = Snapshot::of(journal.disk());
+        let cleared = Snapshot::of(journal.disk());
+        Recorder {
+            journal,
+            body: Vec::new(alloc),
+            opened,
+            opened_with: entries,
+            cleared,
+            cleared_with: entries,
+        }
+    }
+
     /// Makes room for a body of so many bytes. The only error is that memory is missing, and it changes nothing.
     pub fn reserve(&mut self, bytes: usize) -> Result<(), AllocError>
         ensures room { OnOk result (bytes ≤ self.new.spare) }
@@ -95,6 +113,7 @@ impl<D: Disk> Recorder<D> {
             → Goes D.moment D.image self.old.journal.disk self.new.journal.disk (HoldsDuring history (record { caller = caller; act = act.now })) }
         ensures replied { IsReplied (D.count self.old.journal.disk) (D.count self.new.journal.disk) due result }
         ensures quiet { is_no_refusal due ≡ false → self.new ≡ self.old }
+        ensures counts { D.count self.old.journal.disk ≤ D.count self.new.journal.disk }
         ensures tells { D.tells self.new.journal.disk ≡ D.tells self.old.journal.disk }
         ensures room { self.old.spare ≤ self.new.spare }
         ensures opening { self.new.journal.opened ≡ self.old.journal.opened }
@@ -120,6 +139,19 @@ impl<D: Disk> Recorder<D> {
     {
         self.cleared = Snapshot::of(self.journal.disk());
         self.cleared_with = entries;
+    }
+
+    /// Sets the end of the opening, and the last clearing, to the present moment. So many entries stand now.
+    pub fn begin(&mut self, entries: u64)
+        ensures journal { self.new.journal ≡ self.old.journal }
+        ensures room { self.new.spare ≡ self.old.spare }
+        ensures opened { self.new.opened ≡ self.old.journal.disk }
+        ensures opened_with { self.new.opened_with ≡ self.old.opened_with }
+        ensures cleared { self.new.cleared ≡ self.old.journal.disk }
+        ensures cleared_with { self.new.cleared_with ≡ entries }
+    {
+        self.opened = Snapshot::of(self.journal.disk());
+        self.clear(entries);
     }
 
     /// How many entries were opened.
