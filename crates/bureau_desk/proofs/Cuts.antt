@@ -1,5 +1,6 @@
 -- The rounds of a desk, and the memory for the publication of the open one.
-use Rattle.std.proofs.Common.{◌≡◌, ◌∙◌, ◌⊎◌, ⊎_elim, inl, inr, ℕ, ◌+◌, ◌<◌, ◌≤◌, Bool, true, false, if◌then◌else◌, Option, Some, None, List, [], ◌∷◌, ◌++◌, length, reverse, refl, sym, ap, subst, arith, length-append}
+use Rattle.std.proofs.Common.{◌≡◌, ◌∙◌, ◌⊎◌, ⊎_elim, inl, inr, ℕ, ◌+◌, ◌<◌, ◌≤◌, Bool, true, false, if◌then◌else◌, Option, Some, None, List, [], ◌∷◌, ◌++◌, length, reverse, All, refl, sym, ap, subst, arith, length-append}
+use Rattle.std.proofs.lemmas.List.Elements.{All-push}
 use Rattle.std.specs.Prelude.{is_some, nat_lt}
 use Rattle.std.proofs.lemmas.Bool.{le-ltb, lt-ltb, eq-eqb}
 use Rattle.std.proofs.lemmas.Option.{same_Some}
@@ -16,7 +17,7 @@ use Rattle.claim_history.specs.declared.entry.Why.TheVariants as why
 use Rattle.claim_history.specs.declared.fact.Position.{Position}
 use Rattle.claim_history.specs.Acts.{is_publication}
 use Rattle.claim_history.specs.States.{OpenRound, State, state, state_of, after}
-use Rattle.claim_history.specs.History.{answer, answer_of, close_answer, abandon_answer, close_refusals, abandon_refusals, is_opening, is_no_refusal, IsReply}
+use Rattle.claim_history.specs.History.{answer, answer_of, close_answer, abandon_answer, close_refusals, abandon_refusals, is_opening, is_no_refusal, is_accepted, IsReply}
 use Rattle.claim_history.specs.History.IsReply.{replied}
 use Rattle.claim_history.proofs.Histories.{answer_cases}
 use Rattle.claim_history.proofs.Rows.{by_rows}
@@ -28,6 +29,7 @@ use Rattle.bureau_desk.specs.Devices.{IsReplied}
 use Rattle.bureau_desk.specs.Rounds.{cut_published, cuts_past, cuts_after}
 use Rattle.bureau_desk.specs.Recorded.{RecorderView}
 use Rattle.bureau_desk.specs.Acting.{RecordedView, IsSameBase, entry_of, publication_bytes, has_closed, closed_last, IsSpared}
+use Rattle.bureau_desk.specs.Opening.{IsOpenedHistory}
 use Rattle.bureau_desk.specs.Desks.{IsDesk, HasPlaces}
 
 -- ---- cuts
@@ -237,3 +239,23 @@ failed_reply before counted total due got is told refused = ⊎_elim (λ same. a
 
 pub published_reply : (before counted total : ℕ) (due got : Reply) → reply.Published total ≡ due → IsReplied before counted due got → is_no_refusal got ≡ true → got ≡ reply.Published total
 published_reply before counted total due got is told accepts = ⊎_elim (λ same. same ∙ sym is) (λ failed. absurd (cc (ap is_no_refusal failed.1, accepts))) told
+
+-- no round is open after an opening
+opened_none : (before history : List Entry) → IsOpenedHistory before history → (state_of history).open_round ≡ None
+opened_none before history is = ⊎_elim
+    (λ same. ap (λ (h : List Entry). (state_of h).open_round) same.1 ∙ same.0)
+    (λ more. ap (λ (past : List Entry). (state past).open_round) (ap reverse more.1 ∙ reverse-append before (entry_of 0 act.Abandon (reply.Abandoned more.0) ∷ [])))
+    is
+
+pub opened_accepted : (before history : List Entry) → IsOpenedHistory before history → All (λ e. is_accepted e ≡ true) before → All (λ e. is_accepted e ≡ true) history
+opened_accepted before history is all = ⊎_elim
+    (λ same. subst (λ (h : List Entry). All (λ e. is_accepted e ≡ true) h) (sym same.1) all)
+    (λ more. subst (λ (h : List Entry). All (λ e. is_accepted e ≡ true) h) (sym more.1) (All-push (λ (e : Entry). is_accepted e ≡ true) before (entry_of 0 act.Abandon (reply.Abandoned more.0)) all refl))
+    is
+
+pub desk_begun : {D : Type 0} (kept : RecordedView D) (before : List Entry) (rounds : List CutView) (len capacity : ℕ) → rounds ≡ [] → IsOpenedHistory before kept.book.history → kept.recorder.cleared_with ≡ length kept.book.history → IsDesk kept rounds len capacity
+desk_begun kept before rounds len capacity empty opened same = record {
+  few = omega (arith, same);
+  cuts = empty ∙ sym (ap (λ (n : ℕ). cuts_after n kept.book.history) same ∙ cuts_none kept.book.history);
+  ready = λ round is. let none : None ≡ Some round = sym (opened_none before kept.book.history opened) ∙ is in absurd (cc none);
+}

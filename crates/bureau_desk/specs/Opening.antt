@@ -14,7 +14,7 @@ use Rattle.limited_book.specs.declared.replay_stop.ReplayStop.{ReplayStop}
 use Rattle.limited_book.specs.declared.replay_stop.ReplayStop.TheVariants as stop
 use Rattle.bureau_desk.specs.declared.desk_refused.DeskCause.{DeskCause}
 use Rattle.bureau_desk.specs.declared.desk_refused.DeskCause.TheVariants.{Memory, Device, BadHeader, BadRecord, BadAct, Overfull}
-use Rattle.bureau_desk.specs.Acting.{entry_of}
+use Rattle.bureau_desk.specs.Acting.{RecordedView, entry_of}
 use Rattle.bureau_desk.specs.Desks.{DeskView}
 
 -- the history of the records; where it leaves a round open, with the abandonment by the bureau itself
@@ -48,3 +48,18 @@ HasDeskCause told bytes low high BadHeader = HasCause told bytes low high journa
 HasDeskCause told bytes low high (BadRecord offset why) = HasCause told bytes low high (journal.BadRecord offset why)
 HasDeskCause told bytes low high (BadAct offset got) = StopsAt told bytes (stop.BadAct offset got)
 HasDeskCause told bytes low high (Overfull offset) = StopsAt told bytes (stop.Overfull offset)
+
+-- what a desk has that begins with this book
+pub record IsBegun {D : Type 0} (tells : D → Bool) (count : D → ℕ) (kept : RecordedView D) (d : DeskView D) : Type 0 where
+  pub history : IsOpenedHistory kept.book.history d.history
+  pub opened_with : d.opened_with ≡ kept.recorder.opened_with
+  pub opened : d.opened ≡ d.disk
+  pub cleared : d.cleared ≡ d.disk
+  pub cleared_with : d.cleared_with ≡ length d.history
+  pub rounds : d.rounds ≡ []
+  pub same : tells d.disk ≡ tells kept.recorder.journal.disk
+  pub later : count kept.recorder.journal.disk ≤ count d.disk
+
+-- why none begins: there was no memory for the abandonment, or the disk failed
+abbrev pub IsNotBegun : ℕ → ℕ → DeskCause → Type 0
+IsNotBegun low high cause = (cause ≡ Memory) ⊎ ((before : ℕ) × (after : ℕ) × (cause ≡ Device before after) × (before ≡ low) × (after ≡ high) × HasRisen before after)

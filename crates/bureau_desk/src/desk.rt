@@ -1,22 +1,29 @@
 //! A desk: a book over a journal on a disk.
-ghost use Rattle.std.specs.Prelude.{◌≡◌, ◌≤◌, ◌+◌, [], length, true, false, IfOk, IfErr, OnErr, ℕ};
+ghost use Rattle.std.specs.Prelude.{◌≡◌, ◌≤◌, ◌+◌, [], length, true, false, IfOk, IfErr, OnErr, ℕ, Bool, List, All};
 ghost use Rattle.claim_history.specs.declared.act.Act.TheVariants as acts;
 ghost use Rattle.claim_history.specs.declared.entry.Reply.TheVariants as replies;
 ghost use Rattle.claim_history.specs.declared.entry.Why.TheVariants as whys;
 ghost use Rattle.claim_history.specs.Acts.{is_valid, is_publication};
 ghost use Rattle.limited_book.specs.Replays.{is_close};
 ghost use Rattle.bureau_desk.specs.Acting.{HasActed, HasClosed, IsActError, IsPublishable, IsPublishReply};
+ghost use Rattle.claim_history.specs.History.{is_accepted};
+ghost use Rattle.round_journal.specs.Stops.{HasCause};
+ghost use Rattle.bureau_desk.specs.Opening.{IsDeskOpen, HasDeskCause, IsBegun, IsNotBegun, StopsAt};
 ghost use Rattle.bureau_desk.specs.Desks.{HasSameBase, KeepsDesk, HasPublished};
 
 use crate::act_error::ActError;
 use crate::cut_reply::CutReply;
+use crate::desk_refused::{DeskCause, DeskRefused};
 use crate::publish_reply::PublishReply;
 use crate::recorded_book::RecordedBook;
 use claim_book::Book;
 use claim_history::{Act, Day, Reply, Why};
 use disk_model::Disk;
+use limited_book::{ReplayStop, replay};
+use round_journal::{Journal, JournalCause, OpenRefused};
 use setoff_checker::Checked;
 use setoff_model::{Cut, Kind};
+use std::alloc::Global;
 use std::marker::Model;
 
 /// A book whose accepted acts are in a journal on a disk, with the cuts of the rounds that were published since the last
@@ -39,6 +46,34 @@ impl<D: Disk> Model for Desk<D> {
 }
 
 impl<D: Disk> Desk<D> {
+    /// Opens a desk on a disk: its history is that of the records of the disk's journal, each with its one reply. Where they
+    /// leave a round open, the bureau itself abandons it, and that is kept on the disk, too.
+    ///
+    /// An Err hands the disk back. Memory: there was none. Device: the disk's count of faults rose, or stands at its last value.
+    /// BadHeader and BadRecord: as for a journal. BadAct and Overfull: the first record that is refused by those before it, or
+    /// is above the limits: BadAct where it is refused, else Overfull.
+    pub fn open(alloc: Global, disk: D) -> Result<Desk<D>, DeskRefused<D>>
+        ensures ok { IfOk result (IsDeskOpen D.tells D.reads D.count disk) }
+        ensures err { IfErr result (λ e. HasDeskCause (D.tells disk) (D.reads disk) (D.count disk) (D.count e.disk) e.cause) }
+    {
+        let (journal, records) = match Journal::open(alloc, disk) {
+            Ok(opened) => opened,
+            Err(OpenRefused { disk, cause }) => {
+                return Err(DeskRefused {
+                    disk,
+                    cause: cause_of(cause),
+                });
+            }
+        };
+        match replay(alloc, &records) {
+            Ok(book) => begun(RecordedBook::new(alloc, journal, book), Vec::new(alloc)),
+            Err(stop) => Err(DeskRefused {
+                disk: journal.close(),
+                cause: stop_of(stop),
+            }),
+        }
+    }
+
     /// Asks an act of a caller other than the bureau itself. Each field of the act is in its range, and it is no Close and no
     /// publication.
     ///
@@ -182,5 +217,46 @@ fn device_of(reply: Reply) -> PublishReply
     match reply {
         Reply::Refused(Why::Device { before, after }) => PublishReply::Device { before, after },
         _ => unreachable!(),
+    }
+}
+
+// The desk of a book that was opened, without an open round.
+fn begun<D: Disk>(kept: RecordedBook<D>, rounds: Vec<Cut>) -> Result<Desk<D>, DeskRefused<D>>
+    requires empty { rounds.items ≡ [] }
+    requires accepted { All (λ e. is_accepted e ≡ true) kept.book.history }
+    ensures ok { IfOk result (IsBegun D.tells D.count kept) }
+    ensures err { IfErr result (λ e. IsNotBegun (D.count kept.recorder.journal.disk) (D.count e.disk) e.cause) }
+{
+    let mut kept = kept;
+    match kept.abandon() {
+        Ok(()) => {
+            kept.begin();
+            Ok(Desk { kept, rounds })
+        }
+        Err(cause) => Err(DeskRefused {
+            disk: kept.close(),
+            cause,
+        }),
+    }
+}
+
+fn cause_of(cause: JournalCause) -> DeskCause
+    ensures { (told : Bool) (bytes : List ℕ) (low high : ℕ) → HasCause told bytes low high cause → HasDeskCause told bytes low high result }
+{
+    match cause {
+        JournalCause::Memory => DeskCause::Memory,
+        JournalCause::Device { before, after } => DeskCause::Device { before, after },
+        JournalCause::BadHeader => DeskCause::BadHeader,
+        JournalCause::BadRecord { offset, why } => DeskCause::BadRecord { offset, why },
+    }
+}
+
+fn stop_of(stop: ReplayStop) -> DeskCause
+    ensures { (told : Bool) (bytes : List ℕ) (low high : ℕ) → StopsAt told bytes stop → HasDeskCause told bytes low high result }
+{
+    match stop {
+        ReplayStop::Memory => DeskCause::Memory,
+        ReplayStop::BadAct { offset, reply } => DeskCause::BadAct { offset, reply },
+        ReplayStop::Overfull { offset } => DeskCause::Overfull { offset },
     }
 }
