@@ -29,16 +29,16 @@ module _ {D : Type 0} (tells : D → Bool) (moment : D → ℕ) (image : D → �
       (held_now (moment r.journal.disk) (image r.journal.disk) (moment r.journal.opened) r.opened_with history (has.told told).moments (moment r.journal.disk) c (omega arith) (omega arith) now)
 
   pub acted : (r r' : RecorderView D) (history later : List Entry) (caller : ℕ) (a : Act) (due got : Reply) → Records tells moment image count r history → due ≡ answer_of history caller a → is_full history caller a ≡ false
-    → Records tells moment image count r' (history ++ entry_of caller a got ∷ [])
-    → (IsTrue (tells r.journal.disk) → Goes moment image r.journal.disk r'.journal.disk (HoldsDuring history (record { caller = caller; act = a })))
-    → IsReplied (count r.journal.disk) (count r'.journal.disk) due got → (is_no_refusal due ≡ false → r' ≡ r) → tells r'.journal.disk ≡ tells r.journal.disk → later ≡ history ++ entry_of caller a got ∷ []
-    → HasActed tells moment image count r.journal.disk r'.journal.disk history later caller a got
+      → Records tells moment image count r' (history ++ entry_of caller a got ∷ [])
+      → (IsTrue (tells r.journal.disk) → Goes moment image r.journal.disk r'.journal.disk (HoldsDuring history (record { caller = caller; act = a })))
+      → IsReplied (count r.journal.disk) (count r'.journal.disk) due got → (is_no_refusal due ≡ false → r' ≡ r) → tells r'.journal.disk ≡ tells r.journal.disk → later ≡ history ++ entry_of caller a got ∷ []
+      → HasActed tells moment image count r.journal.disk r'.journal.disk history later caller a got
   acted r r' history later caller a due got has due_is fits has' during replied quiet same later_is = record {
     entry = later_is;
     replied = subst (λ (d : Reply). IsReplied (count r.journal.disk) (count r'.journal.disk) d got) due_is replied;
     fits = fits;
     during = during;
     stands = λ told yes c now. subst (λ (h : List Entry). HoldsFirst (accepted_calls h) c) (sym later_is)
-    (present_holds r' (history ++ entry_of caller a got ∷ []) has' (subst (λ (b : Bool). IsTrue b) (sym same) told) c now);
+        (present_holds r' (history ++ entry_of caller a got ∷ []) has' (subst (λ (b : Bool). IsTrue b) (sym same) told) c now);
     quiet = λ no. ap (λ (x : RecorderView D). x.journal.disk) (quiet (ap is_no_refusal due_is ∙ no));
   }

@@ -39,7 +39,7 @@ module _ (history later : List Entry) (caller : ℕ) (kind : Kind) (horizon : �
   opened_is number cut is same = ap (option_map (λ (r : OpenRound). r.cut)) (opened_round number is) ∙ ap (λ (k : CutView). Some k) (sym same)
 
   pub opened_bytes : (number : ℕ) (cut : CutView) (round : OpenRound) → got ≡ reply.Opened number → cut ≡ cut_of ((state_of history).openings + 1) (state_of history).ledger kind horizon → (state_of later).open_round ≡ Some round
-    → publication_bytes round ≡ 17 + (8 * length cut.claims + 4 * length cut.parties)
+      → publication_bytes round ≡ 17 + (8 * length cut.claims + 4 * length cut.parties)
   opened_bytes number cut round is same open_now =
       let one : record { owner = caller; horizon = horizon; cut = cut_of ((state_of history).openings + 1) (state_of history).ledger kind horizon } ≡ round = same_Some _ round (sym (opened_round number is) ∙ open_now) in
       ap (λ (k : CutView). 17 + (8 * length k.claims + 4 * length k.parties)) (ap (λ (r : OpenRound). r.cut) (sym one) ∙ sym same)
@@ -52,6 +52,6 @@ close_rows P n (Some round) caller kind horizon un refused continued = by_rows P
 pub close_keeps : (s : State) (before counted caller : ℕ) (kind : Kind) (horizon : ℕ) (got : Reply) → is_opening (answer s caller (act.Close kind horizon)) ≡ false → IsReplied before counted (answer s caller (act.Close kind horizon)) got → (after caller (act.Close kind horizon) got s).open_round ≡ s.open_round
 close_keeps s before counted caller kind horizon got un told = ⊎_elim
     (λ same. subst (λ (r : Reply). (after caller (act.Close kind horizon) r s).open_round ≡ s.open_round) (sym same)
-      (close_rows (λ r. (after caller (act.Close kind horizon) r s).open_round ≡ s.open_round) s.openings s.open_round caller kind horizon un (λ w. refl) (λ m. refl)))
+    (close_rows (λ r. (after caller (act.Close kind horizon) r s).open_round ≡ s.open_round) s.openings s.open_round caller kind horizon un (λ w. refl) (λ m. refl)))
     (λ failed. subst (λ (r : Reply). (after caller (act.Close kind horizon) r s).open_round ≡ s.open_round) (sym failed.1) refl)
     told

@@ -121,7 +121,7 @@ room_open s a round is = ap (λ (o : Option OpenRound). if is_some o then 2 else
 module _ {D : Type 0} (kept kept' : RecordedView D) (rounds : List CutView) (len capacity : ℕ) (was : IsDesk kept rounds len capacity) where
   -- an entry that opens and publishes nothing
   pub desk_acted : (caller : ℕ) (a : Act) (got : Reply) → IsUnpublished got → is_opening got ≡ false → kept'.book.history ≡ kept.book.history ++ entry_of caller a got ∷ [] → kept'.recorder.cleared_with ≡ kept.recorder.cleared_with
-    → room_for (state_of kept.book.history) a ≤ kept'.book.room + 1 → kept.recorder.spare ≤ kept'.recorder.spare → IsDesk kept' rounds len capacity
+      → room_for (state_of kept.book.history) a ≤ kept'.book.room + 1 → kept.recorder.spare ≤ kept'.recorder.spare → IsDesk kept' rounds len capacity
   desk_acted caller a got unpublished unopening later same room spare =
       let long : length kept'.book.history ≡ length kept.book.history + 1 = ap length later ∙ length-append kept.book.history (entry_of caller a got ∷ []) in
       let cuts : cuts_after kept'.recorder.cleared_with kept'.book.history ≡ cuts_after kept.recorder.cleared_with kept.book.history =
@@ -132,10 +132,10 @@ module _ {D : Type 0} (kept kept' : RecordedView D) (rounds : List CutView) (len
         few = omega (arith, was.few, same, long);
         cuts = was.cuts ∙ sym cuts;
         ready = λ round is.
-        let now : (after caller a got (state_of kept.book.history)).open_round ≡ Some round = ap (λ (past : List Entry). (state past).open_round) (sym (ap reverse later ∙ reverse-append kept.book.history (entry_of caller a got ∷ []))) ∙ is in
-        let before : (state_of kept.book.history).open_round ≡ Some round = open_before caller a got (state_of kept.book.history) round unopening now in
-        let places = was.ready round before in
-        record { entry = λ closed. omega (arith, room, room_open (state_of kept.book.history) a round before); body = omega (arith, places.body, spare); cut = places.cut };
+            let now : (after caller a got (state_of kept.book.history)).open_round ≡ Some round = ap (λ (past : List Entry). (state past).open_round) (sym (ap reverse later ∙ reverse-append kept.book.history (entry_of caller a got ∷ []))) ∙ is in
+            let before : (state_of kept.book.history).open_round ≡ Some round = open_before caller a got (state_of kept.book.history) round unopening now in
+            let places = was.ready round before in
+            record { entry = λ closed. omega (arith, room, room_open (state_of kept.book.history) a round before); body = omega (arith, places.body, spare); cut = places.cut };
       }
 
   -- no entry
@@ -144,8 +144,8 @@ module _ {D : Type 0} (kept kept' : RecordedView D) (rounds : List CutView) (len
     few = omega (arith, was.few, same, ap length history);
     cuts = was.cuts ∙ sym (ap (λ (n : ℕ). cuts_after n kept'.book.history) same ∙ ap (cuts_after kept.recorder.cleared_with) history);
     ready = λ round is.
-    let places = was.ready round (ap (λ (h : List Entry). (state_of h).open_round) (sym history) ∙ is) in
-    record { entry = λ closed. omega (arith, places.entry (ap (has_closed round.owner) (sym history) ∙ closed), room); body = omega (arith, places.body, spare); cut = places.cut };
+        let places = was.ready round (ap (λ (h : List Entry). (state_of h).open_round) (sym history) ∙ is) in
+        record { entry = λ closed. omega (arith, places.entry (ap (has_closed round.owner) (sym history) ∙ closed), room); body = omega (arith, places.body, spare); cut = places.cut };
   }
 
   -- a clearing
@@ -157,8 +157,8 @@ module _ {D : Type 0} (kept kept' : RecordedView D) (rounds : List CutView) (len
         few = omega (arith, same, ap length history);
         cuts = sym (ap (λ (n : ℕ). cuts_after n kept'.book.history) (same ∙ ap length (sym history)) ∙ cuts_none kept'.book.history);
         ready = λ round is.
-        let places = was.ready round (ap (λ (h : List Entry). (state_of h).open_round) (sym history) ∙ is) in
-        record { entry = λ closed. omega (arith, places.entry (ap (has_closed round.owner) (sym history) ∙ closed), room); body = omega (arith, places.body, spare); cut = omega (arith, places.cut, places') };
+            let places = was.ready round (ap (λ (h : List Entry). (state_of h).open_round) (sym history) ∙ is) in
+            record { entry = λ closed. omega (arith, places.entry (ap (has_closed round.owner) (sym history) ∙ closed), room); body = omega (arith, places.body, spare); cut = omega (arith, places.cut, places') };
       }
 
   -- more memory for the rounds
@@ -174,7 +174,7 @@ module _ {D : Type 0} (kept kept' : RecordedView D) (rounds : List CutView) (len
 
   -- a Close, with the memory for the publication of its round
   pub desk_closed : (caller : ℕ) (a : Act) (got : Reply) (capacity' : ℕ) → IsUnpublished got → kept'.book.history ≡ kept.book.history ++ entry_of caller a got ∷ [] → kept'.recorder.cleared_with ≡ kept.recorder.cleared_with
-    → 1 ≤ kept'.book.room → (IsSpared kept → IsSpared kept') → len < capacity' → IsDesk kept' rounds len capacity'
+      → 1 ≤ kept'.book.room → (IsSpared kept → IsSpared kept') → len < capacity' → IsDesk kept' rounds len capacity'
   desk_closed caller a got capacity' unpublished later same room stays places =
       let long : length kept'.book.history ≡ length kept.book.history + 1 = ap length later ∙ length-append kept.book.history (entry_of caller a got ∷ []) in
       let cuts : cuts_after kept'.recorder.cleared_with kept'.book.history ≡ cuts_after kept.recorder.cleared_with kept.book.history =
@@ -189,7 +189,7 @@ module _ {D : Type 0} (kept kept' : RecordedView D) (rounds : List CutView) (len
 
   -- a publication that succeeded
   pub desk_published : (caller : ℕ) (a : Act) (total : ℕ) (cut : CutView) (capacity' : ℕ) → GivesCut (state_of kept.book.history).open_round (entry_of caller a (reply.Published total)) (Some cut)
-    → kept'.book.history ≡ kept.book.history ++ entry_of caller a (reply.Published total) ∷ [] → kept'.recorder.cleared_with ≡ kept.recorder.cleared_with → IsDesk kept' (rounds ++ cut ∷ []) (len + 1) capacity'
+      → kept'.book.history ≡ kept.book.history ++ entry_of caller a (reply.Published total) ∷ [] → kept'.recorder.cleared_with ≡ kept.recorder.cleared_with → IsDesk kept' (rounds ++ cut ∷ []) (len + 1) capacity'
   desk_published caller a total cut capacity' gives later same =
       let e = entry_of caller a (reply.Published total) in
       let long : length kept'.book.history ≡ length kept.book.history + 1 = ap length later ∙ length-append kept.book.history (e ∷ []) in
@@ -204,13 +204,13 @@ module _ {D : Type 0} (kept kept' : RecordedView D) (rounds : List CutView) (len
         few = omega (arith, was.few, same, long);
         cuts = sym cuts;
         ready = λ round is.
-        let now : None ≡ Some round = ap (λ (past : List Entry). (state past).open_round) (sym (ap reverse later ∙ reverse-append kept.book.history (e ∷ []))) ∙ is in
-        absurd (cc now);
+            let now : None ≡ Some round = ap (λ (past : List Entry). (state past).open_round) (sym (ap reverse later ∙ reverse-append kept.book.history (e ∷ []))) ∙ is in
+            absurd (cc now);
       }
 
   -- a publication that failed: its round is open, and its owner has to close again
   pub desk_failed : (caller : ℕ) (a : Act) (before counted : ℕ) (open_now : OpenRound) → IsOwned caller (state_of kept.book.history) open_now
-    → kept'.book.history ≡ kept.book.history ++ entry_of caller a (reply.Refused (why.Device before counted)) ∷ [] → kept'.recorder.cleared_with ≡ kept.recorder.cleared_with → kept.recorder.spare ≤ kept'.recorder.spare → IsDesk kept' rounds len capacity
+      → kept'.book.history ≡ kept.book.history ++ entry_of caller a (reply.Refused (why.Device before counted)) ∷ [] → kept'.recorder.cleared_with ≡ kept.recorder.cleared_with → kept.recorder.spare ≤ kept'.recorder.spare → IsDesk kept' rounds len capacity
   desk_failed caller a before counted open_now owned later same spare =
       let got = reply.Refused (why.Device before counted) in
       let e = entry_of caller a got in
@@ -224,13 +224,13 @@ module _ {D : Type 0} (kept kept' : RecordedView D) (rounds : List CutView) (len
         few = omega (arith, was.few, same, long);
         cuts = was.cuts ∙ sym cuts;
         ready = λ round is.
-        let before_it : (state_of kept.book.history).open_round ≡ Some round = ap (λ (p : List Entry). (state p).open_round) (sym past) ∙ is in
-        let places = was.ready round before_it in
-        let one : open_now ≡ round = same_Some open_now round (sym owned.is_open ∙ before_it) in
-        let by : caller ≡ round.owner = sym owned.owner ∙ ap (λ (r : OpenRound). r.owner) one in
-        let none : has_closed round.owner kept'.book.history ≡ false =
-        ap (closed_last round.owner) past ∙ ap (λ (b : Bool). if b then false else closed_last round.owner (reverse kept.book.history)) (eq-eqb caller round.owner by) in
-        record { entry = λ closed. absurd (cc (none, closed)); body = omega (arith, places.body, spare); cut = places.cut };
+            let before_it : (state_of kept.book.history).open_round ≡ Some round = ap (λ (p : List Entry). (state p).open_round) (sym past) ∙ is in
+            let places = was.ready round before_it in
+            let one : open_now ≡ round = same_Some open_now round (sym owned.is_open ∙ before_it) in
+            let by : caller ≡ round.owner = sym owned.owner ∙ ap (λ (r : OpenRound). r.owner) one in
+            let none : has_closed round.owner kept'.book.history ≡ false =
+            ap (closed_last round.owner) past ∙ ap (λ (b : Bool). if b then false else closed_last round.owner (reverse kept.book.history)) (eq-eqb caller round.owner by) in
+            record { entry = λ closed. absurd (cc (none, closed)); body = omega (arith, places.body, spare); cut = places.cut };
       }
 
 -- what a publication got that was due, and was not accepted or was

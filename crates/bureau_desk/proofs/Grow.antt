@@ -19,9 +19,9 @@ module _ (now now' : ℕ) (image image' : ℕ → List ℕ → Type 0) (opened f
   -- the last goes on
   goes_on : (t : ℕ) (c : List ℕ) → has.at (length (accepted_calls history)) ≤ t → t ≤ now' → image' t c → HoldsAt (history ++ e ∷ []) (length (accepted_calls history)) c
   goes_on t c since le there = ⊎_elim
-    (λ late. holds c (passes.since t c late le there))
-    (λ early. holds_more history (e ∷ []) (length (accepted_calls history)) c (omega arith) (has.last t c since early (passes.no_more t c early there)))
-    (cases_lt now t)
+      (λ late. holds c (passes.since t c late le there))
+      (λ early. holds_more history (e ∷ []) (length (accepted_calls history)) c (omega arith) (has.last t c since early (passes.no_more t c early there)))
+      (cases_lt now t)
 
   -- an entry that is not accepted
   pub moments_kept : is_accepted e ≡ false → HasMoments now' image' opened from (history ++ e ∷ [])
@@ -54,21 +54,21 @@ module _ (now now' : ℕ) (image image' : ℕ → List ℕ → Type 0) (opened f
 
     below_now : (i : ℕ) → from ≤ i → at' i ≤ now'
     below_now i low = ⊎_elim
-      (λ past. omega (arith, at_new i past))
-      (λ le. omega (arith, at_old i le, has.below i low le, passes.later))
-      (cases_lt (length (accepted_calls history)) i)
+        (λ past. omega (arith, at_new i past))
+        (λ le. omega (arith, at_old i le, has.below i low le, passes.later))
+        (cases_lt (length (accepted_calls history)) i)
 
     spans' : (i t : ℕ) (c : List ℕ) → from ≤ i → i < length (accepted_calls (history ++ e ∷ [])) → at' i ≤ t → t < at' (i + 1) → image' t c → HoldsAt (history ++ e ∷ []) i c
     spans' i t c low high since until there =
         let le : i ≤ length (accepted_calls history) = omega (arith, high, long) in
         let since_old : has.at i ≤ t = subst (λ (m : ℕ). m ≤ t) (at_old i le) since in
         ⊎_elim
-          (λ inner. earlier i t c low inner since_old (subst (λ (m : ℕ). t < m) (at_old (i + 1) (omega (arith, inner))) until) there)
-          (λ outer.
-            let is : i ≡ length (accepted_calls history) = omega (arith, le, outer) in
-            subst (λ (k : ℕ). HoldsAt (history ++ e ∷ []) k c) (sym is)
-            (goes_on t c (subst (λ (k : ℕ). has.at k ≤ t) is since_old) (omega (arith, until, below_now (i + 1) (omega (arith, low)))) there))
-          (cases_lt i (length (accepted_calls history)))
+        (λ inner. earlier i t c low inner since_old (subst (λ (m : ℕ). t < m) (at_old (i + 1) (omega (arith, inner))) until) there)
+        (λ outer.
+        let is : i ≡ length (accepted_calls history) = omega (arith, le, outer) in
+        subst (λ (k : ℕ). HoldsAt (history ++ e ∷ []) k c) (sym is)
+        (goes_on t c (subst (λ (k : ℕ). has.at k ≤ t) is since_old) (omega (arith, until, below_now (i + 1) (omega (arith, low)))) there))
+        (cases_lt i (length (accepted_calls history)))
 
     last' : (t : ℕ) (c : List ℕ) → at' (length (accepted_calls (history ++ e ∷ []))) ≤ t → t ≤ now' → image' t c → HoldsAt (history ++ e ∷ []) (length (accepted_calls (history ++ e ∷ []))) c
     last' t c since le there =
@@ -81,9 +81,9 @@ module _ (now now' : ℕ) (image image' : ℕ → List ℕ → Type 0) (opened f
       begins = at_old from has.within ∙ has.begins;
       within = omega (arith, has.within, long);
       rises = λ i low high. ⊎_elim
-        (λ inner. omega (arith, at_old i (omega (arith, inner)), at_old (i + 1) (omega (arith, inner)), has.rises i low inner))
-        (λ outer. omega (arith, at_new (i + 1) (omega (arith, outer)), below_now i low))
-        (cases_lt i (length (accepted_calls history)));
+          (λ inner. omega (arith, at_old i (omega (arith, inner)), at_old (i + 1) (omega (arith, inner)), has.rises i low inner))
+          (λ outer. omega (arith, at_new (i + 1) (omega (arith, outer)), below_now i low))
+          (cases_lt i (length (accepted_calls history)));
       below = λ i low high. below_now i low;
       spans = spans';
       last = last';
@@ -95,9 +95,9 @@ pub held_on : (now now' : ℕ) (image image' : ℕ → List ℕ → Type 0) (sin
 held_on now now' image image' since count history e P few held passes holds t c from le there =
     subst (λ (h : List Entry). HoldsFirst (accepted_calls h) c) (sym (take-append-le count history (e ∷ []) few))
     (⊎_elim
-      (λ late. first_of_own history (e ∷ []) count c (holds c (passes.since t c late le there)))
-      (λ early. held t c from early (passes.no_more t c early there))
-      (cases_lt now t))
+    (λ late. first_of_own history (e ∷ []) count c (holds c (passes.since t c late le there)))
+    (λ early. held t c from early (passes.no_more t c early there))
+    (cases_lt now t))
 
 -- from a clearing at the present moment on
 pub held_now : (now : ℕ) (image : ℕ → List ℕ → Type 0) (opened from : ℕ) (history : List Entry) → HasMoments now image opened from history → HeldSince now (length history) now image history

@@ -88,25 +88,25 @@ all_holds history c holds = record {
 -- what a crash leaves while a call is in progress is kept by the history with its entry, accepted or not
 pub during_accepted : (history : List Entry) (e : Entry) (c : List ℕ) → is_accepted e ≡ true → HoldsDuring history (call_of e) c → HoldsAt (history ++ e ∷ []) (length (accepted_calls history)) c
 during_accepted history e c is holds = ⊎_elim
-  (λ left. left_holds history (e ∷ []) left.0 c left.1 left.2)
-  (λ all. record {
-    calls = accepted_calls history ++ call_of e ∷ [];
-    keeps = keeps_all (history ++ e ∷ []) (accepted_calls history ++ call_of e ∷ []) (inl (sym (accepted_more history e is)));
-    first = subst (λ (first : List Call). HasOneMore first (accepted_calls history ++ call_of e ∷ [])) (sym (take_own history (e ∷ []))) (inr (call_of e, refl));
-    holds = all;
-  })
-  holds
+    (λ left. left_holds history (e ∷ []) left.0 c left.1 left.2)
+    (λ all. record {
+      calls = accepted_calls history ++ call_of e ∷ [];
+      keeps = keeps_all (history ++ e ∷ []) (accepted_calls history ++ call_of e ∷ []) (inl (sym (accepted_more history e is)));
+      first = subst (λ (first : List Call). HasOneMore first (accepted_calls history ++ call_of e ∷ [])) (sym (take_own history (e ∷ []))) (inr (call_of e, refl));
+      holds = all;
+    })
+    holds
 
 pub during_failed : (history : List Entry) (e : Entry) (c : List ℕ) → is_of_device e.reply ≡ true → is_accepted e ≡ false → HoldsDuring history (call_of e) c → HoldsAt (history ++ e ∷ []) (length (accepted_calls history)) c
 during_failed history e c device is holds = ⊎_elim
-  (λ left. left_holds history (e ∷ []) left.0 c left.1 left.2)
-  (λ all. record {
-    calls = accepted_calls history ++ call_of e ∷ [];
-    keeps = keeps_all (history ++ e ∷ []) (accepted_calls history ++ call_of e ∷ []) (inr (call_of e, tried_new history e device, ap (λ (l : List Call). l ++ call_of e ∷ []) (sym (accepted_same history e is))));
-    first = subst (λ (first : List Call). HasOneMore first (accepted_calls history ++ call_of e ∷ [])) (sym (take_own history (e ∷ []))) (inr (call_of e, refl));
-    holds = all;
-  })
-  holds
+    (λ left. left_holds history (e ∷ []) left.0 c left.1 left.2)
+    (λ all. record {
+      calls = accepted_calls history ++ call_of e ∷ [];
+      keeps = keeps_all (history ++ e ∷ []) (accepted_calls history ++ call_of e ∷ []) (inr (call_of e, tried_new history e device, ap (λ (l : List Call). l ++ call_of e ∷ []) (sym (accepted_same history e is))));
+      first = subst (λ (first : List Call). HasOneMore first (accepted_calls history ++ call_of e ∷ [])) (sym (take_own history (e ∷ []))) (inr (call_of e, refl));
+      holds = all;
+    })
+    holds
 
 -- what holds all accepted calls of a history holds those accepted among its first so many entries
 pub first_of_own : (history more : List Entry) (count : ℕ) (c : List ℕ) → HoldsAt (history ++ more) (length (accepted_calls history)) c → HoldsFirst (accepted_calls (take count history)) c

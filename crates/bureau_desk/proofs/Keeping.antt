@@ -11,8 +11,8 @@ use Rattle.bureau_desk.specs.Desks.{desk_view, KeepsDesk}
 use Rattle.bureau_desk.proofs.Acted.{present_holds}
 
 pub keeps_desk : {D : Type 0} (tells : D → Bool) (moment : D → ℕ) (image : D → ℕ → List ℕ → Type 0) (count : D → ℕ) (kept : RecordedView D) (rounds : List CutView)
-  → Records tells moment image count kept.recorder kept.book.history → rounds ≡ cuts_after kept.recorder.cleared_with kept.book.history → IsLegal kept.book.history → AreValid kept.book.history → IsWithinLimits kept.book.history
-  → KeepsDesk tells moment image count (desk_view kept rounds)
+    → Records tells moment image count kept.recorder kept.book.history → rounds ≡ cuts_after kept.recorder.cleared_with kept.book.history → IsLegal kept.book.history → AreValid kept.book.history → IsWithinLimits kept.book.history
+    → KeepsDesk tells moment image count (desk_view kept rounds)
 keeps_desk tells moment image count kept rounds has cuts legal valid within = record {
   legal = legal;
   valid = valid;

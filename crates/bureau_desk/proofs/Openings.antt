@@ -86,8 +86,8 @@ none_between low high entries all = All-weaker (λ (e : Entry). is_accepted e �
 -- ---- an opening
 
 pub records_opened : {D : Type 0} (tells : D → Bool) (reads : D → List ℕ) (moment : D → ℕ) (image : D → ℕ → List ℕ → Type 0) (count : D → ℕ) (disk : D) (journal : JournalView D) (records : List Record) (spare : ℕ)
-  → IsOpen tells reads moment image count disk journal records → AreSound records
-  → Records tells moment image count (record { journal = journal; spare = spare; opened = journal.disk; opened_with = length (history_of records); cleared = journal.disk; cleared_with = length (history_of records) }) (history_of records)
+    → IsOpen tells reads moment image count disk journal records → AreSound records
+    → Records tells moment image count (record { journal = journal; spare = spare; opened = journal.disk; opened_with = length (history_of records); cleared = journal.disk; cleared_with = length (history_of records) }) (history_of records)
 records_opened tells reads moment image count disk journal records spare is sound =
     let history = history_of records in
     let here = moment journal.disk in
@@ -102,32 +102,32 @@ records_opened tells reads moment image count disk journal records spare is soun
       later = omega arith;
       between = none_between (count journal.disk) (count journal.disk) history sound.accepted;
       told = λ told.
-      let told_old = subst (λ (b : Bool). IsTrue b) is.same told in
-      let turned = is.turned told_old in
-      let bodies = bodies_of_history records sound in
-      let moments : HasMoments here images turn (length history) history = record {
-        at = λ i. turn;
-        begins = refl;
-        within = omega (arith, many);
-        rises = λ i low high. omega arith;
-        below = λ i low high. turned.ended;
-        spans = λ i t c low high since until there. absurd (omega (arith, since, until));
-        last = λ t c since le there. all_holds history c (subst (λ (bs : List (List ℕ)). Rattle.round_journal.specs.Bytes.Holds c bs) (sym bodies) (turned.late t c since le there (bodies_of records) (is.found.holds told_old)));
-      } in
-      record {
-        kept = (None, subst (λ (bs : List (List ℕ)). IsKept tells moment image journal bs None) (sym bodies) (is.kept told_old), tt);
-        moments = moments;
-        since = held_now here images turn (length history) history moments;
-      };
+          let told_old = subst (λ (b : Bool). IsTrue b) is.same told in
+          let turned = is.turned told_old in
+          let bodies = bodies_of_history records sound in
+          let moments : HasMoments here images turn (length history) history = record {
+            at = λ i. turn;
+            begins = refl;
+            within = omega (arith, many);
+            rises = λ i low high. omega arith;
+            below = λ i low high. turned.ended;
+            spans = λ i t c low high since until there. absurd (omega (arith, since, until));
+            last = λ t c since le there. all_holds history c (subst (λ (bs : List (List ℕ)). Rattle.round_journal.specs.Bytes.Holds c bs) (sym bodies) (turned.late t c since le there (bodies_of records) (is.found.holds told_old)));
+          } in
+          record {
+            kept = (None, subst (λ (bs : List (List ℕ)). IsKept tells moment image journal bs None) (sym bodies) (is.kept told_old), tt);
+            moments = moments;
+            since = held_now here images turn (length history) history moments;
+          };
     }
 
 abbrev made : {D : Type 0} → JournalView D → ℕ → D → ℕ → D → ℕ → RecorderView D
 made journal spare opened opened_with cleared cleared_with = record { journal = journal; spare = spare; opened = opened; opened_with = opened_with; cleared = cleared; cleared_with = cleared_with }
 
 pub records_started : {D : Type 0} (tells : D → Bool) (reads : D → List ℕ) (moment : D → ℕ) (image : D → ℕ → List ℕ → Type 0) (count : D → ℕ) (disk : D) (journal : JournalView D) (records : List Record) (r : RecorderView D) (history : List Entry) (n : ℕ)
-  → IsOpen tells reads moment image count disk journal records → AreSound records → history ≡ history_of records → n ≡ length history
-  → r.journal ≡ journal → r.opened ≡ journal.disk → r.opened_with ≡ n → r.cleared ≡ journal.disk → r.cleared_with ≡ n
-  → Records tells moment image count r history
+    → IsOpen tells reads moment image count disk journal records → AreSound records → history ≡ history_of records → n ≡ length history
+    → r.journal ≡ journal → r.opened ≡ journal.disk → r.opened_with ≡ n → r.cleared ≡ journal.disk → r.cleared_with ≡ n
+    → Records tells moment image count r history
 records_started {D = D} tells reads moment image count disk journal records r history n is sound same long at_journal opened opened_with cleared cleared_with =
     let many : length (history_of records) ≡ n = ap length (sym same) ∙ sym long in
     let view : made journal r.spare journal.disk (length (history_of records)) journal.disk (length (history_of records)) ≡ r =
@@ -141,7 +141,7 @@ records_started {D = D} tells reads moment image count disk journal records r hi
 
 -- the opening ends at the present
 pub records_begun : {D : Type 0} (tells : D → Bool) (moment : D → ℕ) (image : D → ℕ → List ℕ → Type 0) (count : D → ℕ) (r r' : RecorderView D) (history : List Entry) → Records tells moment image count r history → All (λ e. is_accepted e ≡ true) history
-  → r'.journal ≡ r.journal → r'.opened ≡ r.journal.disk → r'.opened_with ≡ r.opened_with → r'.cleared ≡ r.journal.disk → r'.cleared_with ≡ length history → Records tells moment image count r' history
+    → r'.journal ≡ r.journal → r'.opened ≡ r.journal.disk → r'.opened_with ≡ r.opened_with → r'.cleared ≡ r.journal.disk → r'.cleared_with ≡ length history → Records tells moment image count r' history
 records_begun {D = D} tells moment image count r r' history has accepted journal opened opened_with cleared cleared_with =
     let was : Records tells moment image count (made r.journal r'.spare r.journal.disk r.opened_with r.journal.disk (length history)) history = record {
       place = has.place;

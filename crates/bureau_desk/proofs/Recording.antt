@@ -26,30 +26,30 @@ use Rattle.bureau_desk.proofs.Grow.{moments_kept, moments_grow, held_on, held_no
 -- what an append may leave is what is left by the history, or its accepted calls and the one in progress
 pub during_of_one : (history : List Entry) (last : Option (List ℕ)) (call : Call) (c : List ℕ) → IsTried history last → HoldsOne (bodies_of_calls (accepted_calls history)) last (body_of call.caller call.act) c → HoldsDuring history call c
 during_of_one history None call c tried one = ⊎_elim
-  (λ alone. inl (accepted_calls history, inl refl, inl alone))
-  (λ more. ⊎_elim
+    (λ alone. inl (accepted_calls history, inl refl, inl alone))
+    (λ more. ⊎_elim
     (λ new. inr (inl (subst (StandsFor c) (sym (bodies_append (accepted_calls history) (call ∷ []))) new)))
     (λ other. absurd (cc other.1))
     more)
-  one
+    one
 during_of_one history (Some body) call c tried one = ⊎_elim
-  (λ alone. inl (accepted_calls history, inl refl, inl alone))
-  (λ more. ⊎_elim
+    (λ alone. inl (accepted_calls history, inl refl, inl alone))
+    (λ more. ⊎_elim
     (λ new. inr (inl (subst (StandsFor c) (sym (bodies_append (accepted_calls history) (call ∷ []))) new)))
     (λ other.
-      let is : other.0 ≡ body_of tried.0.caller tried.0.act = cc (other.1, tried.2) in
-      let stands : StandsFor c (bodies_of_calls (accepted_calls history) ++ body_of tried.0.caller tried.0.act ∷ []) = subst (λ (b : List ℕ). StandsFor c (bodies_of_calls (accepted_calls history) ++ b ∷ [])) is other.2 in
-      inl (accepted_calls history ++ tried.0 ∷ [], inr (tried.0, tried.1, refl), inl (subst (StandsFor c) (sym (bodies_append (accepted_calls history) (tried.0 ∷ []))) stands)))
+    let is : other.0 ≡ body_of tried.0.caller tried.0.act = cc (other.1, tried.2) in
+    let stands : StandsFor c (bodies_of_calls (accepted_calls history) ++ body_of tried.0.caller tried.0.act ∷ []) = subst (λ (b : List ℕ). StandsFor c (bodies_of_calls (accepted_calls history) ++ b ∷ [])) is other.2 in
+    inl (accepted_calls history ++ tried.0 ∷ [], inr (tried.0, tried.1, refl), inl (subst (StandsFor c) (sym (bodies_append (accepted_calls history) (tried.0 ∷ []))) stands)))
     more)
-  one
+    one
 
 -- what may be left as the body that was tried last, after an append that failed
 tried_after : (history : List Entry) (e : Entry) (before after : Option (List ℕ)) → is_of_device e.reply ≡ true → is_accepted e ≡ false → IsTried history before → IsLast before (body_of e.caller e.act) after → IsTried (history ++ e ∷ []) after
 tried_after history e before None device refused tried is = tt
 tried_after history e before (Some body) device refused tried is = ⊎_elim
-  (λ same. let old : IsTried history (Some body) = subst (IsTried history) (sym same) tried in (old.0, tried_stays history e old.0 refused old.1, old.2))
-  (λ more. ⊎_elim (λ none. absurd (cc none)) (λ own. (call_of e, tried_new history e device, cc own)) more)
-  is
+    (λ same. let old : IsTried history (Some body) = subst (IsTried history) (sym same) tried in (old.0, tried_stays history e old.0 refused old.1, old.2))
+    (λ more. ⊎_elim (λ none. absurd (cc none)) (λ own. (call_of e, tried_new history e device, cc own)) more)
+    is
 
 tried_noted : (history : List Entry) (e : Entry) (last : Option (List ℕ)) → is_accepted e ≡ false → IsTried history last → IsTried (history ++ e ∷ []) last
 tried_noted history e None refused tried = tt
@@ -110,11 +110,11 @@ module _ {D : Type 0} (tells : D → Bool) (moment : D → ℕ) (image : D → �
         later = has.later;
         between = between_more (count r.opened) (count r.journal.disk) (count r.journal.disk) history e (omega arith) has.between (no_counts (count r.opened) (count r.journal.disk) e undevice);
         told = λ told. let was = has.told told in
-        record {
-          kept = (was.kept.0, subst (λ (calls : List Call). IsKept tells moment image r.journal (bodies_of_calls calls) was.kept.0) (sym (accepted_same history e refused)) was.kept.1, tried_noted history e was.kept.0 refused was.kept.2);
-          moments = moments_kept (moment r.journal.disk) (moment r.journal.disk) (image r.journal.disk) (image r.journal.disk) (moment r.journal.opened) r.opened_with history e empty was.moments stays (λ c no. absurd no) refused;
-          since = held_on (moment r.journal.disk) (moment r.journal.disk) (image r.journal.disk) (image r.journal.disk) (moment r.cleared) r.cleared_with history e empty has.cleared_few was.since stays (λ c no. absurd no);
-        };
+            record {
+              kept = (was.kept.0, subst (λ (calls : List Call). IsKept tells moment image r.journal (bodies_of_calls calls) was.kept.0) (sym (accepted_same history e refused)) was.kept.1, tried_noted history e was.kept.0 refused was.kept.2);
+              moments = moments_kept (moment r.journal.disk) (moment r.journal.disk) (image r.journal.disk) (image r.journal.disk) (moment r.journal.opened) r.opened_with history e empty was.moments stays (λ c no. absurd no) refused;
+              since = held_on (moment r.journal.disk) (moment r.journal.disk) (image r.journal.disk) (image r.journal.disk) (moment r.cleared) r.cleared_with history e empty has.cleared_few was.since stays (λ c no. absurd no);
+            };
       }
 
   -- a clearing
@@ -139,13 +139,12 @@ module _ {D : Type 0} (tells : D → Bool) (moment : D → ℕ) (image : D → �
 
   -- an append of the call of an entry
   module _ (j j' : JournalView D) (spare spare' : ℕ) (opened : D) (opened_with : ℕ) (cleared : D) (cleared_with : ℕ) (history : List Entry) (e : Entry) (body : List ℕ)
-    (has : Records tells moment image count (view_at j spare opened opened_with cleared cleared_with) history)
-    (body_is : body ≡ body_of e.caller e.act)
-    (same_opened : j'.opened ≡ j.opened)
-    (same_tells : tells j'.disk ≡ tells j.disk)
-    (counts : count j.disk ≤ count j'.disk)
-    (crash : (bodies : List (List ℕ)) (last : Option (List ℕ)) → IsKept tells moment image j bodies last → Goes moment image j.disk j'.disk (HoldsOne bodies last body)) where
-
+      (has : Records tells moment image count (view_at j spare opened opened_with cleared cleared_with) history)
+      (body_is : body ≡ body_of e.caller e.act)
+      (same_opened : j'.opened ≡ j.opened)
+      (same_tells : tells j'.disk ≡ tells j.disk)
+      (counts : count j.disk ≤ count j'.disk)
+      (crash : (bodies : List (List ℕ)) (last : Option (List ℕ)) → IsKept tells moment image j bodies last → Goes moment image j.disk j'.disk (HoldsOne bodies last body)) where
     was_told : IsTrue (tells j'.disk) → IsRecorded tells moment image (view_at j spare opened opened_with cleared cleared_with) history
     was_told told = has.told (subst (λ (b : Bool). IsTrue b) same_tells told)
 
@@ -157,8 +156,8 @@ module _ {D : Type 0} (tells : D → Bool) (moment : D → ℕ) (image : D → �
         (λ c one. during_of_one history kept.0 (call_of e) c kept.2 (subst (λ (b : List ℕ). HoldsOne (bodies_of_calls (accepted_calls history)) kept.0 b c) body_is one))
 
     pub records_accepted : is_accepted e ≡ true → j'.gate ≡ j.gate + 5 + length body → length body ≡ body_length_of e.act
-      → ((bodies : List (List ℕ)) (last : Option (List ℕ)) → IsKept tells moment image j bodies last → IsKept tells moment image j' (bodies ++ body ∷ []) None)
-      → Records tells moment image count (view_at j' spare' opened opened_with cleared cleared_with) (history ++ e ∷ [])
+        → ((bodies : List (List ℕ)) (last : Option (List ℕ)) → IsKept tells moment image j bodies last → IsKept tells moment image j' (bodies ++ body ∷ []) None)
+        → Records tells moment image count (view_at j' spare' opened opened_with cleared cleared_with) (history ++ e ∷ [])
     records_accepted accepted gate length_is done =
         let uses = use_law history e in
         let long : length (history ++ e ∷ []) ≡ length history + 1 = length-append history (e ∷ []) in
@@ -171,25 +170,25 @@ module _ {D : Type 0} (tells : D → Bool) (moment : D → ℕ) (image : D → �
           later = omega (arith, has.later, counts);
           between = between_more (count opened) (count j.disk) (count j'.disk) history e counts has.between (no_counts (count opened) (count j'.disk) e undevice);
           told = λ told.
-          let was = was_told told in
-          let told_old = subst (λ (b : Bool). IsTrue b) same_tells told in
-          let goes = append_goes told_old in
-          let same : bodies_of_calls (accepted_calls history) ++ body ∷ [] ≡ bodies_of_calls (accepted_calls (history ++ e ∷ [])) =
-          ap (λ (b : List ℕ). bodies_of_calls (accepted_calls history) ++ b ∷ []) body_is ∙ sym (ap bodies_of_calls (accepted_more history e accepted) ∙ bodies_append (accepted_calls history) (call_of e ∷ [])) in
-          let kept : IsKept tells moment image j' (bodies_of_calls (accepted_calls (history ++ e ∷ []))) None = subst (λ (bs : List (List ℕ)). IsKept tells moment image j' bs None) same (done (bodies_of_calls (accepted_calls history)) was.kept.0 was.kept.1) in
-          let holds : (c : List ℕ) → HoldsDuring history (call_of e) c → HoldsAt (history ++ e ∷ []) (length (accepted_calls history)) c = λ c during. during_accepted history e c accepted during in
-          record {
-            kept = (None, kept, tt);
-            moments = subst (λ (d : D). HasMoments (moment j'.disk) (image j'.disk) (moment d) opened_with (history ++ e ∷ [])) (sym same_opened)
-            (moments_grow (moment j.disk) (moment j'.disk) (image j.disk) (image j'.disk) (moment j.opened) opened_with history e (HoldsDuring history (call_of e)) was.moments goes holds accepted
-            (λ c now. all_holds (history ++ e ∷ []) c (inl (record { short = kept.short; ends = kept.images c now }))));
-            since = held_on (moment j.disk) (moment j'.disk) (image j.disk) (image j'.disk) (moment cleared) cleared_with history e (HoldsDuring history (call_of e)) has.cleared_few was.since goes holds;
-          };
+              let was = was_told told in
+              let told_old = subst (λ (b : Bool). IsTrue b) same_tells told in
+              let goes = append_goes told_old in
+              let same : bodies_of_calls (accepted_calls history) ++ body ∷ [] ≡ bodies_of_calls (accepted_calls (history ++ e ∷ [])) =
+              ap (λ (b : List ℕ). bodies_of_calls (accepted_calls history) ++ b ∷ []) body_is ∙ sym (ap bodies_of_calls (accepted_more history e accepted) ∙ bodies_append (accepted_calls history) (call_of e ∷ [])) in
+              let kept : IsKept tells moment image j' (bodies_of_calls (accepted_calls (history ++ e ∷ []))) None = subst (λ (bs : List (List ℕ)). IsKept tells moment image j' bs None) same (done (bodies_of_calls (accepted_calls history)) was.kept.0 was.kept.1) in
+              let holds : (c : List ℕ) → HoldsDuring history (call_of e) c → HoldsAt (history ++ e ∷ []) (length (accepted_calls history)) c = λ c during. during_accepted history e c accepted during in
+              record {
+                kept = (None, kept, tt);
+                moments = subst (λ (d : D). HasMoments (moment j'.disk) (image j'.disk) (moment d) opened_with (history ++ e ∷ [])) (sym same_opened)
+                    (moments_grow (moment j.disk) (moment j'.disk) (image j.disk) (image j'.disk) (moment j.opened) opened_with history e (HoldsDuring history (call_of e)) was.moments goes holds accepted
+                    (λ c now. all_holds (history ++ e ∷ []) c (inl (record { short = kept.short; ends = kept.images c now }))));
+                since = held_on (moment j.disk) (moment j'.disk) (image j.disk) (image j'.disk) (moment cleared) cleared_with history e (HoldsDuring history (call_of e)) has.cleared_few was.since goes holds;
+              };
         }
 
     pub records_failed : is_accepted e ≡ false → is_of_device e.reply ≡ true → j'.gate ≡ j.gate → second_count e.reply ≤ count j'.disk → IsBetween (count j.disk) (count j'.disk) e
-      → ((bodies : List (List ℕ)) (last : Option (List ℕ)) → IsKept tells moment image j bodies last → (after : Option (List ℕ)) × IsLast last body after × IsKept tells moment image j' bodies after)
-      → Records tells moment image count (view_at j' spare' opened opened_with cleared cleared_with) (history ++ e ∷ [])
+        → ((bodies : List (List ℕ)) (last : Option (List ℕ)) → IsKept tells moment image j bodies last → (after : Option (List ℕ)) × IsLast last body after × IsKept tells moment image j' bodies after)
+        → Records tells moment image count (view_at j' spare' opened opened_with cleared cleared_with) (history ++ e ∷ [])
     records_failed refused device gate second own failed =
         let uses = use_law history e in
         let long : length (history ++ e ∷ []) ≡ length history + 1 = length-append history (e ∷ []) in
@@ -200,18 +199,18 @@ module _ {D : Type 0} (tells : D → Bool) (moment : D → ℕ) (image : D → �
           counted = omega (arith, count_more history e, second, has.counted, counts);
           later = omega (arith, has.later, counts);
           between = between_more (count opened) (count j.disk) (count j'.disk) history e counts has.between
-          (λ before counted told. let here = own before counted told in (omega (arith, here.0, has.later), here.1, here.2));
+              (λ before counted told. let here = own before counted told in (omega (arith, here.0, has.later), here.1, here.2));
           told = λ told.
-          let was = was_told told in
-          let told_old = subst (λ (b : Bool). IsTrue b) same_tells told in
-          let goes = append_goes told_old in
-          let after = failed (bodies_of_calls (accepted_calls history)) was.kept.0 was.kept.1 in
-          let last_is : IsLast was.kept.0 (body_of e.caller e.act) after.0 = subst (λ (b : List ℕ). IsLast was.kept.0 b after.0) body_is after.1 in
-          let holds : (c : List ℕ) → HoldsDuring history (call_of e) c → HoldsAt (history ++ e ∷ []) (length (accepted_calls history)) c = λ c during. during_failed history e c device refused during in
-          record {
-            kept = (after.0, subst (λ (calls : List Call). IsKept tells moment image j' (bodies_of_calls calls) after.0) (sym (accepted_same history e refused)) after.2, tried_after history e was.kept.0 after.0 device refused was.kept.2 last_is);
-            moments = subst (λ (d : D). HasMoments (moment j'.disk) (image j'.disk) (moment d) opened_with (history ++ e ∷ [])) (sym same_opened)
-            (moments_kept (moment j.disk) (moment j'.disk) (image j.disk) (image j'.disk) (moment j.opened) opened_with history e (HoldsDuring history (call_of e)) was.moments goes holds refused);
-            since = held_on (moment j.disk) (moment j'.disk) (image j.disk) (image j'.disk) (moment cleared) cleared_with history e (HoldsDuring history (call_of e)) has.cleared_few was.since goes holds;
-          };
+              let was = was_told told in
+              let told_old = subst (λ (b : Bool). IsTrue b) same_tells told in
+              let goes = append_goes told_old in
+              let after = failed (bodies_of_calls (accepted_calls history)) was.kept.0 was.kept.1 in
+              let last_is : IsLast was.kept.0 (body_of e.caller e.act) after.0 = subst (λ (b : List ℕ). IsLast was.kept.0 b after.0) body_is after.1 in
+              let holds : (c : List ℕ) → HoldsDuring history (call_of e) c → HoldsAt (history ++ e ∷ []) (length (accepted_calls history)) c = λ c during. during_failed history e c device refused during in
+              record {
+                kept = (after.0, subst (λ (calls : List Call). IsKept tells moment image j' (bodies_of_calls calls) after.0) (sym (accepted_same history e refused)) after.2, tried_after history e was.kept.0 after.0 device refused was.kept.2 last_is);
+                moments = subst (λ (d : D). HasMoments (moment j'.disk) (image j'.disk) (moment d) opened_with (history ++ e ∷ [])) (sym same_opened)
+                    (moments_kept (moment j.disk) (moment j'.disk) (image j.disk) (image j'.disk) (moment j.opened) opened_with history e (HoldsDuring history (call_of e)) was.moments goes holds refused);
+                since = held_on (moment j.disk) (moment j'.disk) (image j.disk) (image j'.disk) (moment cleared) cleared_with history e (HoldsDuring history (call_of e)) has.cleared_few was.since goes holds;
+              };
         }

@@ -63,3 +63,10 @@ pub record IsBegun {D : Type 0} (tells : D → Bool) (count : D → ℕ) (kept :
 -- why none begins: there was no memory for the abandonment, or the disk failed
 abbrev pub IsNotBegun : ℕ → ℕ → DeskCause → Type 0
 IsNotBegun low high cause = (cause ≡ Memory) ⊎ ((before : ℕ) × (after : ℕ) × (cause ≡ Device before after) × (before ≡ low) × (after ≡ high) × HasRisen before after)
+
+-- the history is that of the records that the bytes hold, which are sound
+pub record HasViewed (told : Bool) (bytes : List ℕ) (history : List Entry) : Type 0 where
+  pub records : List Record
+  pub found : AreFound told bytes records
+  pub sound : AreSound records
+  pub history_is : history ≡ history_of records

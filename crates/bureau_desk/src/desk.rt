@@ -8,7 +8,8 @@ ghost use Rattle.limited_book.specs.Replays.{is_close};
 ghost use Rattle.bureau_desk.specs.Acting.{HasActed, HasClosed, IsActError, IsPublishable, IsPublishReply};
 ghost use Rattle.claim_history.specs.History.{is_accepted};
 ghost use Rattle.round_journal.specs.Stops.{HasCause};
-ghost use Rattle.bureau_desk.specs.Opening.{IsDeskOpen, HasDeskCause, IsBegun, IsNotBegun, StopsAt};
+ghost use Rattle.round_journal.specs.Opened.{IsQuiet};
+ghost use Rattle.bureau_desk.specs.Opening.{IsDeskOpen, HasDeskCause, IsBegun, IsNotBegun, StopsAt, HasViewed};
 ghost use Rattle.bureau_desk.specs.Desks.{HasSameBase, KeepsDesk, HasPublished};
 
 use crate::act_error::ActError;
@@ -19,8 +20,8 @@ use crate::recorded_book::RecordedBook;
 use claim_book::Book;
 use claim_history::{Act, Day, Reply, Why};
 use disk_model::Disk;
-use limited_book::{ReplayStop, replay};
-use round_journal::{Journal, JournalCause, OpenRefused};
+use limited_book::{LimitedBook, ReplayStop, replay};
+use round_journal::{Journal, JournalCause, OpenRefused, read_records};
 use setoff_checker::Checked;
 use setoff_model::{Cut, Kind};
 use std::alloc::Global;
@@ -74,6 +75,22 @@ impl<D: Disk> Desk<D> {
         }
     }
 
+    /// The book of the records of a disk's journal, each with its one reply. It writes nothing, and abandons no round. The causes of
+    /// an Err are those of `open`.
+    pub fn view(alloc: Global, disk: &mut D) -> Result<LimitedBook, DeskCause>
+        ensures ok { IfOk result (λ book. HasViewed (D.tells disk.old) (D.reads disk.old) book.history) }
+        ensures err { IfErr result (HasDeskCause (D.tells disk.old) (D.reads disk.old) (D.count disk.old) (D.count disk.new)) }
+        ensures quiet { IsQuiet D.tells D.reads D.moment D.image D.count disk.old disk.new }
+    {
+        match read_records(alloc, disk) {
+            Ok(records) => match replay(alloc, &records) {
+                Ok(book) => Ok(book),
+                Err(stop) => Err(stop_of(stop)),
+            },
+            Err(cause) => Err(cause_of(cause)),
+        }
+    }
+
     /// Asks an act of a caller other than the bureau itself. Each field of the act is in its range, and it is no Close and no
     /// publication.
     ///
@@ -102,12 +119,7 @@ impl<D: Disk> Desk<D> {
     ///
     /// All memory is taken before the disk is called, also that for the publication of the round, which is kept while the round
     /// is open and its owner's last entry is this Close. The rest is as for `act`.
-    pub fn cut(
-        &mut self,
-        caller: u32,
-        kind: Kind,
-        horizon: Day,
-    ) -> Result<CutReply, ActError>
+    pub fn cut(&mut self, caller: u32, kind: Kind, horizon: Day) -> Result<CutReply, ActError>
         requires caller { 1 ≤ caller }
         ensures closed { IfOk result (HasClosed D.tells D.moment D.image D.count self.old.disk self.new.disk self.old.history self.new.history caller (acts.Close kind horizon)) }
         ensures error { IfErr result (IsActError self.old.history caller (acts.Close kind horizon)) }

@@ -8,6 +8,7 @@ mod desk_refused;
 mod publish_reply;
 mod recorded_book;
 mod recorder;
+mod story;
 
 pub use act_error::ActError;
 pub use cut_reply::CutReply;

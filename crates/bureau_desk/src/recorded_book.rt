@@ -32,8 +32,8 @@ use claim_book::Book;
 use claim_history::{Act, Day, Entry, Reply, Why};
 use disk_model::Disk;
 use limited_book::{Full, LimitedBook};
-use round_journal::Journal;
 use round_cut::{build_cut, cut_of_a_history_is_of_its_facts};
+use round_journal::Journal;
 use setoff_model::{Cut, Kind, Outcome, total};
 use std::alloc::{AllocError, Global};
 use std::marker::Model;
@@ -321,12 +321,7 @@ impl<D: Disk> RecordedBook<D> {
 
     /// Publishes an outcome that is proved for the cut of the open round, which is the caller's and has this number. It gives the
     /// reply, and the cut of the round where it was published. The memory for it was made.
-    pub fn publish(
-        &mut self,
-        caller: u32,
-        number: u32,
-        outcome: Outcome,
-    ) -> (Reply, Option<Cut>)
+    pub fn publish(&mut self, caller: u32, number: u32, outcome: Outcome) -> (Reply, Option<Cut>)
         requires caller { 1 ≤ caller }
         requires due { IsOutcomeDue self.old.book.history caller number outcome }
         requires room { 1 ≤ self.old.book.room }

@@ -13,7 +13,7 @@ invariant_of-self g c =
     let counted = g.D.Disk.count c.act.new.self.recorder.journal.disk in
     either c.act.result c.act.ensures.acted c.act.ensures.room c.act.ensures.untouched
     (λ got acted room. desk_acted c.self.inside.kept c.act.new.self c.self.inside.rounds.items (vec_len c.self.inside.rounds) (vec_capacity c.self.inside.rounds) c.self.invariant c.args.caller c.args.act got
-      (got_publishes before counted due got (answer_publishes (state_of history) c.args.caller c.args.act c.requires.apart) acted.replied)
-      (got_opens_none before counted due got (answer_opens_none (state_of history) c.args.caller c.args.act c.requires.other) acted.replied)
-      acted.entry c.act.ensures.base.cleared_with room c.act.ensures.spare)
+    (got_publishes before counted due got (answer_publishes (state_of history) c.args.caller c.args.act c.requires.apart) acted.replied)
+    (got_opens_none before counted due got (answer_opens_none (state_of history) c.args.caller c.args.act c.requires.other) acted.replied)
+    acted.entry c.act.ensures.base.cleared_with room c.act.ensures.spare)
     (λ untouched. desk_untouched c.self.inside.kept c.act.new.self c.self.inside.rounds.items (vec_len c.self.inside.rounds) (vec_capacity c.self.inside.rounds) c.self.invariant untouched.history c.act.ensures.base.cleared_with untouched.room c.act.ensures.spare)

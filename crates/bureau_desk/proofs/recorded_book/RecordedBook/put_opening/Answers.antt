@@ -37,7 +37,7 @@ returns-in_default g c =
     let publication : bytes ≤ c.self.inside.recorder.spare = subst (λ (s : RecordedView g.row.D.Denot). bytes ≤ s.recorder.spare) (sym c.self.view_is) c.requires.publication in
     record {
       closed = subst (λ (s : RecordedView g.row.D.Denot). HasClosed g.D.Disk.tells g.D.Disk.moment g.D.Disk.image g.D.Disk.count s.recorder.journal.disk new s.book.history later c.args.caller a (Rattle.bureau_desk.specs.declared.cut_reply.CutReply.TheVariants.Frozen c.args.copy)) c.self.view_is
-        (record { got = got; acted = has; told_is = (ap is_no_refusal is, opened_is history later c.args.caller c.args.kind c.args.horizon got c.apply_close.ensures.history c.args.round c.args.copy is (c.requires.copy ∙ cut_is)) });
+          (record { got = got; acted = has; told_is = (ap is_no_refusal is, opened_is history later c.args.caller c.args.kind c.args.horizon got c.apply_close.ensures.history c.args.round c.args.copy is (c.requires.copy ∙ cut_is)) });
       room = omega (arith, room, c.apply_close.ensures.room);
       spared = λ was round now. omega (arith, opened_bytes history later c.args.caller c.args.kind c.args.horizon got c.apply_close.ensures.history c.args.round c.args.cut round is cut_is now, publication, c.keep-reply.ensures.room);
       spare = subst (λ (s : RecordedView g.row.D.Denot). s.recorder.spare ≤ c.keep-reply.new.self.spare) c.self.view_is c.keep-reply.ensures.room;
