@@ -1,0 +1,261 @@
+-- The rounds of a desk, and the memory for the publication of the open one.
+use Rattle.std.proofs.Common.{◌≡◌, ◌∙◌, ◌⊎◌, ⊎_elim, inl, inr, ℕ, ◌+◌, ◌<◌, ◌≤◌, Bool, true, false, if◌then◌else◌, Option, Some, None, List, [], ◌∷◌, ◌++◌, length, reverse, All, refl, sym, ap, subst, arith, length-append}
+use Rattle.std.proofs.lemmas.List.Elements.{All-push}
+use Rattle.std.specs.Prelude.{is_some, nat_lt}
+use Rattle.std.proofs.lemmas.Bool.{le-ltb, lt-ltb, eq-eqb}
+use Rattle.std.proofs.lemmas.Option.{same_Some}
+use Rattle.std.proofs.lemmas.List.{reverse-append, length-reverse, append-nil}
+use Rattle.setoff_model.specs.CutView.{CutView}
+use Rattle.setoff_model.specs.declared.kind.Kind.{Kind}
+use Rattle.claim_history.specs.declared.act.Act.{Act}
+use Rattle.claim_history.specs.declared.act.Act.TheVariants as act
+use Rattle.claim_history.specs.declared.entry.Entry.{Entry}
+use Rattle.claim_history.specs.declared.entry.Reply.{Reply}
+use Rattle.claim_history.specs.declared.entry.Reply.TheVariants as reply
+use Rattle.claim_history.specs.declared.entry.Why.{Why}
+use Rattle.claim_history.specs.declared.entry.Why.TheVariants as why
+use Rattle.claim_history.specs.declared.fact.Position.{Position}
+use Rattle.claim_history.specs.Acts.{is_publication}
+use Rattle.claim_history.specs.States.{OpenRound, State, state, state_of, after}
+use Rattle.claim_history.specs.History.{answer, answer_of, close_answer, abandon_answer, close_refusals, abandon_refusals, is_opening, is_no_refusal, is_accepted, IsReply}
+use Rattle.claim_history.specs.History.IsReply.{replied}
+use Rattle.claim_history.proofs.Histories.{answer_cases}
+use Rattle.claim_history.proofs.Rows.{by_rows}
+use Rattle.claim_history.proofs.Replies.{opens}
+use Rattle.claim_history.specs.Laws.{IsOwned}
+use Rattle.claim_book.specs.Book.{room_for, GivesCut}
+use Rattle.limited_book.specs.Replays.{is_close}
+use Rattle.bureau_desk.specs.Devices.{IsReplied}
+use Rattle.bureau_desk.specs.Rounds.{cut_published, cuts_past, cuts_after}
+use Rattle.bureau_desk.specs.Recorded.{RecorderView}
+use Rattle.bureau_desk.specs.Acting.{RecordedView, IsSameBase, entry_of, publication_bytes, has_closed, closed_last, IsSpared}
+use Rattle.bureau_desk.specs.Opening.{IsOpenedHistory}
+use Rattle.bureau_desk.specs.Desks.{IsDesk, HasPlaces}
+
+-- ---- cuts
+
+all_before : (count : ℕ) (past : List Entry) → length past ≤ count → cuts_past count past ≡ []
+all_before count [] le = refl
+all_before count (e ∷ past) le = ap (λ (b : Bool). if b then [] else cuts_past count past ++ cut_published (state past).open_round e.reply) (lt-ltb (length past) count (omega (arith, le)))
+
+pub cuts_none : (history : List Entry) → cuts_after (length history) history ≡ []
+cuts_none history = all_before (length history) (reverse history) (omega (arith, length-reverse history))
+
+pub cuts_more : (count : ℕ) (history : List Entry) (e : Entry) → count ≤ length history → cuts_after count (history ++ e ∷ []) ≡ cuts_after count history ++ cut_published (state_of history).open_round e.reply
+cuts_more count history e le =
+    ap (cuts_past count) (reverse-append history (e ∷ []))
+    ∙ ap (λ (b : Bool). if b then [] else cuts_past count (reverse history) ++ cut_published (state_of history).open_round e.reply) (le-ltb (length (reverse history)) count (omega (arith, le, length-reverse history)))
+
+-- the reply publishes nothing
+abbrev pub IsUnpublished : Reply → Type 0
+IsUnpublished r = (o : Option OpenRound) → cut_published o r ≡ []
+
+refused_publishes : (w : Why) → IsUnpublished (reply.Refused w)
+refused_publishes w None = refl
+refused_publishes w (Some round) = refl
+
+done_publishes : IsUnpublished reply.Done
+done_publishes None = refl
+done_publishes (Some round) = refl
+
+position_publishes : (p : Position) → IsUnpublished (reply.Position p)
+position_publishes p None = refl
+position_publishes p (Some round) = refl
+
+opened_publishes : (n : ℕ) → IsUnpublished (reply.Opened n)
+opened_publishes n None = refl
+opened_publishes n (Some round) = refl
+
+continued_publishes : (n : ℕ) → IsUnpublished (reply.Continued n)
+continued_publishes n None = refl
+continued_publishes n (Some round) = refl
+
+abandoned_publishes : (n : ℕ) → IsUnpublished (reply.Abandoned n)
+abandoned_publishes n None = refl
+abandoned_publishes n (Some round) = refl
+
+close_publishes : (n : ℕ) (o : Option OpenRound) (caller : ℕ) (kind : Kind) (horizon : ℕ) → IsUnpublished (close_answer n o caller kind horizon)
+close_publishes n None caller kind horizon = opened_publishes (n + 1)
+close_publishes n (Some round) caller kind horizon = by_rows IsUnpublished (close_refusals round caller kind horizon) (reply.Continued round.cut.round) refused_publishes (λ h. continued_publishes round.cut.round)
+
+abandon_publishes : (o : Option OpenRound) (caller : ℕ) → IsUnpublished (abandon_answer o caller)
+abandon_publishes None caller = refused_publishes why.NoRound
+abandon_publishes (Some round) caller = by_rows IsUnpublished (abandon_refusals round caller) (reply.Abandoned round.cut.round) refused_publishes (λ h. abandoned_publishes round.cut.round)
+
+pub answer_publishes : (s : State) (caller : ℕ) (a : Act) → is_publication a ≡ false → IsUnpublished (answer s caller a)
+answer_publishes s caller (act.Close kind horizon) other = close_publishes s.openings s.open_round caller kind horizon
+answer_publishes s caller act.Abandon other = abandon_publishes s.open_round caller
+answer_publishes s caller (act.Publish number outcome) other = absurd (cc other)
+answer_publishes s caller a other = answer_cases IsUnpublished s caller a refl refused_publishes done_publishes (λ firm. position_publishes _)
+
+pub got_publishes : (before counted : ℕ) (due got : Reply) → IsUnpublished due → IsReplied before counted due got → IsUnpublished got
+got_publishes before counted due got un told = ⊎_elim
+    (λ same. subst IsUnpublished (sym same) un)
+    (λ failed. subst IsUnpublished (sym failed.1) (refused_publishes (why.Device before counted)))
+    told
+
+-- ---- the open round
+
+not_true : (b : Bool) → (b ≡ true → ⊥) → b ≡ false
+not_true true f = absurd (f refl)
+not_true false f = refl
+
+pub answer_opens_none : (s : State) (caller : ℕ) (a : Act) → is_close a ≡ false → is_opening (answer s caller a) ≡ false
+answer_opens_none s caller a other = not_true (is_opening (answer s caller a)) (λ opening. let o = opens s 0 caller a (answer s caller a) (replied refl) opening in cc (other, ap is_close o.act_is))
+
+pub got_opens_none : (before counted : ℕ) (due got : Reply) → is_opening due ≡ false → IsReplied before counted due got → is_opening got ≡ false
+got_opens_none before counted due got un told = ⊎_elim (λ same. ap is_opening same ∙ un) (λ failed. ap is_opening failed.1) told
+
+open_before : (caller : ℕ) (a : Act) (r : Reply) (s : State) (round : OpenRound) → is_opening r ≡ false → (after caller a r s).open_round ≡ Some round → s.open_round ≡ Some round
+open_before caller a (reply.Opened n) s round un is = absurd (cc un)
+open_before caller a (reply.Published total) s round un is = absurd (cc is)
+open_before caller a (reply.Abandoned n) s round un is = absurd (cc is)
+open_before caller a r s round un is = is
+
+room_open : (s : State) (a : Act) (round : OpenRound) → s.open_round ≡ Some round → room_for s a ≡ 2
+room_open s (act.Close kind horizon) round is = refl
+room_open s a round is = ap (λ (o : Option OpenRound). if is_some o then 2 else 1) is
+
+-- ---- a desk
+
+module _ {D : Type 0} (kept kept' : RecordedView D) (rounds : List CutView) (len capacity : ℕ) (was : IsDesk kept rounds len capacity) where
+  -- an entry that opens and publishes nothing
+  pub desk_acted : (caller : ℕ) (a : Act) (got : Reply) → IsUnpublished got → is_opening got ≡ false → kept'.book.history ≡ kept.book.history ++ entry_of caller a got ∷ [] → kept'.recorder.cleared_with ≡ kept.recorder.cleared_with
+      → room_for (state_of kept.book.history) a ≤ kept'.book.room + 1 → kept.recorder.spare ≤ kept'.recorder.spare → IsDesk kept' rounds len capacity
+  desk_acted caller a got unpublished unopening later same room spare =
+      let long : length kept'.book.history ≡ length kept.book.history + 1 = ap length later ∙ length-append kept.book.history (entry_of caller a got ∷ []) in
+      let cuts : cuts_after kept'.recorder.cleared_with kept'.book.history ≡ cuts_after kept.recorder.cleared_with kept.book.history =
+      ap (λ (n : ℕ). cuts_after n kept'.book.history) same ∙ ap (cuts_after kept.recorder.cleared_with) later
+      ∙ cuts_more kept.recorder.cleared_with kept.book.history (entry_of caller a got) was.few
+      ∙ ap (λ (l : List CutView). cuts_after kept.recorder.cleared_with kept.book.history ++ l) (unpublished (state_of kept.book.history).open_round) ∙ append-nil (cuts_after kept.recorder.cleared_with kept.book.history) in
+      record {
+        few = omega (arith, was.few, same, long);
+        cuts = was.cuts ∙ sym cuts;
+        ready = λ round is.
+            let now : (after caller a got (state_of kept.book.history)).open_round ≡ Some round = ap (λ (past : List Entry). (state past).open_round) (sym (ap reverse later ∙ reverse-append kept.book.history (entry_of caller a got ∷ []))) ∙ is in
+            let before : (state_of kept.book.history).open_round ≡ Some round = open_before caller a got (state_of kept.book.history) round unopening now in
+            let places = was.ready round before in
+            record { entry = λ closed. omega (arith, room, room_open (state_of kept.book.history) a round before); body = omega (arith, places.body, spare); cut = places.cut };
+      }
+
+  -- no entry
+  pub desk_untouched : kept'.book.history ≡ kept.book.history → kept'.recorder.cleared_with ≡ kept.recorder.cleared_with → kept.book.room ≤ kept'.book.room → kept.recorder.spare ≤ kept'.recorder.spare → IsDesk kept' rounds len capacity
+  desk_untouched history same room spare = record {
+    few = omega (arith, was.few, same, ap length history);
+    cuts = was.cuts ∙ sym (ap (λ (n : ℕ). cuts_after n kept'.book.history) same ∙ ap (cuts_after kept.recorder.cleared_with) history);
+    ready = λ round is.
+        let places = was.ready round (ap (λ (h : List Entry). (state_of h).open_round) (sym history) ∙ is) in
+        record { entry = λ closed. omega (arith, places.entry (ap (has_closed round.owner) (sym history) ∙ closed), room); body = omega (arith, places.body, spare); cut = places.cut };
+  }
+
+  -- a clearing
+  pub desk_cleared : (capacity' : ℕ) → kept'.book ≡ kept.book → kept'.recorder.cleared_with ≡ length kept.book.history → kept'.recorder.spare ≡ kept.recorder.spare → capacity ≤ capacity' → IsDesk kept' [] 0 capacity'
+  desk_cleared capacity' book same spare places' =
+      let history : kept'.book.history ≡ kept.book.history = cc in
+      let room : kept'.book.room ≡ kept.book.room = cc in
+      record {
+        few = omega (arith, same, ap length history);
+        cuts = sym (ap (λ (n : ℕ). cuts_after n kept'.book.history) (same ∙ ap length (sym history)) ∙ cuts_none kept'.book.history);
+        ready = λ round is.
+            let places = was.ready round (ap (λ (h : List Entry). (state_of h).open_round) (sym history) ∙ is) in
+            record { entry = λ closed. omega (arith, places.entry (ap (has_closed round.owner) (sym history) ∙ closed), room); body = omega (arith, places.body, spare); cut = omega (arith, places.cut, places') };
+      }
+
+  -- more memory for the rounds
+  pub desk_wider : (capacity' : ℕ) → capacity ≤ capacity' → IsDesk kept rounds len capacity'
+  desk_wider capacity' wide = record {
+    few = was.few;
+    cuts = was.cuts;
+    ready = λ round is. let places = was.ready round is in record { entry = places.entry; body = places.body; cut = omega (arith, places.cut, wide) };
+  }
+
+  spared : IsSpared kept
+  spared round is = (was.ready round is).body
+
+  -- a Close, with the memory for the publication of its round
+  pub desk_closed : (caller : ℕ) (a : Act) (got : Reply) (capacity' : ℕ) → IsUnpublished got → kept'.book.history ≡ kept.book.history ++ entry_of caller a got ∷ [] → kept'.recorder.cleared_with ≡ kept.recorder.cleared_with
+      → 1 ≤ kept'.book.room → (IsSpared kept → IsSpared kept') → len < capacity' → IsDesk kept' rounds len capacity'
+  desk_closed caller a got capacity' unpublished later same room stays places =
+      let long : length kept'.book.history ≡ length kept.book.history + 1 = ap length later ∙ length-append kept.book.history (entry_of caller a got ∷ []) in
+      let cuts : cuts_after kept'.recorder.cleared_with kept'.book.history ≡ cuts_after kept.recorder.cleared_with kept.book.history =
+      ap (λ (n : ℕ). cuts_after n kept'.book.history) same ∙ ap (cuts_after kept.recorder.cleared_with) later
+      ∙ cuts_more kept.recorder.cleared_with kept.book.history (entry_of caller a got) was.few
+      ∙ ap (λ (l : List CutView). cuts_after kept.recorder.cleared_with kept.book.history ++ l) (unpublished (state_of kept.book.history).open_round) ∙ append-nil (cuts_after kept.recorder.cleared_with kept.book.history) in
+      record {
+        few = omega (arith, was.few, same, long);
+        cuts = was.cuts ∙ sym cuts;
+        ready = λ round is. record { entry = λ closed. room; body = stays spared round is; cut = places };
+      }
+
+  -- a publication that succeeded
+  pub desk_published : (caller : ℕ) (a : Act) (total : ℕ) (cut : CutView) (capacity' : ℕ) → GivesCut (state_of kept.book.history).open_round (entry_of caller a (reply.Published total)) (Some cut)
+      → kept'.book.history ≡ kept.book.history ++ entry_of caller a (reply.Published total) ∷ [] → kept'.recorder.cleared_with ≡ kept.recorder.cleared_with → IsDesk kept' (rounds ++ cut ∷ []) (len + 1) capacity'
+  desk_published caller a total cut capacity' gives later same =
+      let e = entry_of caller a (reply.Published total) in
+      let long : length kept'.book.history ≡ length kept.book.history + 1 = ap length later ∙ length-append kept.book.history (e ∷ []) in
+      let published : cut_published (state_of kept.book.history).open_round (reply.Published total) ≡ cut ∷ [] =
+      ap (λ (o : Option OpenRound). cut_published o (reply.Published total)) gives.1.1 ∙ ap (λ (k : CutView). k ∷ []) (sym gives.1.2) in
+      let cuts : cuts_after kept'.recorder.cleared_with kept'.book.history ≡ rounds ++ cut ∷ [] =
+      ap (λ (n : ℕ). cuts_after n kept'.book.history) same ∙ ap (cuts_after kept.recorder.cleared_with) later
+      ∙ cuts_more kept.recorder.cleared_with kept.book.history e was.few
+      ∙ ap (λ (l : List CutView). cuts_after kept.recorder.cleared_with kept.book.history ++ l) published
+      ∙ ap (λ (l : List CutView). l ++ cut ∷ []) (sym was.cuts) in
+      record {
+        few = omega (arith, was.few, same, long);
+        cuts = sym cuts;
+        ready = λ round is.
+            let now : None ≡ Some round = ap (λ (past : List Entry). (state past).open_round) (sym (ap reverse later ∙ reverse-append kept.book.history (e ∷ []))) ∙ is in
+            absurd (cc now);
+      }
+
+  -- a publication that failed: its round is open, and its owner has to close again
+  pub desk_failed : (caller : ℕ) (a : Act) (before counted : ℕ) (open_now : OpenRound) → IsOwned caller (state_of kept.book.history) open_now
+      → kept'.book.history ≡ kept.book.history ++ entry_of caller a (reply.Refused (why.Device before counted)) ∷ [] → kept'.recorder.cleared_with ≡ kept.recorder.cleared_with → kept.recorder.spare ≤ kept'.recorder.spare → IsDesk kept' rounds len capacity
+  desk_failed caller a before counted open_now owned later same spare =
+      let got = reply.Refused (why.Device before counted) in
+      let e = entry_of caller a got in
+      let past : reverse kept'.book.history ≡ e ∷ reverse kept.book.history = ap reverse later ∙ reverse-append kept.book.history (e ∷ []) in
+      let long : length kept'.book.history ≡ length kept.book.history + 1 = ap length later ∙ length-append kept.book.history (e ∷ []) in
+      let cuts : cuts_after kept'.recorder.cleared_with kept'.book.history ≡ cuts_after kept.recorder.cleared_with kept.book.history =
+      ap (λ (n : ℕ). cuts_after n kept'.book.history) same ∙ ap (cuts_after kept.recorder.cleared_with) later
+      ∙ cuts_more kept.recorder.cleared_with kept.book.history e was.few
+      ∙ ap (λ (l : List CutView). cuts_after kept.recorder.cleared_with kept.book.history ++ l) (refused_publishes (why.Device before counted) (state_of kept.book.history).open_round) ∙ append-nil (cuts_after kept.recorder.cleared_with kept.book.history) in
+      record {
+        few = omega (arith, was.few, same, long);
+        cuts = was.cuts ∙ sym cuts;
+        ready = λ round is.
+            let before_it : (state_of kept.book.history).open_round ≡ Some round = ap (λ (p : List Entry). (state p).open_round) (sym past) ∙ is in
+            let places = was.ready round before_it in
+            let one : open_now ≡ round = same_Some open_now round (sym owned.is_open ∙ before_it) in
+            let by : caller ≡ round.owner = sym owned.owner ∙ ap (λ (r : OpenRound). r.owner) one in
+            let none : has_closed round.owner kept'.book.history ≡ false =
+            ap (closed_last round.owner) past ∙ ap (λ (b : Bool). if b then false else closed_last round.owner (reverse kept.book.history)) (eq-eqb caller round.owner by) in
+            record { entry = λ closed. absurd (cc (none, closed)); body = omega (arith, places.body, spare); cut = places.cut };
+      }
+
+-- what a publication got that was due, and was not accepted or was
+pub failed_reply : (before counted total : ℕ) (due got : Reply) → reply.Published total ≡ due → IsReplied before counted due got → is_no_refusal got ≡ false → got ≡ reply.Refused (why.Device before counted)
+failed_reply before counted total due got is told refused = ⊎_elim (λ same. absurd (cc (ap is_no_refusal (same ∙ sym is), refused))) (λ failed. failed.1) told
+
+pub published_reply : (before counted total : ℕ) (due got : Reply) → reply.Published total ≡ due → IsReplied before counted due got → is_no_refusal got ≡ true → got ≡ reply.Published total
+published_reply before counted total due got is told accepts = ⊎_elim (λ same. same ∙ sym is) (λ failed. absurd (cc (ap is_no_refusal failed.1, accepts))) told
+
+-- no round is open after an opening
+opened_none : (before history : List Entry) → IsOpenedHistory before history → (state_of history).open_round ≡ None
+opened_none before history is = ⊎_elim
+    (λ same. ap (λ (h : List Entry). (state_of h).open_round) same.1 ∙ same.0)
+    (λ more. ap (λ (past : List Entry). (state past).open_round) (ap reverse more.1 ∙ reverse-append before (entry_of 0 act.Abandon (reply.Abandoned more.0) ∷ [])))
+    is
+
+pub opened_accepted : (before history : List Entry) → IsOpenedHistory before history → All (λ e. is_accepted e ≡ true) before → All (λ e. is_accepted e ≡ true) history
+opened_accepted before history is all = ⊎_elim
+    (λ same. subst (λ (h : List Entry). All (λ e. is_accepted e ≡ true) h) (sym same.1) all)
+    (λ more. subst (λ (h : List Entry). All (λ e. is_accepted e ≡ true) h) (sym more.1) (All-push (λ (e : Entry). is_accepted e ≡ true) before (entry_of 0 act.Abandon (reply.Abandoned more.0)) all refl))
+    is
+
+pub desk_begun : {D : Type 0} (kept : RecordedView D) (before : List Entry) (rounds : List CutView) (len capacity : ℕ) → rounds ≡ [] → IsOpenedHistory before kept.book.history → kept.recorder.cleared_with ≡ length kept.book.history → IsDesk kept rounds len capacity
+desk_begun kept before rounds len capacity empty opened same = record {
+  few = omega (arith, same);
+  cuts = empty ∙ sym (ap (λ (n : ℕ). cuts_after n kept.book.history) same ∙ cuts_none kept.book.history);
+  ready = λ round is. let none : None ≡ Some round = sym (opened_none before kept.book.history opened) ∙ is in absurd (cc none);
+}

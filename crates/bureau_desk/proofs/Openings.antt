@@ -1,0 +1,161 @@
+-- What an opening keeps of the history of its records.
+use Rattle.std.proofs.Common.{◌≡◌, ◌∙◌, ℕ, ◌+◌, ◌<◌, ◌≤◌, max, Bool, true, false, if◌then◌else◌, List, [], ◌∷◌, ◌++◌, length, take, map, filter, flat_map, reverse, All, None, IsTrue, refl, sym, ap, subst, append_assoc, arith, length-append}
+use Rattle.std.specs.List.{sum_by}
+use Rattle.std.proofs.lemmas.List.{reverse-append, map-append, append-nil, length-map}
+use Rattle.std.proofs.lemmas.List.Elements.{All-head, All-tail, All-append, All-weaker}
+use Rattle.std.proofs.lemmas.List.Sums.{sum_by-cons}
+use Rattle.claim_history.specs.declared.entry.Entry.{Entry}
+use Rattle.claim_history.specs.declared.entry.Reply.{Reply}
+use Rattle.claim_history.specs.History.{Call, ask, replay_after, replay_of, is_accepted, is_no_refusal, second_count, last_count}
+use Rattle.claim_history.specs.Needs.{record_length_of, used_bytes_of}
+use Rattle.claim_history.proofs.Room.{calls_law}
+use Rattle.act_bodies.specs.Bodies.{body_of, is_keepable}
+use Rattle.act_bodies.proofs.Keepable.{act_valid}
+use Rattle.act_bodies.proofs.Lengths.{length_law}
+use Rattle.round_journal.specs.Bytes.{header, record_bytes, front}
+use Rattle.round_journal.specs.Kept.{JournalView, IsKept}
+use Rattle.round_journal.specs.Opened.{AreFound, HasTurned, IsOpen}
+use Rattle.round_journal.specs.Records.{bodies_of, AreKeepable}
+use Rattle.round_journal.proofs.Short.{length-record}
+use Rattle.round_journal.specs.declared.record.Record.{Record}
+use Rattle.limited_book.specs.Replays.{history_of, AreSound}
+use Rattle.limited_book.specs.Replays.{call_of as call_in}
+use Rattle.bureau_desk.specs.Calls.{call_of, accepted_calls, bodies_of_calls}
+use Rattle.bureau_desk.specs.Moments.{HasMoments}
+use Rattle.bureau_desk.specs.Devices.{IsBetween, AreBetween}
+use Rattle.bureau_desk.specs.Recorded.{RecorderView, Records}
+use Rattle.bureau_desk.proofs.Histories.{all_holds}
+use Rattle.bureau_desk.proofs.Grow.{held_now}
+use Rattle.bureau_desk.proofs.Recording.{accepted_count, accepted_is_no_device, no_counts}
+
+-- ---- the calls of a replay
+
+all_accepted : (entries : List Entry) → All (λ e. is_accepted e ≡ true) entries → accepted_calls entries ≡ map call_of entries
+all_accepted [] all = refl
+all_accepted (e ∷ entries) all =
+    ap (λ (b : Bool). map call_of (if b then e ∷ filter is_accepted entries else filter is_accepted entries)) (All-head (λ (x : Entry). is_accepted x ≡ true) e entries all)
+    ∙ ap (λ (l : List Call). call_of e ∷ l) (all_accepted entries (All-tail (λ (x : Entry). is_accepted x ≡ true) e entries all))
+
+replay_calls : (calls : List Call) (past : List Entry) → map call_of (reverse (replay_after past calls)) ≡ map call_of (reverse past) ++ calls
+replay_calls [] past = sym (append-nil (map call_of (reverse past)))
+replay_calls (call ∷ calls) past =
+    replay_calls calls (ask past call)
+    ∙ ap (λ (l : List Call). l ++ calls) (ap (map call_of) (reverse-append (take 1 (ask past call)) past) ∙ map-append call_of (reverse past) (take 1 (ask past call)))
+    ∙ append_assoc (map call_of (reverse past)) (call ∷ []) calls
+
+pub calls_of_records : (records : List Record) → AreSound records → accepted_calls (history_of records) ≡ map call_in records
+calls_of_records records sound = all_accepted (history_of records) sound.accepted ∙ replay_calls (map call_in records) []
+
+bodies_same : (records : List Record) → bodies_of_calls (map call_in records) ≡ bodies_of records
+bodies_same [] = refl
+bodies_same (r ∷ records) = ap (λ (l : List (List ℕ)). body_of r.caller r.act ∷ l) (bodies_same records)
+
+pub bodies_of_history : (records : List Record) → AreSound records → bodies_of_calls (accepted_calls (history_of records)) ≡ bodies_of records
+bodies_of_history records sound = ap bodies_of_calls (calls_of_records records sound) ∙ bodies_same records
+
+-- ---- their bytes
+
+records_long : (records : List Record) → AreKeepable records → length (flat_map record_bytes (bodies_of records)) ≡ sum_by (λ (call : Call). record_length_of call.act) (map call_in records)
+records_long [] all = refl
+records_long (r ∷ records) all =
+    let keepable = All-head (λ (x : Record). is_keepable x.caller x.act ≡ true) r records all in
+    let rest = records_long records (All-tail (λ (x : Record). is_keepable x.caller x.act ≡ true) r records all) in
+    let long = (length_law r.caller r.act (act_valid r.caller r.act keepable)).0 in
+    omega (arith, length-append (record_bytes (body_of r.caller r.act)) (flat_map record_bytes (bodies_of records)), length-record (body_of r.caller r.act), long, rest, sum_by-cons (λ (call : Call). record_length_of call.act) (call_in r) (map call_in records))
+
+pub place_of_records : (records : List Record) (gate : ℕ) → AreKeepable records → AreSound records → gate ≡ length (front (bodies_of records)) → gate + 1 ≡ used_bytes_of (history_of records)
+place_of_records records gate keepable sound place =
+    omega (arith, place, length-append header (flat_map record_bytes (bodies_of records)), records_long records keepable, (calls_law (map call_in records)).bytes sound.accepted)
+
+-- ---- no device
+
+last_more : (entries : List Entry) (past : List Entry) → All (λ e. is_accepted e ≡ true) entries → last_count (reverse entries ++ past) ≡ last_count past
+last_more [] past all = refl
+last_more (e ∷ entries) past all =
+    let here : second_count e.reply ≡ 0 = accepted_count e.reply (All-head (λ (x : Entry). is_accepted x ≡ true) e entries all) in
+    let rest = last_more entries (e ∷ past) (All-tail (λ (x : Entry). is_accepted x ≡ true) e entries all) in
+    let turned : reverse (e ∷ entries) ++ past ≡ reverse entries ++ e ∷ past = ap (λ (l : List Entry). l ++ past) (reverse-append (e ∷ []) entries) ∙ append_assoc (reverse entries) (e ∷ []) past in
+    omega (arith, ap last_count turned, rest, here)
+
+pub no_count : (entries : List Entry) → All (λ e. is_accepted e ≡ true) entries → last_count (reverse entries) ≡ 0
+no_count entries all = ap last_count (sym (append-nil (reverse entries))) ∙ last_more entries [] all
+
+pub none_between : (low high : ℕ) (entries : List Entry) → All (λ e. is_accepted e ≡ true) entries → AreBetween low high entries
+none_between low high entries all = All-weaker (λ (e : Entry). is_accepted e ≡ true) (IsBetween low high) (λ e yes_. no_counts low high e (accepted_is_no_device e.reply yes_)) entries all
+
+-- ---- an opening
+
+pub records_opened : {D : Type 0} (tells : D → Bool) (reads : D → List ℕ) (moment : D → ℕ) (image : D → ℕ → List ℕ → Type 0) (count : D → ℕ) (disk : D) (journal : JournalView D) (records : List Record) (spare : ℕ)
+    → IsOpen tells reads moment image count disk journal records → AreSound records
+    → Records tells moment image count (record { journal = journal; spare = spare; opened = journal.disk; opened_with = length (history_of records); cleared = journal.disk; cleared_with = length (history_of records) }) (history_of records)
+records_opened tells reads moment image count disk journal records spare is sound =
+    let history = history_of records in
+    let here = moment journal.disk in
+    let images = image journal.disk in
+    let turn = moment journal.opened in
+    let many : length (accepted_calls history) ≡ length history = ap length (all_accepted history sound.accepted) ∙ length-map history call_of in
+    record {
+      place = place_of_records records journal.gate is.found.keepable sound is.place;
+      opened_few = omega arith;
+      cleared_few = omega arith;
+      counted = omega (arith, no_count history sound.accepted);
+      later = omega arith;
+      between = none_between (count journal.disk) (count journal.disk) history sound.accepted;
+      told = λ told.
+          let told_old = subst (λ (b : Bool). IsTrue b) is.same told in
+          let turned = is.turned told_old in
+          let bodies = bodies_of_history records sound in
+          let moments : HasMoments here images turn (length history) history = record {
+            at = λ i. turn;
+            begins = refl;
+            within = omega (arith, many);
+            rises = λ i low high. omega arith;
+            below = λ i low high. turned.ended;
+            spans = λ i t c low high since until there. absurd (omega (arith, since, until));
+            last = λ t c since le there. all_holds history c (subst (λ (bs : List (List ℕ)). Rattle.round_journal.specs.Bytes.Holds c bs) (sym bodies) (turned.late t c since le there (bodies_of records) (is.found.holds told_old)));
+          } in
+          record {
+            kept = (None, subst (λ (bs : List (List ℕ)). IsKept tells moment image journal bs None) (sym bodies) (is.kept told_old), tt);
+            moments = moments;
+            since = held_now here images turn (length history) history moments;
+          };
+    }
+
+abbrev made : {D : Type 0} → JournalView D → ℕ → D → ℕ → D → ℕ → RecorderView D
+made journal spare opened opened_with cleared cleared_with = record { journal = journal; spare = spare; opened = opened; opened_with = opened_with; cleared = cleared; cleared_with = cleared_with }
+
+pub records_started : {D : Type 0} (tells : D → Bool) (reads : D → List ℕ) (moment : D → ℕ) (image : D → ℕ → List ℕ → Type 0) (count : D → ℕ) (disk : D) (journal : JournalView D) (records : List Record) (r : RecorderView D) (history : List Entry) (n : ℕ)
+    → IsOpen tells reads moment image count disk journal records → AreSound records → history ≡ history_of records → n ≡ length history
+    → r.journal ≡ journal → r.opened ≡ journal.disk → r.opened_with ≡ n → r.cleared ≡ journal.disk → r.cleared_with ≡ n
+    → Records tells moment image count r history
+records_started {D = D} tells reads moment image count disk journal records r history n is sound same long at_journal opened opened_with cleared cleared_with =
+    let many : length (history_of records) ≡ n = ap length (sym same) ∙ sym long in
+    let view : made journal r.spare journal.disk (length (history_of records)) journal.disk (length (history_of records)) ≡ r =
+    ap (λ (j : JournalView D). made j r.spare journal.disk (length (history_of records)) journal.disk (length (history_of records))) (sym at_journal)
+    ∙ ap (λ (d : D). made r.journal r.spare d (length (history_of records)) journal.disk (length (history_of records))) (sym opened)
+    ∙ ap (λ (k : ℕ). made r.journal r.spare r.opened k journal.disk (length (history_of records))) (many ∙ sym opened_with)
+    ∙ ap (λ (d : D). made r.journal r.spare r.opened r.opened_with d (length (history_of records))) (sym cleared)
+    ∙ ap (λ (k : ℕ). made r.journal r.spare r.opened r.opened_with r.cleared k) (many ∙ sym cleared_with) in
+    subst (λ (h : List Entry). Records tells moment image count r h) (sym same)
+    (subst (λ (v : RecorderView D). Records tells moment image count v (history_of records)) view (records_opened tells reads moment image count disk journal records r.spare is sound))
+
+-- the opening ends at the present
+pub records_begun : {D : Type 0} (tells : D → Bool) (moment : D → ℕ) (image : D → ℕ → List ℕ → Type 0) (count : D → ℕ) (r r' : RecorderView D) (history : List Entry) → Records tells moment image count r history → All (λ e. is_accepted e ≡ true) history
+    → r'.journal ≡ r.journal → r'.opened ≡ r.journal.disk → r'.opened_with ≡ r.opened_with → r'.cleared ≡ r.journal.disk → r'.cleared_with ≡ length history → Records tells moment image count r' history
+records_begun {D = D} tells moment image count r r' history has accepted journal opened opened_with cleared cleared_with =
+    let was : Records tells moment image count (made r.journal r'.spare r.journal.disk r.opened_with r.journal.disk (length history)) history = record {
+      place = has.place;
+      opened_few = has.opened_few;
+      cleared_few = omega arith;
+      counted = has.counted;
+      later = omega arith;
+      between = none_between (count r.journal.disk) (count r.journal.disk) history accepted;
+      told = λ told. let kept = has.told told in record { kept = kept.kept; moments = kept.moments; since = held_now (moment r.journal.disk) (image r.journal.disk) (moment r.journal.opened) r.opened_with history kept.moments };
+    } in
+    let view : made r.journal r'.spare r.journal.disk r.opened_with r.journal.disk (length history) ≡ r' =
+    ap (λ (j : JournalView D). made j r'.spare r.journal.disk r.opened_with r.journal.disk (length history)) (sym journal)
+    ∙ ap (λ (d : D). made r'.journal r'.spare d r.opened_with r.journal.disk (length history)) (sym opened)
+    ∙ ap (λ (n : ℕ). made r'.journal r'.spare r'.opened n r.journal.disk (length history)) (sym opened_with)
+    ∙ ap (λ (d : D). made r'.journal r'.spare r'.opened r'.opened_with d (length history)) (sym cleared)
+    ∙ ap (λ (n : ℕ). made r'.journal r'.spare r'.opened r'.opened_with r'.cleared n) (sym cleared_with) in
+    subst (λ (v : RecorderView D). Records tells moment image count v history) view was

@@ -1,0 +1,14 @@
+use Rattle.std.proofs.Common.{List, sym, subst}
+use Rattle.round_journal.specs.Opened.{AreFound}
+use Rattle.round_journal.specs.declared.record.Record.{Record}
+use Rattle.limited_book.specs.Replays.{StopsFirst}
+use Rattle.bureau_desk.proofs.desk.Desk.open.Goals as goal
+
+pub returns-in-Err-clause-err : goal.returns-in-Err-clause-err
+returns-in-Err-clause-err g c =
+    c.cause_of.ensures (g.D.Disk.tells c.args.disk) (g.D.Disk.reads c.args.disk) (g.D.Disk.count c.args.disk) (g.D.Disk.count c.in-Err.field-0.disk) c.in-Err.ensures.err.has
+
+pub returns-clause-err : goal.returns-clause-err
+returns-clause-err g c =
+    c.stop_of.ensures (g.D.Disk.tells c.args.disk) (g.D.Disk.reads c.args.disk) (g.D.Disk.count c.args.disk) (g.D.Disk.count c.close.result)
+    (c.in-Ok.opened.1.items, c.in-Ok.ensures.ok.found, subst (λ (records : List Record). StopsFirst records c.in-Err-replay.stop) c.deref.ensures.value c.in-Err-replay.ensures.stopped)

@@ -1,0 +1,29 @@
+use Rattle.std.proofs.Common.{◌≡◌, ◌∙◌, ◌++◌, ◌∷◌, [], List, Option, None, Some, ap, sym, subst}
+use Rattle.std.specs.Vec.{vec_len, vec_capacity}
+use Rattle.setoff_model.specs.CutView.{CutView}
+use Rattle.setoff_model.specs.Setoff.{total_of}
+use Rattle.claim_history.specs.declared.act.Act.TheVariants as act
+use Rattle.claim_history.specs.declared.entry.Entry.{Entry}
+use Rattle.claim_history.specs.declared.entry.Reply.{Reply}
+use Rattle.claim_history.specs.States.{state_of}
+use Rattle.claim_history.specs.History.{answer_of}
+use Rattle.claim_history.specs.Laws.{IsOwned}
+use Rattle.claim_book.specs.Book.{GivesCut}
+use Rattle.bureau_desk.specs.Acting.{entry_of, IsPublishable}
+use Rattle.bureau_desk.specs.Desks.{DeskView}
+use Rattle.bureau_desk.proofs.Cuts.{desk_failed, desk_published, failed_reply, published_reply}
+use Rattle.bureau_desk.proofs.desk.Desk.publish.Goals as goal
+
+pub invariant_of-self-in-None : goal.invariant_of-self-in-None
+invariant_of-self-in-None g c =
+    let kept = c.self.inside.kept in
+    let history = kept.book.history in
+    let before = g.D.Disk.count kept.recorder.journal.disk in
+    let counted = g.D.Disk.count c.publish-reply.new.self.recorder.journal.disk in
+    let owned = subst (λ (s : DeskView g.row.D.Denot). IsPublishable s.history c.args.caller c.args.checked.cut) (sym c.self.view_is) c.requires.owned in
+    let a = act.Publish c.round.result c.parts-cut.result.1 in
+    let got = c.publish-reply.result.0 in
+    let refused = subst (λ (o : Option CutView). GivesCut (state_of history).open_round (entry_of c.args.caller a got) o) c.in-None.is c.publish-reply.ensures.cut in
+    let is = failed_reply before counted (total_of c.parts-cut.result.1.discharges) (answer_of history c.args.caller a) got c.publish-reply.ensures.due c.publish-reply.ensures.acted.replied refused in
+    desk_failed kept c.publish-reply.new.self c.self.inside.rounds.items (vec_len c.self.inside.rounds) (vec_capacity c.self.inside.rounds) c.self.invariant c.args.caller a before counted owned.round owned.owned
+    (c.publish-reply.ensures.acted.entry ∙ ap (λ (r : Reply). history ++ entry_of c.args.caller a r ∷ []) is) c.publish-reply.ensures.base.cleared_with c.publish-reply.ensures.spare

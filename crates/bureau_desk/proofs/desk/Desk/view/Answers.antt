@@ -1,0 +1,13 @@
+use Rattle.std.proofs.Common.{List, subst}
+use Rattle.round_journal.specs.declared.record.Record.{Record}
+use Rattle.limited_book.specs.Replays.{StopsFirst}
+use Rattle.bureau_desk.proofs.desk.Desk.view.Goals as goal
+
+pub returns-in-Ok-clause-err : goal.returns-in-Ok-clause-err
+returns-in-Ok-clause-err g c =
+    c.stop_of.ensures (g.D.Disk.tells c.args.disk.now) (g.D.Disk.reads c.args.disk.now) (g.D.Disk.count c.args.disk.now) (g.D.Disk.count c.read_records.new.disk)
+    (c.in-Ok.records.items, c.in-Ok.ensures.found, subst (λ (records : List Record). StopsFirst records c.in-Err-replay.stop) c.deref.ensures.value c.in-Err-replay.ensures.stopped)
+
+pub returns-clause-err : goal.returns-clause-err
+returns-clause-err g c =
+    c.cause_of.ensures (g.D.Disk.tells c.args.disk.now) (g.D.Disk.reads c.args.disk.now) (g.D.Disk.count c.args.disk.now) (g.D.Disk.count c.read_records.new.disk) c.in-Err.ensures.cause

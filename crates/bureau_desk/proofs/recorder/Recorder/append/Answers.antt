@@ -1,0 +1,50 @@
+use Rattle.std.specs.Vec.{vec_capacity}
+use Rattle.std.proofs.Common.{◌≡◌, ◌∙◌, ◌⊎◌, ⊎_elim, ◌<◌, ◌≤◌, ℕ, List, length, Bool, IsTrue, refl, sym, ap, subst, arith, rules}
+use Rattle.disk_model.specs.Counts.{HasRisen}
+use Rattle.disk_model.specs.Calls.{Goes}
+use Rattle.round_journal.specs.declared.device.Device.{Device}
+use Rattle.claim_history.specs.declared.entry.Entry.{Entry}
+use Rattle.claim_history.specs.declared.entry.Reply.TheVariants as reply
+use Rattle.claim_history.specs.declared.entry.Why.TheVariants as why
+use Rattle.act_bodies.specs.Bodies.{body_of, is_keepable}
+use Rattle.act_bodies.proofs.Lengths.{length_law}
+use Rattle.act_bodies.proofs.Keepable.{act_valid}
+use Rattle.bureau_desk.specs.Calls.{HoldsDuring}
+use Rattle.bureau_desk.specs.Devices.{IsBetween}
+use Rattle.bureau_desk.specs.Recorded.{RecorderView, Records}
+use Rattle.bureau_desk.proofs.Results.{on_ok_two, if_err_three}
+use Rattle.bureau_desk.proofs.Recording.{append_goes, records_accepted, records_failed, between_own}
+use Rattle.bureau_desk.proofs.recorder.Recorder.append.Goals as goal
+
+pub append-requires-clause-short : goal.append-requires-clause-short
+append-requires-clause-short g c = omega (arith, c.deref.ensures.len, c.encode.ensures.len, (length_law c.args.caller c.args.act.now (act_valid c.args.caller c.args.act.now c.requires.kept)).2)
+
+pub returns-clause-done : goal.returns-clause-done
+returns-clause-done g c =
+    on_ok_two c.append.result c.append.ensures.done c.append.ensures.gate
+    (λ done gate. λ history due accepted has.
+    records_accepted g.D.Disk.tells g.D.Disk.moment g.D.Disk.image g.D.Disk.count c.self.inside.journal c.append.new.self (vec_capacity c.self.inside.body) (vec_capacity c.encode.new.buffer) c.self.inside.opened.value c.self.inside.opened_with c.self.inside.cleared.value c.self.inside.cleared_with
+    history (record { caller = c.args.caller; act = c.args.act.now; reply = due }) c.deref.result.now
+    (subst (λ (s : RecorderView g.row.D.Denot). Records g.D.Disk.tells g.D.Disk.moment g.D.Disk.image g.D.Disk.count s history) (sym c.self.view_is) has)
+    (c.deref.ensures.value ∙ c.encode.ensures.body) c.append.ensures.opened c.append.ensures.tells c.append.ensures.counts c.append.ensures.crash
+    accepted gate (c.deref.ensures.len ∙ c.encode.ensures.len) done)
+
+pub returns-clause-failed : goal.returns-clause-failed
+returns-clause-failed g c =
+    if_err_three c.append.result c.append.ensures.failed c.append.ensures.gate_err c.append.ensures.cause
+    (λ failed gate e cause. λ history has.
+    records_failed g.D.Disk.tells g.D.Disk.moment g.D.Disk.image g.D.Disk.count c.self.inside.journal c.append.new.self (vec_capacity c.self.inside.body) (vec_capacity c.encode.new.buffer) c.self.inside.opened.value c.self.inside.opened_with c.self.inside.cleared.value c.self.inside.cleared_with
+    history (record { caller = c.args.caller; act = c.args.act.now; reply = reply.Refused (why.Device e.before e.after) }) c.deref.result.now
+    (subst (λ (s : RecorderView g.row.D.Denot). Records g.D.Disk.tells g.D.Disk.moment g.D.Disk.image g.D.Disk.count s history) (sym c.self.view_is) has)
+    (c.deref.ensures.value ∙ c.encode.ensures.body) c.append.ensures.opened c.append.ensures.tells c.append.ensures.counts c.append.ensures.crash
+    refl refl gate (omega (arith, cause.1))
+    (between_own (g.D.Disk.count c.self.inside.journal.disk) (g.D.Disk.count c.append.new.self.disk) e.before e.after c.args.caller c.args.act.now cause.0 cause.1 c.append.ensures.counts)
+    failed)
+
+pub returns-clause-crash : goal.returns-clause-crash
+returns-clause-crash g c history has =
+    subst (λ (s : RecorderView g.row.D.Denot). IsTrue (g.D.Disk.tells s.journal.disk) → Goes g.D.Disk.moment g.D.Disk.image s.journal.disk c.append.new.self.disk (HoldsDuring history (record { caller = c.args.caller; act = c.args.act.now }))) c.self.view_is
+    (append_goes g.D.Disk.tells g.D.Disk.moment g.D.Disk.image g.D.Disk.count c.self.inside.journal c.append.new.self (vec_capacity c.self.inside.body) (vec_capacity c.encode.new.buffer) c.self.inside.opened.value c.self.inside.opened_with c.self.inside.cleared.value c.self.inside.cleared_with
+    history (record { caller = c.args.caller; act = c.args.act.now; reply = reply.Done }) c.deref.result.now
+    (subst (λ (s : RecorderView g.row.D.Denot). Records g.D.Disk.tells g.D.Disk.moment g.D.Disk.image g.D.Disk.count s history) (sym c.self.view_is) has)
+    (c.deref.ensures.value ∙ c.encode.ensures.body) c.append.ensures.opened c.append.ensures.tells c.append.ensures.counts c.append.ensures.crash)

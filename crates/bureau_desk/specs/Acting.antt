@@ -1,0 +1,115 @@
+-- What is done of an act that is asked of a desk.
+use Rattle.std.specs.Prelude.{◌≡◌, ◌+◌, ◌*◌, ◌≤◌, ℕ, Bool, true, false, List, [], ◌∷◌, ◌++◌, length, reverse, Some, IsTrue, ◌&&◌, ◌==◌, if◌then◌else◌}
+use Rattle.disk_model.specs.Calls.{Goes, Now}
+use Rattle.claim_history.specs.declared.act.Act.{Act}
+use Rattle.claim_history.specs.declared.act.Act.TheVariants as act
+use Rattle.claim_history.specs.declared.entry.Entry.{Entry}
+use Rattle.claim_history.specs.declared.entry.Reply.{Reply}
+use Rattle.claim_history.specs.declared.entry.Reply.TheVariants as reply
+use Rattle.claim_history.specs.declared.entry.Why.TheVariants as why
+use Rattle.setoff_model.specs.CutView.{CutView, OutcomeView, WellFormed, obligations}
+use Rattle.setoff_model.specs.Setoff.{Proves}
+use Rattle.claim_history.specs.States.{OpenRound, state_of}
+use Rattle.claim_history.specs.History.{answer_of, is_no_refusal}
+use Rattle.claim_history.specs.Needs.{is_full}
+use Rattle.claim_history.specs.Laws.{IsOwned}
+use Rattle.claim_book.specs.Book.{BookView, open_cut_of}
+use Rattle.limited_book.specs.Limited.{IsFull}
+use Rattle.limited_book.specs.Replays.{is_close}
+use Rattle.bureau_desk.specs.declared.act_error.ActError.{ActError}
+use Rattle.bureau_desk.specs.declared.act_error.ActError.TheVariants.{Memory, Full}
+use Rattle.bureau_desk.specs.declared.cut_reply.CutReply.{CutReply}
+use Rattle.bureau_desk.specs.declared.cut_reply.CutReply.TheVariants.{Frozen, Refused}
+use Rattle.bureau_desk.specs.declared.publish_reply.PublishReply.{PublishReply}
+use Rattle.bureau_desk.specs.declared.publish_reply.PublishReply.TheVariants.{Published, Device}
+use Rattle.bureau_desk.specs.Calls.{accepted_calls, HoldsDuring, HoldsFirst}
+use Rattle.bureau_desk.specs.Devices.{IsReplied}
+use Rattle.bureau_desk.specs.Recorded.{RecorderView}
+
+-- a recorder and a book
+pub record RecordedView (D : Type 0) : Type 0 where
+  pub recorder : RecorderView D
+  pub book : BookView
+
+-- an entry of the caller with the act and this reply
+abbrev pub entry_of : ℕ → Act → Reply → Entry
+entry_of caller a got = record { caller = caller; act = a; reply = got }
+
+-- From one disk and history to another, the act got this reply: the one that is due, or that the disk failed, where the act
+-- would be accepted and the disk's count rose. It was within the limits, and its entry is put at the end. Each image since the
+-- start holds what was left by the history, or its accepted calls and this one. Where the reply accepts the act, each present
+-- image has it with those before it. Where the act is refused, the disk is not called.
+pub record HasActed {D : Type 0} (tells : D → Bool) (moment : D → ℕ) (image : D → ℕ → List ℕ → Type 0) (count : D → ℕ) (old new : D) (history later : List Entry) (caller : ℕ) (a : Act) (got : Reply) : Type 0 where
+  pub entry : later ≡ history ++ entry_of caller a got ∷ []
+  pub replied : IsReplied (count old) (count new) (answer_of history caller a) got
+  pub fits : is_full history caller a ≡ false
+  pub during : IsTrue (tells old) → Goes moment image old new (HoldsDuring history (record { caller = caller; act = a }))
+  pub stands : IsTrue (tells old) → is_no_refusal got ≡ true → (c : List ℕ) → Now moment image new c → HoldsFirst (accepted_calls later) c
+  pub quiet : is_no_refusal (answer_of history caller a) ≡ false → new ≡ old
+
+-- why an act has no entry: there was no memory, or it is full as is told
+abbrev pub IsActError : List Entry → ℕ → Act → ActError → Type 0
+IsActError history caller a Memory = Unit {0}
+IsActError history caller a (Full what needed limit) = IsFull history caller a (record { what = what; needed = needed; limit = limit })
+
+-- all but the journal and the memory is as it was
+pub record IsSameBase {D : Type 0} (old new : RecorderView D) : Type 0 where
+  pub opening : new.journal.opened ≡ old.journal.opened
+  pub opened : new.opened ≡ old.opened
+  pub opened_with : new.opened_with ≡ old.opened_with
+  pub cleared : new.cleared ≡ old.cleared
+  pub cleared_with : new.cleared_with ≡ old.cleared_with
+
+-- the history and the journal are as they were, and no room was lowered
+pub record IsUntouched {D : Type 0} (old new : RecordedView D) : Type 0 where
+  pub history : new.book.history ≡ old.book.history
+  pub journal : new.recorder.journal ≡ old.recorder.journal
+  pub room : old.book.room ≤ new.book.room
+
+-- the bytes of a publication's body for the cut of a round
+abbrev pub publication_bytes : OpenRound → ℕ
+publication_bytes round = 17 + (8 * length round.cut.claims + 4 * length round.cut.parties)
+
+-- there is the memory for the body of the publication of the open round, if one is open
+abbrev pub IsSpared : {D : Type 0} → RecordedView D → Type 0
+IsSpared kept = (round : OpenRound) → (state_of kept.book.history).open_round ≡ Some round → publication_bytes round ≤ kept.recorder.spare
+
+-- what is told of the reply to a Close: a copy of the open cut where it accepts, else why it is refused
+abbrev pub IsCutReply : Reply → List Entry → CutReply → Type 0
+IsCutReply got history (Frozen cut) = (is_no_refusal got ≡ true) × (open_cut_of history ≡ Some cut)
+IsCutReply got history (Refused w) = got ≡ reply.Refused w
+
+-- what is told of the reply to a publication
+abbrev pub IsPublishReply : Reply → PublishReply → Type 0
+IsPublishReply got (Published total) = got ≡ reply.Published total
+IsPublishReply got (Device before after) = got ≡ reply.Refused (why.Device before after)
+
+-- the last entry of the caller in a past is an accepted Close
+abbrev pub closed_last : ℕ → List Entry → Bool
+closed_last caller [] = false
+closed_last caller (e ∷ past) = if e.caller == caller then is_no_refusal e.reply && is_close e.act else closed_last caller past
+
+-- the same of a history
+abbrev pub has_closed : ℕ → List Entry → Bool
+has_closed caller history = closed_last caller (reverse history)
+
+-- the caller owns the open round, which has this cut, and its last entry is an accepted Close
+pub record IsPublishable (history : List Entry) (caller : ℕ) (cut : CutView) : Type 0 where
+  pub round : OpenRound
+  pub owned : IsOwned caller (state_of history) round
+  pub cut_is : cut ≡ round.cut
+  pub closed : has_closed caller history ≡ true
+
+-- an outcome that the caller may publish: it is proved for the cut of the open round, which has this number and is the caller's
+pub record IsOutcomeDue (history : List Entry) (caller number : ℕ) (outcome : OutcomeView) : Type 0 where
+  pub round : OpenRound
+  pub owned : IsOwned caller (state_of history) round
+  pub number_is : number ≡ round.cut.round
+  pub well_formed : WellFormed round.cut
+  pub proved : Proves (obligations round.cut) outcome.discharges outcome.prices
+
+-- A Close was asked, and this is told of its reply.
+pub record HasClosed {D : Type 0} (tells : D → Bool) (moment : D → ℕ) (image : D → ℕ → List ℕ → Type 0) (count : D → ℕ) (old new : D) (history later : List Entry) (caller : ℕ) (a : Act) (told : CutReply) : Type 0 where
+  pub got : Reply
+  pub acted : HasActed tells moment image count old new history later caller a got
+  pub told_is : IsCutReply got later told

@@ -1,0 +1,96 @@
+-- What a desk shows, and what it keeps.
+use Rattle.std.specs.Prelude.{◌≡◌, ◌<◌, ◌≤◌, ℕ, Bool, List, [], ◌∷◌, ◌++◌, length, Some, IsTrue, true}
+use Rattle.setoff_model.specs.CutView.{CutView, OutcomeView}
+use Rattle.setoff_model.specs.Setoff.{total_of}
+use Rattle.claim_history.specs.declared.act.Act.TheVariants as act
+use Rattle.claim_history.specs.declared.entry.Reply.{Reply}
+use Rattle.claim_history.specs.declared.entry.Reply.TheVariants as reply
+use Rattle.bureau_desk.specs.declared.publish_reply.PublishReply.{PublishReply}
+use Rattle.bureau_desk.specs.declared.publish_reply.PublishReply.TheVariants.{Published, Device}
+use Rattle.claim_history.specs.declared.entry.Entry.{Entry}
+use Rattle.claim_history.specs.States.{OpenRound, state_of}
+use Rattle.claim_history.specs.History.{answer_of, IsLegal, AreValid}
+use Rattle.claim_history.specs.Needs.{IsWithinLimits}
+use Rattle.disk_model.specs.Calls.{Now}
+use Rattle.bureau_desk.specs.Calls.{accepted_calls, HoldsFirst}
+use Rattle.bureau_desk.specs.Moments.{HasMoments, HeldSince}
+use Rattle.bureau_desk.specs.Devices.{AreBetween}
+use Rattle.bureau_desk.specs.Rounds.{cuts_after}
+use Rattle.bureau_desk.specs.Acting.{RecordedView, publication_bytes, has_closed, HasActed, IsPublishReply}
+
+-- What contracts see of a desk: its disk and its history; the cuts of the rounds that were published since the last clearing;
+-- the disk when the first sync of the opening had succeeded, and at the end of the opening; how many entries were opened; and
+-- the disk and the number of entries at the last clearing.
+pub record DeskView (D : Type 0) : Type 0 where
+  pub disk : D
+  pub history : List Entry
+  pub rounds : List CutView
+  pub first : D
+  pub opened : D
+  pub opened_with : ℕ
+  pub cleared : D
+  pub cleared_with : ℕ
+
+abbrev pub desk_view : {D : Type 0} → RecordedView D → List CutView → DeskView D
+desk_view kept rounds = record {
+  disk = kept.recorder.journal.disk;
+  history = kept.book.history;
+  rounds = rounds;
+  first = kept.recorder.journal.opened;
+  opened = kept.recorder.opened;
+  opened_with = kept.recorder.opened_with;
+  cleared = kept.recorder.cleared;
+  cleared_with = kept.recorder.cleared_with;
+}
+
+-- There is the memory for the publication of a round: for its body, for its cut among the rounds and, while the last entry of
+-- its owner is an accepted Close, for its entry.
+pub record HasPlaces {D : Type 0} (kept : RecordedView D) (len capacity : ℕ) (round : OpenRound) : Type 0 where
+  pub entry : has_closed round.owner kept.book.history ≡ true → 1 ≤ kept.book.room
+  pub body : publication_bytes round ≤ kept.recorder.spare
+  pub cut : len < capacity
+
+-- the rounds are those of the history, and there is the memory for the publication of the open one
+pub record IsDesk {D : Type 0} (kept : RecordedView D) (rounds : List CutView) (len capacity : ℕ) : Type 0 where
+  pub few : kept.recorder.cleared_with ≤ length kept.book.history
+  pub cuts : rounds ≡ cuts_after kept.recorder.cleared_with kept.book.history
+  pub ready : (round : OpenRound) → (state_of kept.book.history).open_round ≡ Some round → HasPlaces kept len capacity round
+
+-- all but the disk, the history and the rounds is as it was
+pub record HasSameBase {D : Type 0} (old new : DeskView D) : Type 0 where
+  pub first : new.first ≡ old.first
+  pub opened : new.opened ≡ old.opened
+  pub opened_with : new.opened_with ≡ old.opened_with
+  pub cleared : new.cleared ≡ old.cleared
+  pub cleared_with : new.cleared_with ≡ old.cleared_with
+
+-- What a desk keeps. Its history is legal and within the limits. Each entry that tells of a device has its counts between the
+-- disk's count at the end of the opening and the present one. The rounds are the cuts of those that were published since the
+-- last clearing. Where the disk tells its bytes, there are the moments of the history, each present image holds all accepted
+-- calls, and each image since the last clearing those that were accepted by then.
+pub record KeepsDesk {D : Type 0} (tells : D → Bool) (moment : D → ℕ) (image : D → ℕ → List ℕ → Type 0) (count : D → ℕ) (d : DeskView D) : Type 0 where
+  pub legal : IsLegal d.history
+  pub valid : AreValid d.history
+  pub within : IsWithinLimits d.history
+  pub opened_few : d.opened_with ≤ length d.history
+  pub cleared_few : d.cleared_with ≤ length d.history
+  pub later : count d.opened ≤ count d.disk
+  pub between : AreBetween (count d.opened) (count d.disk) d.history
+  pub rounds_are : d.rounds ≡ cuts_after d.cleared_with d.history
+  pub moments : IsTrue (tells d.disk) → HasMoments (moment d.disk) (image d.disk) (moment d.first) d.opened_with d.history
+  pub present : IsTrue (tells d.disk) → (c : List ℕ) → Now moment image d.disk c → HoldsFirst (accepted_calls d.history) c
+  pub since : IsTrue (tells d.disk) → HeldSince (moment d.cleared) d.cleared_with (moment d.disk) (image d.disk) d.history
+
+-- what a publication adds to the rounds
+abbrev pub cut_told : CutView → PublishReply → List CutView
+cut_told cut (Published total) = cut ∷ []
+cut_told cut (Device before after) = []
+
+-- A publication was asked and got the reply that is told. The reply of the history is that it is published, with the sum of its
+-- discharges. Where it is, the cut is put at the end of the rounds.
+pub record HasPublished {D : Type 0} (tells : D → Bool) (moment : D → ℕ) (image : D → ℕ → List ℕ → Type 0) (count : D → ℕ) (old new : DeskView D) (caller : ℕ) (cut : CutView) (outcome : OutcomeView) (told : PublishReply) : Type 0 where
+  pub got : Reply
+  pub acted : HasActed tells moment image count old.disk new.disk old.history new.history caller (act.Publish cut.round outcome) got
+  pub due : answer_of old.history caller (act.Publish cut.round outcome) ≡ reply.Published (total_of outcome.discharges)
+  pub told_is : IsPublishReply got told
+  pub rounds : new.rounds ≡ old.rounds ++ cut_told cut told

@@ -1,0 +1,19 @@
+//! The bureau's desk: a book over a journal on a disk.
+#![tactic(auto)]
+
+mod act_error;
+mod cut_reply;
+mod desk;
+mod desk_refused;
+mod publish_reply;
+mod recorded_book;
+mod recorder;
+mod story;
+
+pub use act_error::ActError;
+pub use cut_reply::CutReply;
+pub use desk::Desk;
+pub use desk_refused::{DeskCause, DeskRefused};
+pub use publish_reply::PublishReply;
+pub use recorded_book::RecordedBook;
+pub use recorder::Recorder;
