@@ -1,6 +1,5 @@
 -- What was done of an act.
-use Rattle.std.proofs.Common.{◌≡◌, ◌∙◌, ◌⊎◌, ⊎_elim, inl, inr, ℕ, ◌<◌, ◌≤◌, ◌^◌, Bool, true, false, List, [], ◌∷◌, ◌++◌, length, take, Some, IsTrue, refl, sym, ap, subst, arith}
-use Rattle.std.specs.Prelude.{◌&&◌, ◌||◌, nat_le, nat_lt}
+use Rattle.std.proofs.Common.{◌≡◌, ◌∙◌, ℕ, ◌<◌, ◌≤◌, ◌^◌, Bool, true, false, List, [], ◌∷◌, ◌++◌, length, IsTrue, refl, sym, ap, subst, arith}
 use Rattle.std.proofs.lemmas.Bool.{le-leb, lt-ltb}
 use Rattle.std.proofs.lemmas.List.{take_all}
 use Rattle.disk_model.specs.Calls.{Goes, Now}
@@ -10,7 +9,7 @@ use Rattle.claim_history.specs.declared.entry.Reply.{Reply}
 use Rattle.claim_history.specs.Acts.{is_valid}
 use Rattle.claim_history.specs.History.{answer_of, is_no_refusal}
 use Rattle.claim_history.specs.Needs.{is_full}
-use Rattle.act_bodies.specs.Bodies.{is_keepable, is_abandonment}
+use Rattle.act_bodies.specs.Bodies.{is_keepable}
 use Rattle.bureau_desk.specs.Calls.{accepted_calls, HoldsDuring, HoldsFirst}
 use Rattle.bureau_desk.specs.Devices.{IsReplied}
 use Rattle.bureau_desk.specs.Recorded.{RecorderView, Records}

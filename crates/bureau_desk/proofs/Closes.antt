@@ -1,5 +1,5 @@
 -- The reply to a Close, and the round that is open after it.
-use Rattle.std.proofs.Common.{◌≡◌, ◌∙◌, ◌⊎◌, ⊎_elim, ℕ, ◌+◌, ◌*◌, ◌≤◌, Bool, true, false, Option, Some, None, List, [], ◌∷◌, ◌++◌, length, reverse, refl, sym, ap, subst, arith}
+use Rattle.std.proofs.Common.{◌≡◌, ◌∙◌, ⊎_elim, ℕ, ◌+◌, ◌*◌, false, Option, Some, None, List, [], ◌∷◌, ◌++◌, length, reverse, refl, sym, ap, subst}
 use Rattle.std.specs.Option.{option_map}
 use Rattle.std.proofs.lemmas.List.{reverse-append}
 use Rattle.std.proofs.lemmas.Option.{same_Some}
@@ -13,7 +13,7 @@ use Rattle.claim_history.specs.declared.entry.Why.{Why}
 use Rattle.claim_history.specs.declared.entry.Why.TheVariants as why
 use Rattle.claim_history.specs.Cut.{cut_of}
 use Rattle.claim_history.specs.States.{OpenRound, State, state, state_of, after}
-use Rattle.claim_history.specs.History.{answer, close_answer, close_refusals, is_opening, is_no_refusal}
+use Rattle.claim_history.specs.History.{answer, close_answer, close_refusals, is_opening}
 use Rattle.claim_history.proofs.Rows.{by_rows}
 use Rattle.claim_book.specs.Book.{open_cut_of}
 use Rattle.bureau_desk.specs.Devices.{IsReplied}

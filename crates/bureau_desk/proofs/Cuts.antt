@@ -1,7 +1,7 @@
 -- The rounds of a desk, and the memory for the publication of the open one.
-use Rattle.std.proofs.Common.{◌≡◌, ◌∙◌, ◌⊎◌, ⊎_elim, inl, inr, ℕ, ◌+◌, ◌<◌, ◌≤◌, Bool, true, false, if◌then◌else◌, Option, Some, None, List, [], ◌∷◌, ◌++◌, length, reverse, All, refl, sym, ap, subst, arith, length-append}
+use Rattle.std.proofs.Common.{◌≡◌, ◌∙◌, ⊎_elim, ℕ, ◌+◌, ◌<◌, ◌≤◌, Bool, true, false, if◌then◌else◌, Option, Some, None, List, [], ◌∷◌, ◌++◌, length, reverse, All, refl, sym, ap, subst, arith, length-append}
 use Rattle.std.proofs.lemmas.List.Elements.{All-push}
-use Rattle.std.specs.Prelude.{is_some, nat_lt}
+use Rattle.std.specs.Prelude.{is_some}
 use Rattle.std.proofs.lemmas.Bool.{le-ltb, lt-ltb, eq-eqb}
 use Rattle.std.proofs.lemmas.Option.{same_Some}
 use Rattle.std.proofs.lemmas.List.{reverse-append, length-reverse, append-nil}
@@ -17,7 +17,7 @@ use Rattle.claim_history.specs.declared.entry.Why.TheVariants as why
 use Rattle.claim_history.specs.declared.fact.Position.{Position}
 use Rattle.claim_history.specs.Acts.{is_publication}
 use Rattle.claim_history.specs.States.{OpenRound, State, state, state_of, after}
-use Rattle.claim_history.specs.History.{answer, answer_of, close_answer, abandon_answer, close_refusals, abandon_refusals, is_opening, is_no_refusal, is_accepted, IsReply}
+use Rattle.claim_history.specs.History.{answer, close_answer, abandon_answer, close_refusals, abandon_refusals, is_opening, is_no_refusal, is_accepted}
 use Rattle.claim_history.specs.History.IsReply.{replied}
 use Rattle.claim_history.proofs.Histories.{answer_cases}
 use Rattle.claim_history.proofs.Rows.{by_rows}
@@ -27,10 +27,9 @@ use Rattle.claim_book.specs.Book.{room_for, GivesCut}
 use Rattle.limited_book.specs.Replays.{is_close}
 use Rattle.bureau_desk.specs.Devices.{IsReplied}
 use Rattle.bureau_desk.specs.Rounds.{cut_published, cuts_past, cuts_after}
-use Rattle.bureau_desk.specs.Recorded.{RecorderView}
-use Rattle.bureau_desk.specs.Acting.{RecordedView, IsSameBase, entry_of, publication_bytes, has_closed, closed_last, IsSpared}
+use Rattle.bureau_desk.specs.Acting.{RecordedView, entry_of, has_closed, closed_last, IsSpared}
 use Rattle.bureau_desk.specs.Opening.{IsOpenedHistory}
-use Rattle.bureau_desk.specs.Desks.{IsDesk, HasPlaces}
+use Rattle.bureau_desk.specs.Desks.{IsDesk}
 
 -- ---- cuts
 

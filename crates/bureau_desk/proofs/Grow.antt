@@ -1,10 +1,10 @@
 -- How the moments of a history go on.
-use Rattle.std.proofs.Common.{◌≡◌, ◌⊎◌, inl, inr, ⊎_elim, ℕ, ◌+◌, ◌<◌, ◌≤◌, Bool, true, false, if◌then◌else◌, nat_le, List, [], ◌∷◌, ◌++◌, length, take, refl, sym, ◌∙◌, ap, subst, arith, length-append}
-use Rattle.std.proofs.lemmas.List.{take_all, take-append-le, append-nil}
+use Rattle.std.proofs.Common.{◌≡◌, ⊎_elim, ℕ, ◌+◌, ◌<◌, ◌≤◌, Bool, true, false, if◌then◌else◌, nat_le, List, [], ◌∷◌, ◌++◌, length, sym, ◌∙◌, ap, subst, arith, length-append}
+use Rattle.std.proofs.lemmas.List.{take-append-le, append-nil}
 use Rattle.std.proofs.lemmas.Bool.{cases_lt, le-leb, lt-leb}
 use Rattle.disk_model.specs.Calls.{Passes}
 use Rattle.claim_history.specs.declared.entry.Entry.{Entry}
-use Rattle.claim_history.specs.History.{Call, is_accepted}
+use Rattle.claim_history.specs.History.{is_accepted}
 use Rattle.bureau_desk.specs.Calls.{call_of, accepted_calls, HoldsFirst}
 use Rattle.bureau_desk.specs.Moments.{HoldsAt, HasMoments, HeldSince}
 use Rattle.bureau_desk.proofs.Histories.{accepted_more, accepted_same, holds_more, first_of_own}

@@ -1,7 +1,6 @@
 -- What a desk keeps.
-use Rattle.std.proofs.Common.{◌≡◌, ◌≤◌, ℕ, Bool, List, length, sym, subst}
+use Rattle.std.proofs.Common.{◌≡◌, ℕ, Bool, List}
 use Rattle.setoff_model.specs.CutView.{CutView}
-use Rattle.claim_history.specs.declared.entry.Entry.{Entry}
 use Rattle.claim_history.specs.History.{IsLegal, AreValid}
 use Rattle.claim_history.specs.Needs.{IsWithinLimits}
 use Rattle.bureau_desk.specs.Rounds.{cuts_after}

@@ -1,12 +1,11 @@
 -- What an opening keeps of the history of its records.
-use Rattle.std.proofs.Common.{◌≡◌, ◌∙◌, ℕ, ◌+◌, ◌<◌, ◌≤◌, max, Bool, true, false, if◌then◌else◌, List, [], ◌∷◌, ◌++◌, length, take, map, filter, flat_map, reverse, All, None, IsTrue, refl, sym, ap, subst, append_assoc, arith, length-append}
+use Rattle.std.proofs.Common.{◌≡◌, ◌∙◌, ℕ, ◌+◌, Bool, true, if◌then◌else◌, List, [], ◌∷◌, ◌++◌, length, take, map, filter, flat_map, reverse, All, None, IsTrue, refl, sym, ap, subst, append_assoc, arith, length-append}
 use Rattle.std.specs.List.{sum_by}
 use Rattle.std.proofs.lemmas.List.{reverse-append, map-append, append-nil, length-map}
-use Rattle.std.proofs.lemmas.List.Elements.{All-head, All-tail, All-append, All-weaker}
+use Rattle.std.proofs.lemmas.List.Elements.{All-head, All-tail, All-weaker}
 use Rattle.std.proofs.lemmas.List.Sums.{sum_by-cons}
 use Rattle.claim_history.specs.declared.entry.Entry.{Entry}
-use Rattle.claim_history.specs.declared.entry.Reply.{Reply}
-use Rattle.claim_history.specs.History.{Call, ask, replay_after, replay_of, is_accepted, is_no_refusal, second_count, last_count}
+use Rattle.claim_history.specs.History.{Call, ask, replay_after, is_accepted, second_count, last_count}
 use Rattle.claim_history.specs.Needs.{record_length_of, used_bytes_of}
 use Rattle.claim_history.proofs.Room.{calls_law}
 use Rattle.act_bodies.specs.Bodies.{body_of, is_keepable}
@@ -14,7 +13,7 @@ use Rattle.act_bodies.proofs.Keepable.{act_valid}
 use Rattle.act_bodies.proofs.Lengths.{length_law}
 use Rattle.round_journal.specs.Bytes.{header, record_bytes, front}
 use Rattle.round_journal.specs.Kept.{JournalView, IsKept}
-use Rattle.round_journal.specs.Opened.{AreFound, HasTurned, IsOpen}
+use Rattle.round_journal.specs.Opened.{IsOpen}
 use Rattle.round_journal.specs.Records.{bodies_of, AreKeepable}
 use Rattle.round_journal.proofs.Short.{length-record}
 use Rattle.round_journal.specs.declared.record.Record.{Record}

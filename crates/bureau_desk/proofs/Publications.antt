@@ -1,5 +1,5 @@
 -- The publication of the open round is valid, due, and within the limits.
-use Rattle.std.specs.Prelude.{Option, Some, None, is_some, unsigned_abs, pos, ◌==◌, reverse}
+use Rattle.std.specs.Prelude.{Option, Some, unsigned_abs, pos, ◌==◌, reverse}
 use Rattle.std.specs.List.{list_all}
 use Rattle.std.proofs.Common.{◌≡◌, ℕ, ◌+◌, ◌*◌, ◌<◌, ◌≤◌, ◌^◌, Bool, true, false, not, ◌&&◌, List, [], ◌∷◌, length, get_or, All, nat_le, nat_lt, refl, sym, ◌∙◌, ap, subst, true≢false, arith}
 use Rattle.std.proofs.lemmas.Bool.{eq-eqb, le-leb, lt-ltb}
@@ -17,9 +17,9 @@ use Rattle.claim_history.specs.declared.entry.Reply.{Reply}
 use Rattle.claim_history.specs.declared.entry.Reply.TheVariants as reply
 use Rattle.claim_history.specs.declared.entry.Why.{Why}
 use Rattle.claim_history.specs.Acts.{is_valid, is_amount, is_outcome, is_round}
-use Rattle.claim_history.specs.States.{OpenRound, State, state, state_of, after, open_as}
-use Rattle.claim_history.specs.History.{answer_of, publish_answer, refused_or, is_no_refusal, IsLegal, AreValid}
-use Rattle.claim_history.specs.Needs.{Fits, is_full, body_length_of, used_bytes_of, IsWithinLimits}
+use Rattle.claim_history.specs.States.{OpenRound, State, state, after, open_as}
+use Rattle.claim_history.specs.History.{answer_of, publish_answer, refused_or, IsLegal}
+use Rattle.claim_history.specs.Needs.{Fits, is_full, used_bytes_of, IsWithinLimits}
 use Rattle.claim_history.proofs.Room.{room_law, endings_law, full_law}
 use Rattle.bureau_desk.specs.Acting.{IsOutcomeDue, publication_bytes}
 

@@ -1,25 +1,24 @@
 -- What a recorder keeps over an append.
-use Rattle.std.proofs.Common.{◌≡◌, ◌⊎◌, inl, inr, ⊎_elim, ℕ, ◌+◌, ◌<◌, ◌≤◌, max, Bool, true, false, if◌then◌else◌, List, [], ◌∷◌, ◌++◌, length, reverse, All, Option, Some, None, IsTrue, refl, sym, ◌∙◌, ap, subst, arith, length-append}
+use Rattle.std.proofs.Common.{◌≡◌, inl, inr, ⊎_elim, ℕ, ◌+◌, ◌≤◌, max, Bool, true, false, if◌then◌else◌, List, [], ◌∷◌, ◌++◌, length, reverse, Option, Some, None, IsTrue, refl, sym, ◌∙◌, ap, subst, arith, length-append}
 use Rattle.std.proofs.lemmas.List.{reverse-append}
 use Rattle.std.proofs.lemmas.List.Elements.{All-push}
-use Rattle.disk_model.specs.Calls.{Passes, Goes, Now}
-use Rattle.disk_model.proofs.Moments.{still, goes_wide, now_has}
+use Rattle.disk_model.specs.Calls.{Goes}
+use Rattle.disk_model.proofs.Moments.{still, goes_wide}
 use Rattle.claim_history.specs.declared.act.Act.{Act}
 use Rattle.claim_history.specs.declared.entry.Entry.{Entry}
 use Rattle.claim_history.specs.declared.entry.Reply.{Reply}
 use Rattle.claim_history.specs.declared.entry.Reply.TheVariants as reply
-use Rattle.claim_history.specs.declared.entry.Why.{Why}
 use Rattle.claim_history.specs.declared.entry.Why.TheVariants as why
 use Rattle.claim_history.specs.History.{Call, is_accepted, is_no_refusal, second_count, last_count}
-use Rattle.claim_history.specs.Needs.{is_of_device, used_bytes_of, body_length_of, record_length_of, own_bytes}
+use Rattle.claim_history.specs.Needs.{is_of_device, body_length_of, record_length_of, own_bytes}
 use Rattle.claim_history.proofs.Room.{use_law}
 use Rattle.act_bodies.specs.Bodies.{body_of}
 use Rattle.round_journal.specs.Bytes.{StandsFor}
 use Rattle.round_journal.specs.Kept.{JournalView, IsKept, IsLast, HoldsOne}
-use Rattle.bureau_desk.specs.Calls.{call_of, accepted_calls, bodies_of_calls, TriedLast, HoldsDuring}
-use Rattle.bureau_desk.specs.Moments.{HoldsAt, HasMoments, HeldSince}
+use Rattle.bureau_desk.specs.Calls.{call_of, accepted_calls, bodies_of_calls, HoldsDuring}
+use Rattle.bureau_desk.specs.Moments.{HoldsAt, HasMoments}
 use Rattle.bureau_desk.specs.Devices.{IsBetween, AreBetween}
-use Rattle.bureau_desk.specs.Recorded.{RecorderView, IsTried, KeepsAccepted, IsRecorded, Records}
+use Rattle.bureau_desk.specs.Recorded.{RecorderView, IsTried, IsRecorded, Records}
 use Rattle.bureau_desk.proofs.Histories.{accepted_more, accepted_same, bodies_append, tried_new, tried_stays, during_accepted, during_failed, all_holds}
 use Rattle.bureau_desk.proofs.Grow.{moments_kept, moments_grow, held_on, held_now}
 

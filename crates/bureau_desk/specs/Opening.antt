@@ -1,5 +1,5 @@
 -- What an opening of a desk gives.
-use Rattle.std.specs.Prelude.{◌≡◌, ◌⊎◌, ◌≤◌, ℕ, Bool, List, All, [], ◌∷◌, ◌++◌, length, None}
+use Rattle.std.specs.Prelude.{◌≡◌, ◌⊎◌, ◌≤◌, ℕ, Bool, List, [], ◌∷◌, ◌++◌, length, None}
 use Rattle.disk_model.specs.Counts.{HasRisen}
 use Rattle.claim_history.specs.declared.act.Act.TheVariants as act
 use Rattle.claim_history.specs.declared.entry.Entry.{Entry}

@@ -15,5 +15,3 @@ pub use cut_reply::CutReply;
 pub use desk::Desk;
 pub use desk_refused::{DeskCause, DeskRefused};
 pub use publish_reply::PublishReply;
-pub use recorded_book::RecordedBook;
-pub use recorder::Recorder;

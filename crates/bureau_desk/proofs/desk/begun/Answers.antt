@@ -1,4 +1,4 @@
-use Rattle.std.proofs.Common.{◌≡◌, ◌∙◌, List, length, ap, sym, subst}
+use Rattle.std.proofs.Common.{◌∙◌, length, ap, sym, subst}
 use Rattle.std.specs.Vec.{vec_len, vec_capacity}
 use Rattle.claim_book.specs.Book.{BookView}
 use Rattle.bureau_desk.specs.Opening.{IsOpenedHistory}

@@ -1,4 +1,4 @@
-use Rattle.std.proofs.Common.{◌≡◌, ◌∙◌, ap₂, refl, List}
+use Rattle.std.proofs.Common.{◌∙◌, ap₂, refl, List}
 use Rattle.claim_history.specs.declared.fact.ClaimFact.{ClaimFact}
 use Rattle.claim_history.specs.declared.fact.AccountFact.{AccountFact}
 use Rattle.round_cut.specs.CutOfFacts.{cut_of_facts}

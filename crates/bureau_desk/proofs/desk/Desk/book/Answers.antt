@@ -1,6 +1,4 @@
-use Rattle.std.proofs.Common.{◌≡◌, ◌∙◌, List, sym, ap, subst}
-use Rattle.setoff_model.specs.CutView.{CutView}
-use Rattle.claim_history.specs.declared.entry.Entry.{Entry}
+use Rattle.std.proofs.Common.{◌∙◌, subst}
 use Rattle.claim_history.specs.History.{IsLegal, AreValid}
 use Rattle.claim_history.specs.Needs.{IsWithinLimits}
 use Rattle.claim_book.specs.Book.{BookView}

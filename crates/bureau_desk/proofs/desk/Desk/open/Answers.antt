@@ -1,5 +1,4 @@
-use Rattle.std.proofs.Common.{List, sym, subst}
-use Rattle.round_journal.specs.Opened.{AreFound}
+use Rattle.std.proofs.Common.{List, subst}
 use Rattle.round_journal.specs.declared.record.Record.{Record}
 use Rattle.limited_book.specs.Replays.{StopsFirst}
 use Rattle.bureau_desk.proofs.desk.Desk.open.Goals as goal

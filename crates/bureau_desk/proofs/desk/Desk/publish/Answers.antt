@@ -1,17 +1,15 @@
-use Rattle.std.proofs.Common.{◌≡◌, ◌∙◌, ◌++◌, ◌∷◌, [], List, Option, None, Some, ap, sym, subst}
+use Rattle.std.proofs.Common.{◌∙◌, ◌++◌, ◌∷◌, [], Option, ap, sym, subst}
 use Rattle.std.specs.Vec.{vec_len, vec_capacity}
 use Rattle.setoff_model.specs.CutView.{CutView}
 use Rattle.setoff_model.specs.Setoff.{total_of}
 use Rattle.claim_history.specs.declared.act.Act.TheVariants as act
-use Rattle.claim_history.specs.declared.entry.Entry.{Entry}
 use Rattle.claim_history.specs.declared.entry.Reply.{Reply}
 use Rattle.claim_history.specs.States.{state_of}
 use Rattle.claim_history.specs.History.{answer_of}
-use Rattle.claim_history.specs.Laws.{IsOwned}
 use Rattle.claim_book.specs.Book.{GivesCut}
 use Rattle.bureau_desk.specs.Acting.{entry_of, IsPublishable}
 use Rattle.bureau_desk.specs.Desks.{DeskView}
-use Rattle.bureau_desk.proofs.Cuts.{desk_failed, desk_published, failed_reply, published_reply}
+use Rattle.bureau_desk.proofs.Cuts.{desk_failed, failed_reply}
 use Rattle.bureau_desk.proofs.desk.Desk.publish.Goals as goal
 
 pub invariant_of-self-in-None : goal.invariant_of-self-in-None

@@ -1,4 +1,3 @@
-use Rattle.std.proofs.Common.{arith}
 use Rattle.bureau_desk.proofs.Acted.{keepable_of}
 use Rattle.bureau_desk.proofs.recorded_book.RecordedBook.act.Goals as goal
 

@@ -1,4 +1,4 @@
-use Rattle.std.proofs.Common.{◌≡◌, ◌∙◌, List, ap, length}
+use Rattle.std.proofs.Common.{◌∙◌, List, ap, length}
 use Rattle.claim_history.specs.declared.entry.Entry.{Entry}
 use Rattle.claim_book.specs.Book.{BookView}
 use Rattle.bureau_desk.proofs.Recording.{records_cleared}

@@ -1,12 +1,10 @@
-use Rattle.std.proofs.Common.{◌≡◌, ◌∙◌, ℕ, List, Bool, Option, Some, false, refl, sym, ap, subst, arith, rules}
+use Rattle.std.proofs.Common.{◌≡◌, ◌∙◌, Some, false, sym, ap}
 use Rattle.std.specs.Option.{option_map}
-use Rattle.setoff_model.specs.CutView.{CutView}
 use Rattle.claim_history.specs.declared.act.Act.TheVariants as act
-use Rattle.claim_history.specs.declared.entry.Entry.{Entry}
 use Rattle.claim_history.specs.States.{OpenRound, State, state_of}
 use Rattle.claim_history.specs.History.{answer_of, is_opening}
 use Rattle.claim_book.specs.Book.{BookView, open_cut_of}
-use Rattle.bureau_desk.specs.Acting.{RecordedView, HasActed, HasClosed, entry_of}
+use Rattle.bureau_desk.specs.Acting.{RecordedView, entry_of}
 use Rattle.bureau_desk.proofs.Acted.{keepable_of}
 use Rattle.bureau_desk.proofs.Closes.{close_keeps, state_more}
 use Rattle.bureau_desk.proofs.recorded_book.RecordedBook.continue_round.Goals as goal

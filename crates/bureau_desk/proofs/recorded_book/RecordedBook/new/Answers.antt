@@ -1,4 +1,4 @@
-use Rattle.std.proofs.Common.{◌≡◌, ◌∙◌, List, length, ap}
+use Rattle.std.proofs.Common.{◌∙◌, List, length, ap}
 use Rattle.claim_history.specs.declared.entry.Entry.{Entry}
 use Rattle.claim_book.specs.Book.{BookView}
 use Rattle.bureau_desk.proofs.Openings.{records_started}

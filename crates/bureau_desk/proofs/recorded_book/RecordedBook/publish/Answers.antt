@@ -1,10 +1,7 @@
-use Rattle.std.proofs.Common.{◌≡◌, ◌∙◌, ◌≤◌, ◌+◌, ℕ, List, Bool, true, false, refl, sym, ap, subst, arith, rules}
-use Rattle.setoff_model.specs.Setoff.{total_of}
+use Rattle.std.proofs.Common.{◌∙◌, sym, ap, subst}
 use Rattle.claim_history.specs.declared.act.Act.TheVariants as act
 use Rattle.claim_history.specs.declared.entry.Reply.TheVariants as reply
-use Rattle.claim_history.specs.declared.entry.Entry.{Entry}
-use Rattle.claim_history.specs.History.{answer_of, is_no_refusal, IsLegal}
-use Rattle.claim_history.specs.Needs.{IsWithinLimits}
+use Rattle.claim_history.specs.History.{IsLegal}
 use Rattle.claim_book.specs.Book.{BookView}
 use Rattle.bureau_desk.specs.Acting.{RecordedView, HasActed, IsOutcomeDue}
 use Rattle.bureau_desk.proofs.Acted.{acted, keepable_of}

@@ -1,4 +1,4 @@
-use Rattle.std.proofs.Common.{◌≡◌, ◌∙◌, ℕ, List, Bool, true, false, sym, ap, subst}
+use Rattle.std.proofs.Common.{◌≡◌, ◌∙◌, false, sym, ap, subst}
 use Rattle.claim_history.specs.States.{state_of}
 use Rattle.claim_history.specs.History.{answer_of}
 use Rattle.claim_history.specs.Needs.{is_of_device, is_full}

@@ -1,14 +1,11 @@
-use Rattle.std.proofs.Common.{◌≡◌, ◌∙◌, ◌≤◌, ◌+◌, ◌*◌, length, ℕ, List, Bool, true, false, refl, sym, ap, subst, arith, rules}
-use Rattle.setoff_model.specs.CutView.{CutView}
+use Rattle.std.proofs.Common.{◌≡◌, ◌∙◌, ◌≤◌, ◌+◌, ◌*◌, length, false, sym, ap, subst, arith}
 use Rattle.claim_history.specs.declared.act.Act.TheVariants as act
-use Rattle.claim_history.specs.declared.entry.Entry.{Entry}
 use Rattle.claim_history.specs.declared.entry.Reply.TheVariants as reply
 use Rattle.claim_history.specs.Cut.{cut_of}
 use Rattle.claim_history.specs.States.{state_of}
 use Rattle.claim_history.specs.History.{answer_of, is_no_refusal}
 use Rattle.claim_history.specs.Needs.{is_full}
-use Rattle.bureau_desk.specs.Recorded.{RecorderView}
-use Rattle.bureau_desk.specs.Acting.{RecordedView, HasActed, HasClosed, IsSpared, IsSameBase}
+use Rattle.bureau_desk.specs.Acting.{RecordedView, HasActed, HasClosed, IsSameBase}
 use Rattle.bureau_desk.proofs.Acted.{acted, keepable_of}
 use Rattle.bureau_desk.proofs.Closes.{got_due, opened_is, opened_bytes}
 use Rattle.bureau_desk.proofs.recorded_book.RecordedBook.put_opening.Goals as goal

@@ -1,16 +1,11 @@
 use Rattle.std.specs.Vec.{vec_capacity}
-use Rattle.std.proofs.Common.{◌≡◌, ◌∙◌, ◌⊎◌, ⊎_elim, ◌<◌, ◌≤◌, ℕ, List, length, Bool, IsTrue, refl, sym, ap, subst, arith, rules}
-use Rattle.disk_model.specs.Counts.{HasRisen}
+use Rattle.std.proofs.Common.{◌∙◌, IsTrue, refl, sym, subst, arith}
 use Rattle.disk_model.specs.Calls.{Goes}
-use Rattle.round_journal.specs.declared.device.Device.{Device}
-use Rattle.claim_history.specs.declared.entry.Entry.{Entry}
 use Rattle.claim_history.specs.declared.entry.Reply.TheVariants as reply
 use Rattle.claim_history.specs.declared.entry.Why.TheVariants as why
-use Rattle.act_bodies.specs.Bodies.{body_of, is_keepable}
 use Rattle.act_bodies.proofs.Lengths.{length_law}
 use Rattle.act_bodies.proofs.Keepable.{act_valid}
 use Rattle.bureau_desk.specs.Calls.{HoldsDuring}
-use Rattle.bureau_desk.specs.Devices.{IsBetween}
 use Rattle.bureau_desk.specs.Recorded.{RecorderView, Records}
 use Rattle.bureau_desk.proofs.Results.{on_ok_two, if_err_three}
 use Rattle.bureau_desk.proofs.Recording.{append_goes, records_accepted, records_failed, between_own}
