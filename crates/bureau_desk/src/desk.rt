@@ -20,7 +20,7 @@ use crate::recorded_book::RecordedBook;
 use claim_book::Book;
 use claim_history::{Act, Day, Reply, Why};
 use disk_model::Disk;
-use limited_book::{LimitedBook, ReplayStop, replay};
+use limited_book::{ReplayStop, replay};
 use round_journal::{Journal, JournalCause, OpenRefused, read_records};
 use setoff_checker::Checked;
 use setoff_model::{Cut, Kind};
@@ -77,14 +77,14 @@ impl<D: Disk> Desk<D> {
 
     /// The book of the records of a disk's journal, each with its one reply. It writes nothing, and abandons no round. The causes of
     /// an Err are those of `open`.
-    pub fn view(alloc: Global, disk: &mut D) -> Result<LimitedBook, DeskCause>
+    pub fn view(alloc: Global, disk: &mut D) -> Result<Book, DeskCause>
         ensures ok { IfOk result (λ book. HasViewed (D.tells disk.old) (D.reads disk.old) book.history) }
         ensures err { IfErr result (HasDeskCause (D.tells disk.old) (D.reads disk.old) (D.count disk.old) (D.count disk.new)) }
         ensures quiet { IsQuiet D.tells D.reads D.moment D.image D.count disk.old disk.new }
     {
         match read_records(alloc, disk) {
             Ok(records) => match replay(alloc, &records) {
-                Ok(book) => Ok(book),
+                Ok(book) => Ok(book.into_book()),
                 Err(stop) => Err(stop_of(stop)),
             },
             Err(cause) => Err(cause_of(cause)),

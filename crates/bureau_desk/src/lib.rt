@@ -15,3 +15,6 @@ pub use cut_reply::CutReply;
 pub use desk::Desk;
 pub use desk_refused::{DeskCause, DeskRefused};
 pub use publish_reply::PublishReply;
+
+#[cfg(test)]
+mod tests;

@@ -61,6 +61,13 @@ impl LimitedBook {
         &self.book
     }
 
+    /// Gives the book. It takes no memory.
+    pub fn into_book(self) -> Book
+        ensures { result ≡ self }
+    {
+        self.book
+    }
+
     /// The entries that the history uses: those whose replies tell of no device, at most 1,048,576. No more rounds were
     /// opened. It takes no memory.
     pub fn entries(&self) -> u64

@@ -22,7 +22,7 @@ returns-clause-done g c =
     history (record { caller = c.args.caller; act = c.args.act.now; reply = due }) c.deref.result.now
     (subst (λ (s : RecorderView g.row.D.Denot). Records g.D.Disk.tells g.D.Disk.moment g.D.Disk.image g.D.Disk.count s history) (sym c.self.view_is) has)
     (c.deref.ensures.value ∙ c.encode.ensures.body) c.append.ensures.opened c.append.ensures.tells c.append.ensures.counts c.append.ensures.crash
-    accepted gate (c.deref.ensures.len ∙ c.encode.ensures.len) done)
+    accepted gate (omega (arith, c.deref.ensures.len, c.encode.ensures.len)) done)
 
 pub returns-clause-failed : goal.returns-clause-failed
 returns-clause-failed g c =
