@@ -9,3 +9,4 @@ pub mod Publications
 pub mod Closes
 pub mod Openings
 pub mod Abandonments
+pub mod Publishable

@@ -6,3 +6,4 @@ pub mod Recorded
 pub mod Acting
 pub mod Desks
 pub mod Opening
+pub mod Laws

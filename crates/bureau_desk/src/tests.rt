@@ -1,7 +1,8 @@
-use crate::{CutReply, Desk};
+use crate::{CutReply, Desk, PublishReply, a_frozen_cut_may_be_published};
 use claim_history::{Act, Day, Reply, Why};
 use disk_model::MemoryDisk;
-use setoff_model::{Key, Kind, Name};
+use setoff_checker::Checker;
+use setoff_model::{Key, Kind, Name, Outcome};
 use std::alloc::{AllocError, Global};
 
 // Asks an act of caller 1 that is no Close and no publication. None where it is none that may be asked so, or was not answered.
@@ -141,4 +142,48 @@ fn every_crash_opens(rt: HostRuntime) {
             assert!(rt; desk.opened_with() <= 4);
         }
     }
+}
+
+// Closes a round of caller 1 and publishes the outcome without discharges and with prices of 0, where it is greatest.
+fn publish_nothing(
+    alloc: Global,
+    desk: &mut Desk<MemoryDisk>,
+    horizon: Day,
+) -> Result<Option<PublishReply>, AllocError> {
+    let Ok(CutReply::Frozen(cut)) = desk.cut(1, Kind::Plain, horizon) else {
+        return Ok(None);
+    };
+    if !cut.well_formed() {
+        return Ok(None);
+    }
+    let outcome = Outcome::new(
+        vec![in alloc; 0; cut.claims().len()]?,
+        vec![in alloc; 0; cut.parties().len()]?,
+    );
+    let checker = Checker::for_cut(alloc, &cut)?;
+    a_frozen_cut_may_be_published();
+    let _book = desk.book();
+    match checker.certify(cut, outcome) {
+        Ok(checked) => Ok(Some(desk.publish(1, checked))),
+        Err(_) => Ok(None),
+    }
+}
+
+// Of a round without claims the outcome is greatest: 15 bytes of a Close and 22 of a publication, behind 9.
+#[test]
+fn a_round_is_published(rt: HostRuntime) {
+    let alloc = rt.alloc();
+    let horizon = Day::of_number(20_453).expect(&rt, "a day");
+    let desk = desk_on(alloc, b"", 0).expect(&rt, "memory");
+    let mut desk = desk.expect(&rt, "a journal");
+    let reply = publish_nothing(alloc, &mut desk, horizon).expect(&rt, "memory");
+    assert!(rt; reply == Some(PublishReply::Published { total: 0 }));
+    assert!(rt; desk.rounds().len() == 1 && desk.book().history().len() == 2);
+    desk.clear_rounds();
+    assert!(rt; desk.rounds().is_empty());
+    let disk = desk.close();
+    assert!(rt; disk.bytes().len() == 46);
+    let desk = desk_on(alloc, disk.bytes(), 0).expect(&rt, "memory");
+    let desk = desk.expect(&rt, "a journal");
+    assert!(rt; desk.opened_with() == 2 && desk.book().history().len() == 2);
 }
