@@ -13,6 +13,10 @@ fn ask(desk: &mut Desk<MemoryDisk>, act: Act) -> Option<Reply> {
     desk.act(1, act).ok()
 }
 
+fn key_of(creditor: Name, invoice: Name) -> Key {
+    Key { creditor, invoice }
+}
+
 // Two firms, a claim of B against A, and its confirmation: 81 bytes of a journal.
 fn four_acts(alloc: Global) -> Result<Option<Vec<Act>>, AllocError> {
     let (Some(a), Some(b), Some(invoice), Some(due)) = (
@@ -23,20 +27,19 @@ fn four_acts(alloc: Global) -> Result<Option<Vec<Act>>, AllocError> {
     ) else {
         return Ok(None);
     };
-    let key = Key {
-        creditor: b,
-        invoice,
-    };
     let acts = vec![in alloc;
         Act::Firm { firm: a },
         Act::Firm { firm: b },
         Act::File {
-            key,
+            key: key_of(b, invoice),
             debtor: a,
             amount: 1_000,
             due
         },
-        Act::Confirm { key, debtor: a },
+        Act::Confirm {
+            key: key_of(b, invoice),
+            debtor: a
+        },
     ]?;
     Ok(Some(acts))
 }
