@@ -7,7 +7,7 @@ pub mod AsWritten
 pub mod Pairs
 pub mod Columns
 pub mod Flows
-pub mod Limits
+pub mod SumsBounded
 pub mod Spelling
 pub mod Deciding
 pub mod Complementary

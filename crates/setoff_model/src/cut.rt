@@ -3,14 +3,9 @@ ghost use Rattle.std.specs.Prelude.{◌≡◌, ◌≢◌, ◌↔◌, All, AllPai
 ghost use Rattle.setoff_model.specs.CutView.{WellFormed, IsClaimAmong, IsWindowOf, window_limit};
 
 use crate::kind::Kind;
+use crate::limits::{MOST_AMOUNT, MOST_CLAIMS, MOST_FIRMS, MOST_WINDOW};
 use crate::name::{Key, Name, is_same_key, is_same_name};
 use std::marker::Model;
-
-const MOST_PARTIES: usize = 16_384;
-
-const MOST_CLAIMS: usize = 262_144;
-
-const MOST_CENTS: u64 = 999_999_999_999;
 
 /// A firm of a cut, with its window: by how many cents its balance may fall and rise in the round.
 #[derive(Clone, Copy, Debug, PartialEq, Eq)]
@@ -107,7 +102,7 @@ impl Cut {
     {
         let parties = self.parties();
         let claims = self.claims();
-        parties.len() <= MOST_PARTIES
+        parties.len() <= MOST_FIRMS
             && claims.len() <= MOST_CLAIMS
             && firms_differ(parties)
             && keys_differ(claims)
@@ -173,7 +168,7 @@ fn is_claim_among(parties: &[Party], claim: &CutClaim) -> bool
     if !is_same_name(parties[creditor].firm, claim.key.creditor) {
         return false;
     }
-    1 <= claim.amount && claim.amount <= MOST_CENTS
+    1 <= claim.amount && claim.amount <= MOST_AMOUNT
 }
 
 // Each window is one of the kind.
@@ -192,6 +187,6 @@ fn window_limit_of(kind: Kind) -> u64
 {
     match kind {
         Kind::Plain => 0,
-        Kind::Funded => 2_000_000_000_000_000,
+        Kind::Funded => MOST_WINDOW,
     }
 }

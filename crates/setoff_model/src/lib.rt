@@ -6,6 +6,7 @@ mod cut;
 mod duality;
 mod field;
 mod kind;
+pub mod limits;
 mod name;
 mod outcome;
 mod same;

@@ -1,5 +1,6 @@
 //! What a solver finds of a cut.
 ghost use Rattle.std.specs.Prelude.{◌≡◌, ◌<◌, ◌≤◌, ◌^◌, All, length, sum};
+ghost use Rattle.setoff_model.specs.Limits.{most_claims, most_amount};
 ghost use Rattle.setoff_model.specs.Setoff.{total_of};
 
 use std::marker::Model;
@@ -46,8 +47,8 @@ impl Outcome {
 ///
 /// There are at most 262,144 of them, each at most 999,999,999,999 cents, as of every lawful set-off of a well-formed cut.
 pub fn total(outcome: &Outcome) -> u64
-    requires few { length outcome.now.discharges ≤ 262144 }
-    requires small { All (λ d. d ≤ 999999999999) outcome.now.discharges }
+    requires few { length outcome.now.discharges ≤ most_claims }
+    requires small { All (λ d. d ≤ most_amount) outcome.now.discharges }
     ensures { result ≡ total_of outcome.now.discharges }
 {
     sum_of(outcome.discharges())
