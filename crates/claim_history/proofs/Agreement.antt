@@ -64,7 +64,8 @@ later_too past round e c = record {
   cut_is = c.cut_is;
 }
 
-number_due : (s : State) (counted caller : ℕ) (kind : Kind) (horizon number : ℕ) → IsReply counted (answer s caller (act.Close kind horizon)) (reply.Opened number) → number ≡ s.openings + 1
+-- the number that an opening tells
+pub number_due : (s : State) (counted caller : ℕ) (kind : Kind) (horizon number : ℕ) → IsReply counted (answer s caller (act.Close kind horizon)) (reply.Opened number) → number ≡ s.openings + 1
 number_due s counted caller kind horizon number (replied e) = opened_number s.openings s.open_round caller kind horizon number e
 number_due s counted caller kind horizon number (failed device) = absurd (not_refused number _ refl device.is)
 

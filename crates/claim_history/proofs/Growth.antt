@@ -8,7 +8,8 @@ use Rattle.claim_history.specs.declared.entry.Reply.{Reply}
 use Rattle.claim_history.specs.declared.entry.Reply.TheVariants as reply
 use Rattle.claim_history.specs.declared.entry.Entry.{Entry}
 use Rattle.claim_history.specs.States.{State, open_as, state}
-use Rattle.claim_history.specs.History.{answer_of, MayFollow, Call, IsLegalPast, accepted_acts, ask, replay_after, replied}
+use Rattle.claim_history.specs.History.{answer_of, MayFollow, Call, IsLegalPast, ask, replay_after, replied}
+use Rattle.claim_history.specs.Callers.{accepted_acts}
 use Rattle.claim_history.specs.Laws.{ActsLaw, GrowthLaw, ReplayLaw}
 use Rattle.claim_history.proofs.Pasts.{entry_of}
 

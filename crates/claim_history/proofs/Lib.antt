@@ -22,6 +22,9 @@ pub mod Shapes
 pub mod Ranges
 pub mod Worked
 pub mod Register
+pub mod Calls
+pub mod Published
+pub mod OneCut
 mod WorkedRounds
 mod WorkedNeeds
 pub mod Room

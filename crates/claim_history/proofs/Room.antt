@@ -22,7 +22,8 @@ use Rattle.claim_history.specs.declared.entry.Why.TheVariants as why
 use Rattle.claim_history.specs.declared.entry.Entry.{Entry}
 use Rattle.claim_history.specs.Facts.{position_of}
 use Rattle.claim_history.specs.States.{OpenRound, State, after, state}
-use Rattle.claim_history.specs.History.{IsLegalPast, IsReply, Call, Refusals, abandon_answer, abandon_refusals, accepted_acts, answer, ask, close_answer, close_refusals, confirm_refusals, dispute_refusals, draw_refusals, failed, file_refusals, firm_refusals, fund_refusals, is_accepted, is_no_refusal, limit_refusals, offer_refusals, position_refusals, publish_answer, publish_refusals, receive_refusals, refused_or, replay_after, replay_of, replied, withdraw_refusals}
+use Rattle.claim_history.specs.History.{IsLegalPast, IsReply, Call, Refusals, abandon_answer, abandon_refusals, answer, ask, close_answer, close_refusals, confirm_refusals, dispute_refusals, draw_refusals, failed, file_refusals, firm_refusals, fund_refusals, is_accepted, is_no_refusal, limit_refusals, offer_refusals, position_refusals, publish_answer, publish_refusals, receive_refusals, refused_or, replay_after, replay_of, replied, withdraw_refusals}
+use Rattle.claim_history.specs.Callers.{accepted_acts}
 use Rattle.claim_history.specs.Needs.{EndingsLaw, CallsLaw, FitsPast, FullLaw, NeedsLaw, IsWithinLimitsPast, RecordsLaw, RoomLaw, UseLaw, body_length_of, endings_bytes, endings_entries, is_counted, is_of_device, most_bytes, most_entries, needed_bytes, needed_entries, own_bytes, record_length_of, used_bytes, used_entries}
 use Rattle.claim_history.proofs.Pasts.{all_reverse, entry_of}
 use Rattle.claim_history.proofs.Rows.{and_true, not_true}

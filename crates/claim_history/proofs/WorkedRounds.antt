@@ -15,7 +15,8 @@ use Rattle.claim_history.specs.Acts.{act_text, is_valid, is_request}
 use Rattle.claim_history.specs.Days.{day_text}
 use Rattle.claim_history.specs.Facts.{left_of}
 use Rattle.claim_history.specs.States.{state, state_of}
-use Rattle.claim_history.specs.History.{Call, accepted_acts, answer_of, replay_of, replay_after, IsLegalPast, failed}
+use Rattle.claim_history.specs.History.{Call, answer_of, replay_of, replay_after, IsLegalPast, failed}
+use Rattle.claim_history.specs.Callers.{accepted_acts}
 use Rattle.claim_history.proofs.Growth.{replay_is_legal}
 use Rattle.claim_history.proofs.Worked.{replies, position}
 

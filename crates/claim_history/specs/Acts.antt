@@ -57,6 +57,11 @@ abbrev pub is_publication : Act → Bool
 is_publication (act.Publish round outcome) = true
 is_publication _ = false
 
+-- the act is a Close
+abbrev pub is_close : Act → Bool
+is_close (act.Close kind horizon) = true
+is_close _ = false
+
 -- what a line of requests can ask for: every field is in its range, and it is no publication
 abbrev pub is_request : Act → Bool
 is_request (act.Publish round outcome) = false

@@ -1,6 +1,6 @@
 -- Histories: what was asked, by whom, and the one reply.
 -- A past is a list of entries, newest first. The history in order of time is its reverse.
-use Rattle.std.specs.Prelude.{◌≡◌, ℕ, ◌+◌, ◌<◌, ◌≤◌, max, Bool, true, false, not, ◌&&◌, ◌||◌, ◌==◌, nat_le, nat_lt, List, All, [], ◌∷◌, length, map, filter, reverse, Option, Some, None, is_some, ◌⊎◌, if◌then◌else◌}
+use Rattle.std.specs.Prelude.{◌≡◌, ℕ, ◌+◌, ◌<◌, ◌≤◌, max, Bool, true, false, not, ◌&&◌, ◌||◌, ◌==◌, nat_le, nat_lt, List, All, [], ◌∷◌, length, reverse, Option, Some, None, is_some, ◌⊎◌, if◌then◌else◌}
 use Rattle.setoff_model.specs.declared.name.Key.{Key}
 use Rattle.setoff_model.specs.declared.kind.Kind.{Kind}
 use Rattle.setoff_model.specs.declared.kind.Kind.TheVariants.{Plain, Funded}
@@ -242,10 +242,6 @@ is_accepted e = is_no_refusal e.reply
 abbrev pub is_opening : Reply → Bool
 is_opening (reply.Opened round) = true
 is_opening _ = false
-
--- the acts that were accepted, in the order of the list
-abbrev pub accepted_acts : List Entry → List Act
-accepted_acts entries = map (λ e. e.act) (filter is_accepted entries)
 
 -- ---- legal histories
 

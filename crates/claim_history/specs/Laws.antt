@@ -15,7 +15,9 @@ use Rattle.claim_history.specs.declared.entry.Reply.TheVariants as reply
 use Rattle.claim_history.specs.Facts.{Ledger, filing_of, amount_of, received, discharged, status_of, left_of, gained, spent, balance_of, limits_of, offer_of, receivable, payable}
 use Rattle.claim_history.specs.Cut.{party_of, cut_of}
 use Rattle.claim_history.specs.States.{OpenRound, State, state_of, after}
-use Rattle.claim_history.specs.History.{accepted_acts, is_no_refusal, is_opening, answer_of, MayFollow, keeps_limits, is_over_ceiling, is_below_floor, IsLegal, AreValid, Call, replay_of}
+use Rattle.claim_history.specs.History.{is_no_refusal, is_opening, answer_of, MayFollow, keeps_limits, is_over_ceiling, is_below_floor, IsLegal, AreValid, Call, replay_of}
+use Rattle.claim_history.specs.Callers.{accepted_acts}
+use Rattle.claim_history.specs.Rounds.{IsRoundCut}
 
 -- the acts of the state are the accepted acts of the history, newest first
 abbrev pub ActsLaw : Type 0
@@ -36,6 +38,10 @@ pub record IsCutOfOpening (history : List Entry) (round : OpenRound) : Type 0 wh
 -- the open round of a legal history is that of its opening
 abbrev pub CutLaw : Type 0
 CutLaw = (history : List Entry) → IsLegal history → (round : OpenRound) → (state_of history).open_round ≡ Some round → IsCutOfOpening history round
+
+-- a round of a legal history has one cut
+abbrev pub OneCutLaw : Type 0
+OneCutLaw = (history : List Entry) (number : ℕ) (one other : CutView) → IsLegal history → IsRoundCut history number one → IsRoundCut history number other → one ≡ other
 
 -- as many rounds were opened as entries of a legal history open one
 abbrev pub OpeningsLaw : Type 0

@@ -4,6 +4,8 @@ pub mod Facts
 pub mod Cut
 pub mod States
 pub mod History
+pub mod Callers
+pub mod Rounds
 pub mod Laws
 pub mod Register
 pub mod Needs

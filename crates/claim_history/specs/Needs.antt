@@ -10,7 +10,8 @@ use Rattle.claim_history.specs.declared.entry.Reply.TheVariants as reply
 use Rattle.claim_history.specs.declared.entry.Why.TheVariants as why
 use Rattle.claim_history.specs.declared.entry.Entry.{Entry}
 use Rattle.claim_history.specs.States.{OpenRound, State, after, state, state_of}
-use Rattle.claim_history.specs.History.{answer, answer_of, is_no_refusal, is_accepted, accepted_acts, IsLegal, Call, replay_of}
+use Rattle.claim_history.specs.History.{answer, answer_of, is_no_refusal, is_accepted, IsLegal, Call, replay_of}
+use Rattle.claim_history.specs.Callers.{accepted_acts}
 
 -- ---- what a history uses
 
