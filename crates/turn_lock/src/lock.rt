@@ -3,13 +3,14 @@ ghost use Rattle.std.specs.Prelude.{◌≡◌, ℕ, suc, ◌+◌, ◌<◌, ◌�
 ghost use Rattle.std.specs.Borrow.{Lends, sem};
 ghost use Rattle.turn_lock.specs.contracts.turn.Held.{the_row};
 ghost use Rattle.turn_lock.specs.Seats.{lock, lock_of, number, view, holds, registry, registrar_view, made};
-ghost use Rattle.turn_lock.specs.Turns.{of, hat, opening_view, EachOf, IsClerkOf, IsNew, drew, gave, new_view, Entered, MayLeave, Finished, taken, released};
+ghost use Rattle.turn_lock.specs.Turns.{entries_by, seat_history, opening_view, EachOf, IsRegistrarOf, IsNewSeat, drew, gave, new_view, Entered, MayLeave, Finished, taken, released};
 
 use crate::plays::{Acquire, Draw, End, Enrol, Release};
 use crate::story::Story;
-use crate::turn::{Chair, Clerk, Held, Registrar, Seat, Turn, Unmade};
+use crate::turn::{CountingPlace, Held, NumberedPlace, Registrar, Seat, Turn, Unmade};
 use atomic_table::{Refused, Table};
 use std::alloc::Global;
+use std::hint;
 use std::snapshot::Snapshot;
 use std::sync::Wait;
 
@@ -29,7 +30,7 @@ impl<T: Story> Turn<T> {
             Ok((table, place)) => Ok((
                 Turn { table },
                 Registrar {
-                    clerk: Clerk { place, made: 0 },
+                    counting: CountingPlace { place, made: 0 },
                 },
             )),
             Err(Refused { mut slots }) => {
@@ -49,8 +50,8 @@ impl<T: Story> Turn<T> {
     ) -> Result<(Turn<T>, Registrar<T>, Vec<Seat<T>>), Unmade<T>>
         requires { seats ≤ 1000000 }
         ensures err { IfErr result (λ u. u.value ≡ value) }
-        ensures registrar { IfOk result (λ r. (registry r.1 ≡ lock_of r.0) × (made r.1 ≡ seats) × IsClerkOf (T.entries value) (T.base value) (registrar_view r.1)) }
-        ensures seats { IfOk result (λ r. (length r.2.items ≡ seats) × EachOf (λ k s. (lock s ≡ lock_of r.0) × (number s ≡ k + 1) × IsNew (T.entries value) (T.base value) (view s)) r.2.items) }
+        ensures registrar { IfOk result (λ r. (registry r.1 ≡ lock_of r.0) × (made r.1 ≡ seats) × IsRegistrarOf (T.entries value) (T.base value) (registrar_view r.1)) }
+        ensures seats { IfOk result (λ r. (length r.2.items ≡ seats) × EachOf (λ k s. (lock s ≡ lock_of r.0) × (number s ≡ k + 1) × IsNewSeat (T.entries value) (T.base value) (view s)) r.2.items) }
     {
         let Ok(mut list) = Vec::with_capacity(alloc, seats as usize) else {
             return Err(Unmade { value });
@@ -70,12 +71,12 @@ impl<T: Story> Turn<T> {
         ensures seat { (lock result ≡ registry registrar.old) × (number result ≡ made registrar.old + 1) × (view result ≡ new_view (drew (registrar_view registrar.old))) }
     {
         let shared = &self.table.shared;
-        let clerk = &mut registrar.clerk;
-        let drawn = shared.fetch_add::<Draw>(&mut clerk.place, 1, 1);
-        let place = shared.split_seat::<Enrol>(&mut clerk.place);
-        clerk.made += 1;
+        let counting = &mut registrar.counting;
+        let drawn = shared.fetch_add::<Draw>(&mut counting.place, 1, 1);
+        let place = shared.split_seat::<Enrol>(&mut counting.place);
+        counting.made += 1;
         Seat {
-            chair: Chair {
+            numbered: NumberedPlace {
                 place,
                 number: drawn as u32,
             },
@@ -88,18 +89,18 @@ impl<T: Story> Turn<T> {
         requires made { (registry registrar ≡ lock_of self) × All (λ s. lock s ≡ lock_of self) seats.items }
         requires all { length seats.items ≡ made registrar }
         requires free { All (λ s. holds s ≡ false) seats.items }
-        ensures finished { Finished T.entries T.base T.caller (record (registrar_view registrar) { ended = map (λ s. (view s).hat) seats.items }) result }
+        ensures finished { Finished T.entries T.base T.caller (record (registrar_view registrar) { ended = map (λ s. (view s).history) seats.items }) result }
     {
         let Turn { table } = self;
-        let Registrar { clerk } = registrar;
-        let Clerk { mut place, made: _ } = clerk;
+        let Registrar { counting } = registrar;
+        let CountingPlace { mut place, made: _ } = counting;
         let mut seats = seats;
         while let Some(seat) = seats.pop() {
-            let Seat { chair } = seat;
-            let Chair {
+            let Seat { numbered } = seat;
+            let NumberedPlace {
                 place: other,
                 number: _,
-            } = chair;
+            } = numbered;
             table.shared.join_seat::<End>(&mut place, other);
         }
         let mut closed = table.close_with(place);
@@ -117,16 +118,16 @@ impl<T: Story> Turn<T> {
         ensures some { IfSome result (λ h. Entered T.entries T.base T.caller (view seat.old) (view seat.new) h.value) }
     {
         let shared = &self.table.shared;
-        let chair = &mut seat.chair;
+        let numbered = &mut seat.numbered;
         let want = shared.peek(0);
         if want % 2 != 0 {
             return None;
         }
-        let found = shared.compare_exchange::<Acquire>(&mut chair.place, 0, want, want + 1);
+        let found = shared.compare_exchange::<Acquire>(&mut numbered.place, 0, want, want + 1);
         if found != want {
             return None;
         }
-        let value = shared.exchange(&mut chair.place, 0, None).unwrap();
+        let value = shared.exchange(&mut numbered.place, 0, None).unwrap();
         Some(Held { value })
     }
 
@@ -142,6 +143,7 @@ impl<T: Story> Turn<T> {
             if let Some(held) = self.try_enter(seat) {
                 return held;
             }
+            hint::spin_loop();
         }
         unreachable!()
     }
@@ -156,12 +158,12 @@ impl<T: Story> Turn<T> {
         ensures left { (view seat.new) ≡ released (view seat.old) (T.entries held.value) }
     {
         let shared = &self.table.shared;
-        let chair = &mut seat.chair;
+        let numbered = &mut seat.numbered;
         let Held { value } = held;
         let length = value.length();
-        let old = shared.exchange(&mut chair.place, 0, Some(value));
+        let old = shared.exchange(&mut numbered.place, 0, Some(value));
         let None = old else { unreachable!() };
-        shared.store::<Release>(&mut chair.place, 0, 2 * length);
+        shared.store::<Release>(&mut numbered.place, 0, 2 * length);
     }
 }
 
@@ -170,7 +172,7 @@ impl<T: Story> Registrar<T> {
     pub fn made(&self) -> u32
         ensures { result ≡ made self.now }
     {
-        self.clerk.made
+        self.counting.made
     }
 }
 
@@ -179,7 +181,7 @@ impl<T: Story> Seat<T> {
     pub fn number(&self) -> u32
         ensures { result ≡ number self.now }
     {
-        self.chair.number
+        self.numbered.number
     }
 }
 

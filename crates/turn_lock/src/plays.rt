@@ -7,27 +7,27 @@ use atomic_table::{Join, Play, Split};
 pub struct Acquire;
 
 impl<T: Story> Play<Option<T>, View<T::Entry>> for Acquire {
-    ghost use Rattle.turn_lock.specs.Turns.{acquired};
+    ghost use Rattle.turn_lock.specs.Turns.{HasAcquired};
 
-    ghost then = { acquired T.entries T.base T.caller };
+    ghost then = { HasAcquired T.entries T.base T.caller };
 }
 
 /// A seat gives the turn back, and the value with it.
 pub struct Release;
 
 impl<T: Story> Play<Option<T>, View<T::Entry>> for Release {
-    ghost use Rattle.turn_lock.specs.Turns.{left};
+    ghost use Rattle.turn_lock.specs.Turns.{HasReleased};
 
-    ghost then = { left T.entries T.base T.caller };
+    ghost then = { HasReleased T.entries T.base T.caller };
 }
 
 /// The registrar draws the next number.
 pub struct Draw;
 
 impl<T, E> Play<Option<T>, View<E>> for Draw {
-    ghost use Rattle.turn_lock.specs.Turns.{drawn};
+    ghost use Rattle.turn_lock.specs.Turns.{HasDrawn};
 
-    ghost then = { drawn };
+    ghost then = { HasDrawn };
 }
 
 /// The registrar gives the number that it drew to a new seat.
@@ -41,7 +41,7 @@ impl<E> Split<View<E>> for Enrol {
     ghost right = { new_view };
 }
 
-/// A seat ends in the registrar, which keeps its hat.
+/// A seat ends in the registrar, which keeps what it knew of the history.
 pub struct End;
 
 impl<E> Join<View<E>> for End {

@@ -6,8 +6,8 @@ use std::alloc::Global;
 use std::collections::LinkedList;
 use std::snapshot::Snapshot;
 
-/// A number, with what its seat has seen and the entries of its own. No value of it is made.
-pub struct Hat<E> {
+/// What a seat knows of the history: its number, what it has seen, and the entries of its own. No value of it is made.
+pub struct SeatHistory<E> {
     pub number: u64,
     pub seen: LinkedList<E>,
     pub own: LinkedList<E>,
@@ -26,18 +26,18 @@ pub struct View<E> {
     /// The last number that the registrar drew, and the last that it gave.
     pub drawn: u64,
     pub given: u64,
-    pub hat: Hat<E>,
-    /// The hats of the seats that have ended in this one.
-    pub ended: LinkedList<Hat<E>>,
+    pub history: SeatHistory<E>,
+    /// Those of the seats that have ended in this one.
+    pub ended: LinkedList<SeatHistory<E>>,
 }
 
 /// The rule that every step keeps.
 pub struct Law;
 
 impl<T: Story> TableRule<Option<T>, View<T::Entry>, Snapshot<T>> for Law {
-    ghost use Rattle.turn_lock.specs.Turns.{Kept, opening_view};
+    ghost use Rattle.turn_lock.specs.Turns.{IsKept, opening_view};
 
-    ghost holds = { λ key s. Kept T.entries T.base T.caller key.value s };
+    ghost holds = { λ key s. IsKept T.entries T.base T.caller key.value s };
 
     ghost first = { λ key. opening_view (T.entries key.value) (T.base key.value) };
 }

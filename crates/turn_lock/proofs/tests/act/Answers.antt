@@ -15,9 +15,9 @@ added false k t xs ys put kept = ([], kept refl ∙ sym (append-nil xs), All-nil
 pub leave-requires-clause-may : goal.leave-requires-clause-may
 leave-requires-clause-may g c =
     let t = c.enter-held.ensures.entered in
-    let chair = c.enter-held.new.seat.chair in
-    let found : chair.place.me.0.found ≡ c.enter-held.result.value.list.items = ap (λ (v : View Note). v.found) t.view in
-    let k : c.number-number.result ≡ chair.place.me.0.hat.number = c.number-number.ensures ∙ chair.number_is in
+    let numbered = c.enter-held.new.seat.numbered in
+    let found : numbered.place.me.0.found ≡ c.enter-held.result.value.list.items = ap (λ (v : View Note). v.found) t.view in
+    let k : c.number-number.result ≡ numbered.place.me.0.history.number = c.number-number.ensures ∙ numbered.number_is in
     let a = added c.add_note.result c.number-number.result c.args.time c.value.result.now.list.items c.add_note.new.notes.list.items c.add_note.ensures.added c.add_note.ensures.same in
     record {
       base_is = t.base_is ∙ sym (ap (λ (v : View Note). v.base) t.view);

@@ -1,7 +1,7 @@
 use Rattle.std.proofs.Common.{◌≡◌, false, List, [], ◌∷◌, ◌++◌, length, All, Option, Some, map, ap, sym, ◌∙◌, subst, refl, arith, append_assoc, IsSome, unwrap_or}
 use Rattle.std.proofs.lemmas.List.{map-append, length-map}
 use mathlib.Core.Option.{some-injective}
-use Rattle.turn_lock.specs.declared.view.Hat.{Hat}
+use Rattle.turn_lock.specs.declared.view.SeatHistory.{SeatHistory}
 use Rattle.turn_lock.specs.declared.view.View.{View}
 use Rattle.turn_lock.specs.declared.turn.Seat.{Seat}
 use Rattle.atomic_table.specs.Table.{Me}
@@ -19,16 +19,16 @@ join_seat-requires g c =
     let items = c.in-Some.ensures.items in
     let s = c.in-Some.seat in
     let v = c.loop-seat.place.me.0 in
-    let mine = all_last (λ (s : S). s.chair.place.table_id ≡ c.args.registrar.clerk.place.table_id) c.pop.new.self.items s (subst (All (λ (s : S). s.chair.place.table_id ≡ c.args.registrar.clerk.place.table_id)) items inv.1) in
-    let free = all_last (λ (s : S). s.chair.place.me.0.holds ≡ false) c.pop.new.self.items s (subst (All (λ (s : S). s.chair.place.me.0.holds ≡ false)) items inv.2) in
+    let mine = all_last (λ (s : S). s.numbered.place.table_id ≡ c.args.registrar.counting.place.table_id) c.pop.new.self.items s (subst (All (λ (s : S). s.numbered.place.table_id ≡ c.args.registrar.counting.place.table_id)) items inv.1) in
+    let free = all_last (λ (s : S). s.numbered.place.me.0.holds ≡ false) c.pop.new.self.items s (subst (All (λ (s : S). s.numbered.place.me.0.holds ≡ false)) items inv.2) in
     let is = ap (λ (m : Me (Option g.row.T.Denot) V). m.0) inv.3 in
-    let k = c.args.registrar.clerk.clerk in (
+    let k = c.args.registrar.counting.is_registrar in (
       inv.0 ∙ c.requires.made.0,
       mine ∙ c.requires.made.0,
-      s.chair.carries ∙ ap carried free,
+      s.numbered.carries ∙ ap carried free,
       omega (arith, c.args.self.sized.0),
-      ends entries base caller c.args.self.table.shared.key.value c.loop-seat.place.id s.chair.place.id v s.chair.place.me.0
-          (ap (λ (u : V). u.spent) is ∙ k.live) (ap (λ (u : V). u.holds) is ∙ k.free) s.chair.lane.live free s.chair.lane.lane,
+      ends entries base caller c.args.self.table.shared.key.value c.loop-seat.place.id s.numbered.place.id v s.numbered.place.me.0
+          (ap (λ (u : V). u.spent) is ∙ k.live) (ap (λ (u : V). u.holds) is ∙ k.free) s.numbered.is_seat.live free s.numbered.is_seat.is_seat,
     )
 
 pub loop-seat-preserved : goal.loop-seat-preserved
@@ -36,25 +36,25 @@ loop-seat-preserved g c =
     let S : Type 0 = Seat g.row.T.Denot g.row.T-Entry.Denot in
     let V : Type 0 = View g.row.T-Entry.Denot in
     let M : Type 0 = Me (Option g.row.T.Denot) V in
-    let hat_of : S → Hat g.row.T-Entry.Denot = λ s. s.chair.place.me.0.hat in
+    let history_of : S → SeatHistory g.row.T-Entry.Denot = λ s. s.numbered.place.me.0.history in
     let inv = c.loop-seat.invariant in
     let items = c.in-Some.ensures.items in
     let s = c.in-Some.seat in
     let left = c.pop.new.self.items in
     let v = c.loop-seat.place.me.0 in
-    let w = s.chair.place.me.0 in
-    let v0 = c.args.registrar.clerk.place.me.0 in
+    let w = s.numbered.place.me.0 in
+    let v0 = c.args.registrar.counting.place.me.0 in
     let told = c.join_seat.ensures.2 in
-    let ended : List (Hat g.row.T-Entry.Denot) = w.hat ∷ (w.ended ++ v.ended) in
+    let ended : List (SeatHistory g.row.T-Entry.Denot) = w.history ∷ (w.ended ++ v.ended) in
     let new_ended : c.join_seat.new.seat.me.0.ended ≡ ended = ap (λ (m : M). m.0.ended) told in
-    let more : ended ≡ w.hat ∷ v.ended = ap (λ (l : List (Hat g.row.T-Entry.Denot)). w.hat ∷ (l ++ v.ended)) s.chair.lane.alone in
-    let all : map hat_of c.args.seats.items ≡ map hat_of left ++ (w.hat ∷ v.ended) =
-    inv.4 ∙ ap (λ (l : List S). map hat_of l ++ v.ended) items ∙ ap (λ (l : List (Hat g.row.T-Entry.Denot)). l ++ v.ended) (map-append hat_of left (s ∷ [])) ∙ append_assoc (map hat_of left) (w.hat ∷ []) v.ended in (
+    let more : ended ≡ w.history ∷ v.ended = ap (λ (l : List (SeatHistory g.row.T-Entry.Denot)). w.history ∷ (l ++ v.ended)) s.numbered.is_seat.alone in
+    let all : map history_of c.args.seats.items ≡ map history_of left ++ (w.history ∷ v.ended) =
+    inv.4 ∙ ap (λ (l : List S). map history_of l ++ v.ended) items ∙ ap (λ (l : List (SeatHistory g.row.T-Entry.Denot)). l ++ v.ended) (map-append history_of left (s ∷ [])) ∙ append_assoc (map history_of left) (w.history ∷ []) v.ended in (
       c.join_seat.ensures.0 ∙ inv.0,
-      all_front (λ (s : S). s.chair.place.table_id ≡ c.args.registrar.clerk.place.table_id) left s (subst (All (λ (s : S). s.chair.place.table_id ≡ c.args.registrar.clerk.place.table_id)) items inv.1),
-      all_front (λ (s : S). s.chair.place.me.0.holds ≡ false) left s (subst (All (λ (s : S). s.chair.place.me.0.holds ≡ false)) items inv.2),
-      told ∙ ap (λ (m : M). (record m.0 { ended = ended }, m.1)) inv.3 ∙ sym (ap (λ (l : List (Hat g.row.T-Entry.Denot)). (record v0 { ended = l }, [])) new_ended),
-      all ∙ ap (λ (l : List (Hat g.row.T-Entry.Denot)). map hat_of left ++ l) (sym (new_ended ∙ more)),
+      all_front (λ (s : S). s.numbered.place.table_id ≡ c.args.registrar.counting.place.table_id) left s (subst (All (λ (s : S). s.numbered.place.table_id ≡ c.args.registrar.counting.place.table_id)) items inv.1),
+      all_front (λ (s : S). s.numbered.place.me.0.holds ≡ false) left s (subst (All (λ (s : S). s.numbered.place.me.0.holds ≡ false)) items inv.2),
+      told ∙ ap (λ (m : M). (record m.0 { ended = ended }, m.1)) inv.3 ∙ sym (ap (λ (l : List (SeatHistory g.row.T-Entry.Denot)). (record v0 { ended = l }, [])) new_ended),
+      all ∙ ap (λ (l : List (SeatHistory g.row.T-Entry.Denot)). map history_of left ++ l) (sym (new_ended ∙ more)),
     )
 
 pub unwrap-value-requires : goal.unwrap-value-requires
@@ -65,12 +65,12 @@ unwrap-value-requires g c =
     let v = c.loop-seat.place.me.0 in
     let inv = c.loop-seat.invariant in
     let is = ap (λ (m : Me (Option g.row.T.Denot) V). m.0) inv.3 in
-    let k = c.args.registrar.clerk.clerk in
+    let k = c.args.registrar.counting.is_registrar in
     let left : length c.loop-seat.seats.items ≡ 0 = omega (arith, c.in_default.ensures.cases.0) in
-    let ended : map (λ (s : S). s.chair.place.me.0.hat) c.args.seats.items ≡ v.ended = inv.4 ∙ ap (λ (l : List S). map (λ (s : S). s.chair.place.me.0.hat) l ++ v.ended) (none_left c.loop-seat.seats.items left) in
-    let all : length v.ended ≡ v.given = sym (ap length ended) ∙ length-map c.args.seats.items (λ (s : S). s.chair.place.me.0.hat) ∙ c.requires.all ∙ sym k.given_is ∙ sym (ap (λ (u : V). u.given) is) in
+    let ended : map (λ (s : S). s.numbered.place.me.0.history) c.args.seats.items ≡ v.ended = inv.4 ∙ ap (λ (l : List S). map (λ (s : S). s.numbered.place.me.0.history) l ++ v.ended) (none_left c.loop-seat.seats.items left) in
+    let all : length v.ended ≡ v.given = sym (ap length ended) ∙ length-map c.args.seats.items (λ (s : S). s.numbered.place.me.0.history) ∙ c.requires.all ∙ sym k.given_is ∙ sym (ap (λ (u : V). u.given) is) in
     let done = closes entries base caller c.args.self.table.shared.key.value c.loop-seat.place.id v _ _ c.close_with-closed.ensures.values.2
-    (ap (λ (u : V). u.spent) is ∙ k.live) (ap (λ (u : V). u.registrar) is ∙ k.clerk) (ap (λ (u : V). u.holds) is ∙ k.free) all in
+    (ap (λ (u : V). u.spent) is ∙ k.live) (ap (λ (u : V). u.registrar) is ∙ k.is_registrar) (ap (λ (u : V). u.holds) is ∙ k.free) all in
     subst (λ (o : Option g.row.T.Denot). IsSome o) (sym (some-injective c.take.result (Some done.0) (sym c.take.ensures.value ∙ done.1))) refl
 
 pub returns : goal.returns
@@ -79,18 +79,18 @@ returns g c =
     let S : Type 0 = Seat g.row.T.Denot g.row.T-Entry.Denot in
     let V : Type 0 = View g.row.T-Entry.Denot in
     let v = c.loop-seat.place.me.0 in
-    let v0 = c.args.registrar.clerk.place.me.0 in
+    let v0 = c.args.registrar.counting.place.me.0 in
     let inv = c.loop-seat.invariant in
     let is = ap (λ (m : Me (Option g.row.T.Denot) V). m.0) inv.3 in
-    let k = c.args.registrar.clerk.clerk in
+    let k = c.args.registrar.counting.is_registrar in
     let left : length c.loop-seat.seats.items ≡ 0 = omega (arith, c.in_default.ensures.cases.0) in
-    let ended : map (λ (s : S). s.chair.place.me.0.hat) c.args.seats.items ≡ v.ended = inv.4 ∙ ap (λ (l : List S). map (λ (s : S). s.chair.place.me.0.hat) l ++ v.ended) (none_left c.loop-seat.seats.items left) in
-    let all : length v.ended ≡ v.given = sym (ap length ended) ∙ length-map c.args.seats.items (λ (s : S). s.chair.place.me.0.hat) ∙ c.requires.all ∙ sym k.given_is ∙ sym (ap (λ (u : V). u.given) is) in
+    let ended : map (λ (s : S). s.numbered.place.me.0.history) c.args.seats.items ≡ v.ended = inv.4 ∙ ap (λ (l : List S). map (λ (s : S). s.numbered.place.me.0.history) l ++ v.ended) (none_left c.loop-seat.seats.items left) in
+    let all : length v.ended ≡ v.given = sym (ap length ended) ∙ length-map c.args.seats.items (λ (s : S). s.numbered.place.me.0.history) ∙ c.requires.all ∙ sym k.given_is ∙ sym (ap (λ (u : V). u.given) is) in
     let done = closes entries base caller c.args.self.table.shared.key.value c.loop-seat.place.id v _ _ c.close_with-closed.ensures.values.2
-    (ap (λ (u : V). u.spent) is ∙ k.live) (ap (λ (u : V). u.registrar) is ∙ k.clerk) (ap (λ (u : V). u.holds) is ∙ k.free) all in
+    (ap (λ (u : V). u.spent) is ∙ k.live) (ap (λ (u : V). u.registrar) is ∙ k.is_registrar) (ap (λ (u : V). u.holds) is ∙ k.free) all in
     let took : done.0 ≡ c.unwrap-value.result = ap (λ (o : Option g.row.T.Denot). unwrap_or o done.0) (sym (some-injective c.take.result (Some done.0) (sym c.take.ensures.value ∙ done.1)) ∙ c.unwrap-value.ensures) in
     record {
-      finished = subst (λ (y : g.row.T.Denot). Finished entries base caller (record v0 { ended = map (λ (s : S). s.chair.place.me.0.hat) c.args.seats.items }) y) took
-          (subst (λ (l : List (Hat g.row.T-Entry.Denot)). Finished entries base caller (record v0 { ended = l }) done.0) (sym ended)
+      finished = subst (λ (y : g.row.T.Denot). Finished entries base caller (record v0 { ended = map (λ (s : S). s.numbered.place.me.0.history) c.args.seats.items }) y) took
+          (subst (λ (l : List (SeatHistory g.row.T-Entry.Denot)). Finished entries base caller (record v0 { ended = l }) done.0) (sym ended)
           (subst (λ (u : V). Finished entries base caller u done.0) is done.2));
     }
