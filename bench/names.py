@@ -1,13 +1,13 @@
 """Compares the names of the crates with the documents: python3 bench/names.py [CRATE..]
 
-Prints each name that stands on one side alone. In docs/DEFINITIONS.md each public word of a crate's specs/ has an entry, or one of
-an entry such as `*_refusals`. In docs/PROVED.md each public function, law and trait has a row. In docs/LAYERS.md each crate has a
-row with what it stands on, as crates.txt says, and each module of lemmas that another crate imports. Status 1: something is missing.
+Prints each name that stands on one side alone. In docs/DEFINITIONS.md each public word of a crate's specs/ has its place in the index at
+the end, and the words of the glossary are among these. In docs/PROVED.md each public function, law and trait has a row. In
+docs/LAYERS.md each crate has a row with what it stands on, as crates.txt says, and each module of lemmas that another crate imports.
+Status 1: something is missing. With --index it prints the index of words anew.
 """
 
 import re
 import sys
-from fnmatch import fnmatch
 from pathlib import Path
 
 HOME = Path(__file__).resolve().parent.parent
@@ -24,14 +24,14 @@ def stands_on():
     return found
 
 
-def spec_words(crate):
-    """The public words of the public modules of a crate's specs/."""
-    words = set()
+def spec_modules(crate):
+    """Of each public module of a crate's specs/, its public words in order."""
+    found = {}
     folder = CRATES / crate / "specs"
     if not (folder / "Lib.antt").exists():
-        return words
+        return found
     for module in re.findall(r"^pub mod (\w+)", (folder / "Lib.antt").read_text(), re.M):
-        deep = None
+        deep, words = None, found.setdefault(module, [])
         for line in (folder / f"{module}.antt").read_text().splitlines():
             if not line.strip():
                 continue
@@ -41,9 +41,22 @@ def spec_words(crate):
             deep = None
             head = re.match(r" *(?:abbrev |unfoldable )?pub (?:(record|data) )?([^\s:({]+)", line)
             if head and "◌" not in head[2] and head[2] not in ("use", "open", "mod"):
-                words.add(head[2])
+                words.append(head[2])
                 deep = indent if head[1] else None
-    return words
+    return found
+
+
+def spec_words(crate):
+    return {word for words in spec_modules(crate).values() for word in words}
+
+
+def index(names):
+    """Prints the index of words for the end of docs/DEFINITIONS.md."""
+    for crate in names:
+        if spec_words(crate):
+            print(f"\n### `{crate}`\n\n| module | words |\n|---|---|")
+        for module, words in spec_modules(crate).items():
+            print(f"| {module} | {', '.join(f'`{word}`' for word in words)} |")
 
 
 def sources(crate):
@@ -126,6 +139,8 @@ def tell(where, missing, what):
 
 def main():
     listed = stands_on()
+    if sys.argv[1:2] == ["--index"]:
+        return index(sys.argv[2:] or listed)
     names = sys.argv[1:] or sorted(listed)
     words, proved = sections("DEFINITIONS.md"), sections("PROVED.md")
     layers = (HOME / "docs" / "LAYERS.md").read_text()
@@ -135,8 +150,8 @@ def main():
     for crate in names:
         told = column(words.get(crate, ""), 2)
         known = spec_words(crate)
-        bad |= tell(f"DEFINITIONS.md, {crate}", {it for it in known if not any(fnmatch(it, entry) for entry in told)}, "has no entry")
-        bad |= tell(f"DEFINITIONS.md, {crate}", {it for it in told - known if "*" not in it}, "is no public word of specs/")
+        bad |= tell(f"DEFINITIONS.md, {crate}", known - told, "has no entry")
+        bad |= tell(f"DEFINITIONS.md, {crate}", told - known, "is no public word of specs/")
         told = column(proved.get(crate, ""), 1)
         known = calls(crate)
         bad |= tell(f"PROVED.md, {crate}", {it for it in known if it not in told and it.split("::")[0] not in told}, "has no row")
@@ -152,6 +167,9 @@ def main():
         bad |= tell(f"LAYERS.md, lemmas of {crate}", lent.get(crate, set()) - told, "is imported above and has no entry")
         bad |= tell(f"LAYERS.md, lemmas of {crate}", told - lent.get(crate, set()), "is imported by no other crate")
     if not sys.argv[1:]:
+        glossary = (HOME / "docs" / "DEFINITIONS.md").read_text().partition("## How a history is read")[0]
+        every = {word for crate in listed for word in spec_words(crate)}
+        bad |= tell("DEFINITIONS.md, glossary", column(glossary, 3) - every, "is no public word of specs/")
         for document, told in (("DEFINITIONS.md", words), ("PROVED.md", proved)):
             bad |= tell(document, set(told) - set(listed), "is no crate")
     return 1 if bad else 0
