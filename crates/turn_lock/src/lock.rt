@@ -83,8 +83,8 @@ impl<T: Story> Turn<T> {
         }
     }
 
-    /// The value back, for all seats that were made. Its history begins with what each has seen, and past the length at `make`
-    /// each entry has the number of a seat, whose own entries are these. It takes no memory.
+    /// The value back, for all seats that were made. Its history begins with what each has seen. Past the length at `make` each
+    /// entry has a number that was given, and a seat's own entries are those of its number. It takes no memory.
     pub fn finish(self, registrar: Registrar<T>, seats: Vec<Seat<T>>) -> T
         requires made { (registry registrar ≡ lock_of self) × All (λ s. lock s ≡ lock_of self) seats.items }
         requires all { length seats.items ≡ made registrar }
