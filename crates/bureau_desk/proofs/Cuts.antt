@@ -24,7 +24,7 @@ use Rattle.claim_history.proofs.Rows.{by_rows}
 use Rattle.claim_history.proofs.Replies.{opens}
 use Rattle.claim_history.specs.Laws.{IsOwned}
 use Rattle.claim_book.specs.Book.{room_for, GivesCut}
-use Rattle.limited_book.specs.Replays.{is_close}
+use Rattle.journal_replay.specs.Replays.{is_close}
 use Rattle.bureau_desk.specs.Devices.{IsReplied}
 use Rattle.bureau_desk.specs.Rounds.{cut_published, cuts_past, cuts_after}
 use Rattle.bureau_desk.specs.Acting.{RecordedView, entry_of, has_closed, closed_last, IsSpared}

@@ -17,8 +17,8 @@ use Rattle.round_journal.specs.Opened.{IsOpen}
 use Rattle.round_journal.specs.Records.{bodies_of, AreKeepable}
 use Rattle.round_journal.proofs.Short.{length-record}
 use Rattle.round_journal.specs.declared.record.Record.{Record}
-use Rattle.limited_book.specs.Replays.{history_of, AreSound}
-use Rattle.limited_book.specs.Replays.{call_of as call_in}
+use Rattle.journal_replay.specs.Replays.{history_of, AreSound}
+use Rattle.journal_replay.specs.Replays.{call_of as call_in}
 use Rattle.bureau_desk.specs.Calls.{call_of, accepted_calls, bodies_of_calls}
 use Rattle.bureau_desk.specs.Moments.{HasMoments}
 use Rattle.bureau_desk.specs.Devices.{IsBetween, AreBetween}

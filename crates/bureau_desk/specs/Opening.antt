@@ -9,9 +9,9 @@ use Rattle.round_journal.specs.Opened.{AreFound}
 use Rattle.round_journal.specs.Stops.{HasCause}
 use Rattle.round_journal.specs.declared.cause.JournalCause.TheVariants as journal
 use Rattle.round_journal.specs.declared.record.Record.{Record}
-use Rattle.limited_book.specs.Replays.{history_of, AreSound, StopsFirst}
-use Rattle.limited_book.specs.declared.replay_stop.ReplayStop.{ReplayStop}
-use Rattle.limited_book.specs.declared.replay_stop.ReplayStop.TheVariants as stop
+use Rattle.journal_replay.specs.Replays.{history_of, AreSound, StopsFirst}
+use Rattle.journal_replay.specs.declared.replay_stop.ReplayStop.{ReplayStop}
+use Rattle.journal_replay.specs.declared.replay_stop.ReplayStop.TheVariants as stop
 use Rattle.bureau_desk.specs.declared.desk_refused.DeskCause.{DeskCause}
 use Rattle.bureau_desk.specs.declared.desk_refused.DeskCause.TheVariants.{Memory, Device, BadHeader, BadRecord, BadAct, Overfull}
 use Rattle.bureau_desk.specs.Acting.{RecordedView, entry_of}

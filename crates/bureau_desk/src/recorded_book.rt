@@ -14,7 +14,7 @@ ghost use Rattle.claim_history.specs.History.{answer_of, is_opening, is_accepted
 ghost use Rattle.claim_history.specs.Needs.{body_length_of, is_full};
 ghost use Rattle.act_bodies.specs.Bodies.{is_keepable};
 ghost use Rattle.claim_book.specs.Book.{room_for, GivesCut, ledger_of, open_cut_of};
-ghost use Rattle.limited_book.specs.Replays.{is_close, history_of, AreSound};
+ghost use Rattle.journal_replay.specs.Replays.{is_close, history_of, AreSound};
 ghost use Rattle.round_journal.specs.Opened.{IsOpen};
 ghost use Rattle.round_journal.specs.declared.record.Record.{Record};
 ghost use Rattle.disk_model.specs.Counts.{HasRisen};

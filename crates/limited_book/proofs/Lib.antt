@@ -1,5 +1,4 @@
 pub mod Limits
 pub mod Needs
+pub mod Openings
 pub mod Publications
-pub mod Replays
-pub mod Ends

@@ -11,7 +11,7 @@ use Rattle.setoff_checker.specs.Verdicts.{FoundGreatest, IsVerdict}
 use Rattle.claim_history.specs.declared.entry.Reply.{Reply}
 use Rattle.claim_history.specs.declared.entry.Reply.TheVariants as reply
 use Rattle.claim_history.specs.declared.entry.Why.TheVariants as why
-use Rattle.limited_book.specs.Replays.{proved_reply}
+use Rattle.limited_book.specs.Publications.{proved_reply}
 
 -- the reply where the test has this value
 abbrev reply_if : Bool → ℕ → Reply

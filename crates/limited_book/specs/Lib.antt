@@ -1,3 +1,2 @@
 pub mod Limited
-pub mod Replays
-pub mod Laws
+pub mod Publications

@@ -2,7 +2,7 @@ use Rattle.std.proofs.Common.{◌∙◌, ap₂, refl, List}
 use Rattle.claim_history.specs.declared.fact.ClaimFact.{ClaimFact}
 use Rattle.claim_history.specs.declared.fact.AccountFact.{AccountFact}
 use Rattle.round_cut.specs.CutOfFacts.{cut_of_facts}
-use Rattle.limited_book.proofs.Replays.{opening_cut}
+use Rattle.limited_book.proofs.Openings.{opening_cut}
 use Rattle.bureau_desk.proofs.Results.{if_ok_map}
 use Rattle.bureau_desk.proofs.recorded_book.make_cut.Goals as goal
 

@@ -1,6 +1,6 @@
 use Rattle.std.proofs.Common.{List, subst}
 use Rattle.round_journal.specs.declared.record.Record.{Record}
-use Rattle.limited_book.specs.Replays.{StopsFirst}
+use Rattle.journal_replay.specs.Replays.{StopsFirst}
 use Rattle.bureau_desk.proofs.desk.Desk.open.Goals as goal
 
 pub returns-in-Err-clause-err : goal.returns-in-Err-clause-err

@@ -10,9 +10,9 @@ use Rattle.claim_history.specs.Needs.{FitsPast, IsWithinLimitsPast, is_full}
 use Rattle.claim_history.proofs.Pasts.{all_reverse}
 use Rattle.claim_history.proofs.Room.{full_law}
 use Rattle.round_journal.specs.declared.record.Record.{Record}
-use Rattle.limited_book.specs.Replays.{AreSound, IsFirstFaulty, call_of, history_of, is_faulty}
-use Rattle.limited_book.specs.Laws.{FirstLaw, SoundLaw}
-use Rattle.limited_book.proofs.Replays.{more_asked}
+use Rattle.journal_replay.specs.Replays.{AreSound, IsFirstFaulty, call_of, history_of, is_faulty}
+use Rattle.journal_replay.specs.Laws.{FirstLaw, SoundLaw}
+use Rattle.journal_replay.proofs.Replays.{more_asked}
 
 record IsSoundPast (past : List Entry) : Type 0 where
   accepted : All (λ e. is_accepted e ≡ true) past

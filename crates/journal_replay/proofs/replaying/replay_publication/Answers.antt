@@ -1,7 +1,7 @@
 use Rattle.std.proofs.Common.{sym, ap, ◌∙◌}
 use Rattle.claim_book.specs.Book.{BookView}
-use Rattle.limited_book.proofs.Replays.{published_so}
-use Rattle.limited_book.proofs.replaying.replay_publication.Goals as goal
+use Rattle.journal_replay.proofs.Replays.{published_so}
+use Rattle.journal_replay.proofs.replaying.replay_publication.Goals as goal
 
 pub returns-clause-done : goal.returns-clause-done
 returns-clause-done c =

@@ -24,9 +24,9 @@ use Rattle.round_cut.specs.CutLaw.{CutLaw}
 use Rattle.round_journal.specs.declared.record.Record.{Record}
 use Rattle.limited_book.proofs.Limits.{publication_of}
 use Rattle.limited_book.proofs.Publications.{false_so}
-use Rattle.limited_book.specs.declared.replay_stop.ReplayStop.{ReplayStop}
-use Rattle.limited_book.specs.declared.replay_stop.ReplayStop.TheVariants.{Memory, BadAct, Overfull}
-use Rattle.limited_book.specs.Replays.{AreSound, IsReplayed, StopsFirst, Tells, call_of, history_of, is_close, is_faulty}
+use Rattle.journal_replay.specs.declared.replay_stop.ReplayStop.{ReplayStop}
+use Rattle.journal_replay.specs.declared.replay_stop.ReplayStop.TheVariants.{Memory, BadAct, Overfull}
+use Rattle.journal_replay.specs.Replays.{AreSound, IsReplayed, StopsFirst, Tells, call_of, history_of, is_close, is_faulty}
 
 -- ---- Closes
 
@@ -34,30 +34,6 @@ use Rattle.limited_book.specs.Replays.{AreSound, IsReplayed, StopsFirst, Tells, 
 pub other_opens_none : (history : List Entry) (caller : ℕ) (a : Act) (r : Reply) → r ≡ answer_of history caller a → is_close a ≡ false → is_opening r ≡ false
 other_opens_none history caller a r due other =
     false_so (is_opening r) (λ e. true≢false (sym (ap is_close (opens (state_of history) 0 caller a r (replied due) e).act_is ∙ refl) ∙ other))
-
-made_cut : (history : List Entry) (caller : ℕ) (kind : Kind) (horizon round : ℕ) (cut : CutView) → CutLaw → IsLegal history → AreValid history → reply.Opened round ≡ answer_of history caller (act.Close kind horizon)
-    → cut ≡ cut_of_facts round (claim_facts (state_of history).ledger) (account_facts (state_of history).ledger) kind horizon
-    → cut ≡ cut_of ((state_of history).openings + 1) (state_of history).ledger kind horizon
-made_cut history caller kind horizon round cut law legal valid due is =
-    let number : reply.Opened round ≡ reply.Opened ((state_of history).openings + 1) = (opens (state_of history) 0 caller (act.Close kind horizon) (reply.Opened round) (replied due) refl).reply_is in
-    let same : round ≡ (state_of history).openings + 1 = cc in
-    is ∙ law history round kind horizon legal valid ∙ ap (λ (n : ℕ). cut_of n (state_of history).ledger kind horizon) same
-
--- the cut that is made of the facts of the known history is the history's cut
-pub opening_cut : (known history : List Entry) (caller : ℕ) (kind : Kind) (horizon round : ℕ) (cut : CutView) → known ≡ history → CutLaw → IsLegal known → AreValid known → reply.Opened round ≡ answer_of history caller (act.Close kind horizon)
-    → cut ≡ cut_of_facts round (claim_facts (state_of known).ledger) (account_facts (state_of known).ledger) kind horizon
-    → cut ≡ cut_of ((state_of history).openings + 1) (state_of history).ledger kind horizon
-opening_cut known history caller kind horizon round cut same law legal valid due is =
-    let due_known = subst (λ (h : List Entry). reply.Opened round ≡ answer_of h caller (act.Close kind horizon)) (sym same) due in
-    subst (λ (h : List Entry). cut ≡ cut_of ((state_of h).openings + 1) (state_of h).ledger kind horizon) same (made_cut known caller kind horizon round cut law legal valid due_known is)
-
--- so it is, however the Close is named
-pub same_cut : (history : List Entry) (kind k : Kind) (horizon h : ℕ) (cut : CutView) → cut ≡ cut_of ((state_of history).openings + 1) (state_of history).ledger kind horizon → act.Close kind horizon ≡ act.Close k h
-    → cut ≡ cut_of ((state_of history).openings + 1) (state_of history).ledger k h
-same_cut history kind k horizon h cut is same =
-    let kinds : kind ≡ k = cc in
-    let horizons : horizon ≡ h = cc in
-    is ∙ ap₂ (λ (x : Kind) (y : ℕ). cut_of ((state_of history).openings + 1) (state_of history).ledger x y) kinds horizons
 
 -- the act is another than those that have arms of their own
 pub no_close : (a : Act) → ((kind : Kind) (horizon : ℕ) → a ≡ act.Close kind horizon → ⊥) → is_close a ≡ false

@@ -1,6 +1,6 @@
 use Rattle.std.proofs.lemmas.Result.{err_from_is_err_and}
-use Rattle.limited_book.proofs.Replays.{replayed_more, stopped_at}
-use Rattle.limited_book.proofs.replaying.replay.Goals as goal
+use Rattle.journal_replay.proofs.Replays.{replayed_more, stopped_at}
+use Rattle.journal_replay.proofs.replaying.replay.Goals as goal
 
 pub returns-in_err-replay_one-clause-stopped : goal.returns-in_err-replay_one-clause-stopped
 returns-in_err-replay_one-clause-stopped c =

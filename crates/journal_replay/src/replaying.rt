@@ -10,12 +10,11 @@ ghost use Rattle.claim_history.specs.Needs.{with_due};
 ghost use Rattle.claim_book.specs.Book.{room_for};
 ghost use Rattle.act_bodies.specs.Bodies.{is_keepable};
 ghost use Rattle.round_journal.specs.Records.{AreKeepable};
-ghost use Rattle.limited_book.specs.Replays.{history_of, AreSound, StopsFirst, Tells, IsReplayed, is_close};
+ghost use Rattle.journal_replay.specs.Replays.{history_of, AreSound, StopsFirst, Tells, IsReplayed, is_close};
 
-use crate::limited::LimitedBook;
-use crate::publication::publication_reply;
 use crate::replay_stop::ReplayStop;
 use claim_history::{Act, Day, Entry, Reply};
+use limited_book::{LimitedBook, publication_reply};
 use round_cut::{build_cut, cut_of_a_history_is_of_its_facts};
 use round_journal::Record;
 use setoff_model::{Kind, Outcome};

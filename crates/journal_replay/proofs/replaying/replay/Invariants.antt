@@ -1,6 +1,6 @@
 use Rattle.std.proofs.Common.{◌≡◌, take}
-use Rattle.limited_book.specs.Replays.{AreSound, history_of}
-use Rattle.limited_book.proofs.replaying.replay.Given as goal
+use Rattle.journal_replay.specs.Replays.{AreSound, history_of}
+use Rattle.journal_replay.proofs.replaying.replay.Given as goal
 
 abbrev pub invariant-loop-kept : goal.invariant-loop-kept
 invariant-loop-kept l = record {

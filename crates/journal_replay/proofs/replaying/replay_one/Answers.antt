@@ -2,8 +2,8 @@ use Rattle.std.proofs.Common.{◌≡◌, true, subst}
 use Rattle.claim_history.specs.declared.act.Act.{Act}
 use Rattle.claim_history.specs.Acts.{is_valid}
 use Rattle.act_bodies.proofs.Keepable.{act_valid}
-use Rattle.limited_book.proofs.Replays.{no_close, no_publication}
-use Rattle.limited_book.proofs.replaying.replay_one.Goals as goal
+use Rattle.journal_replay.proofs.Replays.{no_close, no_publication}
+use Rattle.journal_replay.proofs.replaying.replay_one.Goals as goal
 
 pub replay_publication-requires : goal.replay_publication-requires
 replay_publication-requires c = record { valid = subst (λ (a : Act). is_valid a ≡ true) c.in-Publish.is (act_valid c.args.kept.now.caller c.args.kept.now.act c.requires.keepable) }

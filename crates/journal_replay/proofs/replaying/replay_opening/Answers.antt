@@ -3,8 +3,8 @@ use Rattle.claim_book.specs.Book.{BookView}
 use Rattle.claim_history.specs.declared.fact.ClaimFact.{ClaimFact}
 use Rattle.claim_history.specs.declared.fact.AccountFact.{AccountFact}
 use Rattle.round_cut.specs.CutOfFacts.{cut_of_facts}
-use Rattle.limited_book.proofs.Replays.{opening_cut, same_cut}
-use Rattle.limited_book.proofs.replaying.replay_opening.Goals as goal
+use Rattle.limited_book.proofs.Openings.{opening_cut, same_cut}
+use Rattle.journal_replay.proofs.replaying.replay_opening.Goals as goal
 
 pub fits_opening-requires-clause-cut : goal.fits_opening-requires-clause-cut
 fits_opening-requires-clause-cut c =

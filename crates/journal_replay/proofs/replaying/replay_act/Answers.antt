@@ -3,9 +3,9 @@ use Rattle.std.specs.Prelude.{IfErr}
 use Rattle.claim_history.specs.declared.act.Act.{Act}
 use Rattle.claim_history.specs.declared.entry.Entry.{Entry}
 use Rattle.claim_history.specs.History.{answer_of}
-use Rattle.limited_book.specs.Replays.{Tells}
-use Rattle.limited_book.proofs.Replays.{other_opens_none}
-use Rattle.limited_book.proofs.replaying.replay_act.Goals as goal
+use Rattle.journal_replay.specs.Replays.{Tells}
+use Rattle.journal_replay.proofs.Replays.{other_opens_none}
+use Rattle.journal_replay.proofs.replaying.replay_act.Goals as goal
 
 pub put_reply-requires-clause-no_opening : goal.put_reply-requires-clause-no_opening
 put_reply-requires-clause-no_opening c =

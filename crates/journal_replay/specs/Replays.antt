@@ -1,26 +1,14 @@
 -- The replay of a journal's records: the history of their calls, and the first record that is refused or full.
 use Rattle.std.specs.Prelude.{◌≡◌, ℕ, Bool, true, false, not, ◌||◌, List, All, ◌∷◌, ◌++◌, map, if◌then◌else◌}
-use Rattle.setoff_model.specs.CutView.{CutView, OutcomeView, obligations}
-use Rattle.setoff_model.specs.Setoff.{total_of}
-use Rattle.setoff_model.specs.ProofTest.{is_proved}
 use Rattle.claim_history.specs.declared.act.Act.{Act}
 use Rattle.claim_history.specs.declared.act.Act.TheVariants as act
 use Rattle.claim_history.specs.declared.entry.Entry.{Entry}
 use Rattle.claim_history.specs.declared.entry.Reply.{Reply}
-use Rattle.claim_history.specs.declared.entry.Reply.TheVariants as reply
-use Rattle.claim_history.specs.declared.entry.Why.TheVariants as why
 use Rattle.claim_history.specs.History.{Call, answer_of, is_accepted, is_no_refusal, replay_of}
 use Rattle.claim_history.specs.Needs.{Fits, IsWithinLimits, is_full, with_due}
 use Rattle.round_journal.specs.declared.record.Record.{Record}
-use Rattle.limited_book.specs.declared.replay_stop.ReplayStop.{ReplayStop}
-use Rattle.limited_book.specs.declared.replay_stop.ReplayStop.TheVariants.{Memory, BadAct, Overfull}
-
--- ---- publications
-
--- the reply to a publication by the owner of a round with this cut
-abbrev pub proved_reply : CutView → OutcomeView → Reply
-proved_reply cut outcome =
-    if not (is_proved (obligations cut) outcome.discharges outcome.prices) then reply.Refused why.NotProved else reply.Published (total_of outcome.discharges)
+use Rattle.journal_replay.specs.declared.replay_stop.ReplayStop.{ReplayStop}
+use Rattle.journal_replay.specs.declared.replay_stop.ReplayStop.TheVariants.{Memory, BadAct, Overfull}
 
 -- ---- the history of records
 

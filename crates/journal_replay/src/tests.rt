@@ -2,8 +2,9 @@ ghost use Rattle.std.specs.Prelude.{◌≡◌, IsTrue, true};
 ghost use Rattle.act_bodies.specs.Bodies.{is_keepable};
 ghost use Rattle.round_journal.specs.Records.{AreKeepable};
 
-use crate::{LimitedBook, ReplayStop, replay};
+use crate::{ReplayStop, replay};
 use claim_history::{Act, Day, Reply, Why};
+use limited_book::LimitedBook;
 use round_journal::Record;
 use setoff_model::{Key, Kind, Name, Outcome};
 use std::alloc::Global;
