@@ -3,7 +3,7 @@
 Prints each name that stands on one side alone. In docs/DEFINITIONS.md each public word of a crate's specs/ has its place in the index at
 the end, and the words of the glossary are among these. In docs/PROVED.md each public function, law and trait has a row. In
 docs/LAYERS.md each crate has a row with what it stands on, as crates.txt says, and each module of lemmas that another crate imports.
-Status 1: something is missing. With --index it prints the index of words anew.
+Status 1: something is missing. With --write it writes the index, what each crate stands on and the modules of lemmas anew.
 """
 
 import re
@@ -50,13 +50,24 @@ def spec_words(crate):
     return {word for words in spec_modules(crate).values() for word in words}
 
 
-def index(names):
-    """Prints the index of words for the end of docs/DEFINITIONS.md."""
-    for crate in names:
+def write(listed):
+    """Writes what follows from the crates anew: the index of words, what a crate stands on, and the lemmas that others import."""
+    page = HOME / "docs" / "DEFINITIONS.md"
+    head, mark, _ = page.read_text().partition("from the lowest crate up.\n")
+    for crate in listed:
         if spec_words(crate):
-            print(f"\n### `{crate}`\n\n| module | words |\n|---|---|")
+            mark += f"\n### `{crate}`\n\n| module | words |\n|---|---|\n"
         for module, words in spec_modules(crate).items():
-            print(f"| {module} | {', '.join(f'`{word}`' for word in words)} |")
+            mark += f"| {module} | {', '.join(f'`{word}`' for word in words)} |\n"
+    page.write_text(head + mark)
+    page = HOME / "docs" / "LAYERS.md"
+    text, lent = page.read_text(), lent_lemmas()
+    for crate, below in listed.items():
+        names = ", ".join(f"`{it}`" for it in below)
+        text = re.sub(rf"^(\| `{crate}` \|) [^|]*\|(?=[^|]*\|$)", rf"\1 {names} |" if names else r"\1 |", text, flags=re.M)
+    rows = "".join(f"| `{it}` | {', '.join(f'`{module}`' for module in sorted(lent[it]))} |\n" for it in listed if it in lent)
+    text = re.sub(r"(## Lemmas.*?\|---\|---\|\n)(?:\|[^\n]*\n)*", lambda found: found[1] + rows, text, flags=re.S)
+    page.write_text(text)
 
 
 def sources(crate):
@@ -139,8 +150,8 @@ def tell(where, missing, what):
 
 def main():
     listed = stands_on()
-    if sys.argv[1:2] == ["--index"]:
-        return index(sys.argv[2:] or listed)
+    if sys.argv[1:] == ["--write"]:
+        return write(listed)
     names = sys.argv[1:] or sorted(listed)
     words, proved = sections("DEFINITIONS.md"), sections("PROVED.md")
     layers = (HOME / "docs" / "LAYERS.md").read_text()
