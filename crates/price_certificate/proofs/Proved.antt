@@ -6,7 +6,7 @@ use Rattle.setoff_model.specs.declared.cut.Party.{Party}
 use Rattle.setoff_model.specs.Setoff.{IsLawful, Proves, total_of, bound_of}
 use Rattle.setoff_model.specs.CutView.{CutView, obligations, spends}
 use Rattle.setoff_model.specs.Squeezing.{IsSqueezed, IsNear}
-use Rattle.setoff_model.proofs.Squeezed.{squeezing_keeps}
+use Rattle.setoff_model.proofs.Near.{squeezing_keeps}
 use Rattle.netting_graph.specs.declared.arc.Arc.{Arc}
 use Rattle.netting_graph.specs.NetView.{NetView}
 use Rattle.netting_graph.specs.Merging.{IsNetOf, IsSpread}

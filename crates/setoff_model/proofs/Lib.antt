@@ -1,3 +1,4 @@
+pub mod SameNames
 pub mod Padded
 pub mod Fronts
 pub mod Widths
@@ -8,8 +9,10 @@ pub mod Pairs
 pub mod Columns
 pub mod Flows
 pub mod SumsBounded
+pub mod Windowed
 pub mod Spelling
 pub mod Deciding
 pub mod Complementary
 pub mod Squeezed
 pub mod OneSqueezed
+pub mod Near

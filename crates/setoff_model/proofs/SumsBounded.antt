@@ -12,7 +12,7 @@ use Rattle.setoff_model.proofs.Sizes.{abs_parts}
 use Rattle.setoff_model.proofs.Columns.{claims_long, parties_long, amount_small, discharge_small, debtor_price, creditor_price, spend_small, room_small, lawful_fits}
 
 -- a sum of numbers that are at most k
-sum_below-most : (n k : ℕ) (g : ℕ → ℕ) → ((i : ℕ) → i < n → g i ≤ k) → sum_below n g ≤ n * k
+pub sum_below-most : (n k : ℕ) (g : ℕ → ℕ) → ((i : ℕ) → i < n → g i ≤ k) → sum_below n g ≤ n * k
 sum_below-most zero k g le = omega arith
 sum_below-most (suc n) k g le =
     omega (arith, sum_below-most n k g (λ i lt. le i (omega arith)), le n (omega arith))
@@ -31,7 +31,7 @@ total_small : (cut : CutView) (d : List ℕ) → WellFormed cut → IsLawful (ob
 total_small cut d formed lawful =
     omega (arith, sum_by-le (λ x. x) 999999999999 d (lawful_fits.small cut d formed lawful), lawful_fits.few cut d formed lawful)
 
-above_zero_is : (z : ℤ) → above_zero z ≡ up z - down z
+pub above_zero_is : (z : ℤ) → above_zero z ≡ up z - down z
 above_zero_is (pos n) = omega arith
 above_zero_is (negsuc n) = omega arith
 

@@ -6,6 +6,7 @@ pub mod Same
 pub mod Texts
 pub mod Sums
 pub mod Setoff
+pub mod Windows
 pub mod CutView
 pub mod ProofTest
 pub mod Slackness

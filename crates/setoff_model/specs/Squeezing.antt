@@ -1,6 +1,6 @@
 -- What squeezing does to a list of prices.
 use Rattle.std.specs.Prelude.{◌≡◌, ◌<◌, ◌≤◌, ℕ, List, length, ℤ, pos, ◌+ℤ◌, ◌<ℤ◌, unsigned_abs}
-use Rattle.setoff_model.specs.Setoff.{Obligations, IsLawful, price_at, total_of, bound_of}
+use Rattle.setoff_model.specs.Setoff.{Obligations, IsLawful, Proves, price_at, total_of, bound_of}
 use Rattle.setoff_model.specs.Slackness.{Slack}
 
 -- q is p, where the ordered distinct prices together with 0 are replaced by values whose neighbours differ by 1, and 0 stays.
@@ -16,10 +16,12 @@ pub record IsSqueezed (p q : List ℤ) : Type 0 where
 abbrev pub IsNear : ℕ → List ℤ → Type 0
 IsNear n p = (f : ℕ) → f < length p → unsigned_abs (price_at p f) ≤ n
 
--- squeezed prices prove what the prices prove
+-- squeezed prices prove what the prices prove, each within n of 0 for n prices
 pub record SqueezingKeeps : Type 0 where
   pub slack : (o : Obligations) (d : List ℕ) (p q : List ℤ) → IsSqueezed p q → Slack o d p → Slack o d q
   pub tight : (o : Obligations) (d : List ℕ) (p q : List ℤ) → IsSqueezed p q → IsLawful o d → length p ≡ length o.spends → total_of d ≡ bound_of o p → total_of d ≡ bound_of o q
+  pub near : (p q : List ℤ) → IsSqueezed p q → IsNear (length p) q
+  pub proves : (o : Obligations) (d : List ℕ) (p q : List ℤ) → IsSqueezed p q → IsLawful o d → length p ≡ length o.spends → total_of d ≡ bound_of o p → Proves o d q
 
 -- there is one way to squeeze prices
 abbrev pub SqueezedIsOne : Type 0

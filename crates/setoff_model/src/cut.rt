@@ -4,7 +4,8 @@ ghost use Rattle.setoff_model.specs.CutView.{WellFormed, IsClaimAmong, IsWindowO
 
 use crate::kind::Kind;
 use crate::limits::{MOST_AMOUNT, MOST_CLAIMS, MOST_FIRMS, MOST_WINDOW};
-use crate::name::{Key, Name, is_same_key, is_same_name};
+use crate::name::{Key, Name};
+use crate::same::{same_keys, same_names};
 use std::marker::Model;
 
 /// A firm of a cut, with its window: by how many cents its balance may fall and rise in the round.
@@ -111,7 +112,6 @@ impl Cut {
     }
 }
 
-// No two parties have one firm.
 fn firms_differ(parties: &[Party]) -> bool
     ensures { IsTrue result ↔ AllPairs (λ f g. f.firm ≢ g.firm) parties.now }
 {
@@ -123,14 +123,13 @@ fn firms_differ(parties: &[Party]) -> bool
     true
 }
 
-// No party has this firm.
+#[tactic(auto, using(crate::proofs::SameNames::same_name_is))]
 fn is_new_firm(parties: &[Party], firm: Name) -> bool
     ensures { IsTrue result ↔ All (λ f. f.firm ≢ firm) parties.now }
 {
-    parties.iter().all(|party| !is_same_name(party.firm, firm))
+    parties.iter().all(|party| !same_names(&party.firm, &firm))
 }
 
-// No two claims have one key.
 fn keys_differ(claims: &[CutClaim]) -> bool
     ensures { IsTrue result ↔ AllPairs (λ c d. c.key ≢ d.key) claims.now }
 {
@@ -142,14 +141,13 @@ fn keys_differ(claims: &[CutClaim]) -> bool
     true
 }
 
-// No claim has this key.
+#[tactic(auto, using(crate::proofs::SameNames::same_key_is))]
 fn is_new_key(claims: &[CutClaim], key: Key) -> bool
     ensures { IsTrue result ↔ All (λ c. c.key ≢ key) claims.now }
 {
-    claims.iter().all(|claim| !is_same_key(claim.key, key))
+    claims.iter().all(|claim| !same_keys(&claim.key, &key))
 }
 
-// Each claim is one among the parties.
 fn claims_are_among(parties: &[Party], claims: &[CutClaim]) -> bool
     ensures { IsTrue result ↔ All (IsClaimAmong parties.now) claims.now }
 {
@@ -157,6 +155,7 @@ fn claims_are_among(parties: &[Party], claims: &[CutClaim]) -> bool
 }
 
 // The claim names two of the parties, its creditor by its key too, and its amount is that of a cut.
+#[tactic(auto, using(crate::proofs::SameNames::same_name_is))]
 fn is_claim_among(parties: &[Party], claim: &CutClaim) -> bool
     ensures { IsTrue result ↔ IsClaimAmong parties.now claim.now }
 {
@@ -165,13 +164,12 @@ fn is_claim_among(parties: &[Party], claim: &CutClaim) -> bool
     if debtor >= parties.len() || creditor >= parties.len() || debtor == creditor {
         return false;
     }
-    if !is_same_name(parties[creditor].firm, claim.key.creditor) {
+    if !same_names(&parties[creditor].firm, &claim.key.creditor) {
         return false;
     }
     1 <= claim.amount && claim.amount <= MOST_AMOUNT
 }
 
-// Each window is one of the kind.
 fn windows_are_of(kind: Kind, parties: &[Party]) -> bool
     ensures { IsTrue result ↔ All (IsWindowOf kind) parties.now }
 {
@@ -181,7 +179,6 @@ fn windows_are_of(kind: Kind, parties: &[Party]) -> bool
         .all(|party| party.spend <= limit && party.room <= limit)
 }
 
-// How many cents of spend and of room a party has at most.
 fn window_limit_of(kind: Kind) -> u64
     ensures { result ≡ window_limit kind }
 {

@@ -33,10 +33,10 @@ pub fn slackness()
     ensures { Slackness }
 {}
 
-/// The law behind squeezed prices: what the prices prove, they prove.
+/// The law behind squeezed prices: what the prices prove, they prove, each of n prices from -n to n.
 ///
 /// A call does nothing. By its clauses the facts of `slackness` still hold of squeezed prices, and where the total of a
-/// lawful set-off equals the bound of prices, it equals the bound of the squeezed ones. There is one way to squeeze prices.
+/// lawful set-off equals the bound of prices, the squeezed ones prove it. There is one way to squeeze prices.
 pub fn squeezing_keeps_proofs()
     ensures keeps { SqueezingKeeps }
     ensures one { SqueezedIsOne }

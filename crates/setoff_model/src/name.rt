@@ -1,5 +1,5 @@
 //! Names of firms and invoices.
-ghost use Rattle.std.specs.Prelude.{◌≡◌, ◌≤◌, ◌↔◌, IsTrue, length, true};
+ghost use Rattle.std.specs.Prelude.{◌≡◌, ◌≤◌, length, true};
 ghost use Rattle.std.specs.List.{list_all};
 ghost use Rattle.setoff_model.specs.Names.{is_letter, is_name_byte, is_name, name_of};
 
@@ -8,7 +8,7 @@ use std::marker::Model;
 /// A name of a firm or of an invoice: 1 to 16 bytes of `A-Z`, `0-9` and `-`, the first a letter.
 ///
 /// Two names are equal exactly where their bytes are. A name takes no memory of its own.
-#[derive(Clone, Copy, Debug, PartialEq, Eq, PartialOrd, Ord, Hash)]
+#[derive(Clone, Copy, Debug, PartialEq, Eq, Hash)]
 pub struct Name {
     len: u8,
     bytes: [u8; 16],
@@ -31,7 +31,7 @@ impl Model for Name {
 }
 
 /// What names a claim: its creditor and its invoice.
-#[derive(Clone, Copy, Debug, PartialEq, Eq, PartialOrd, Ord, Hash)]
+#[derive(Clone, Copy, Debug, PartialEq, Eq, Hash)]
 pub struct Key {
     /// The firm that is owed.
     pub creditor: Name,
@@ -39,28 +39,12 @@ pub struct Key {
     pub invoice: Name,
 }
 
-// Whether two names are one. A clause sees names by their bytes.
-pub(crate) fn is_same_name(left: Name, right: Name) -> bool
-    ensures { IsTrue result ↔ (left ≡ right) }
-{
-    left == right
-}
-
-// Whether two keys are one.
-pub(crate) fn is_same_key(left: Key, right: Key) -> bool
-    ensures { IsTrue result ↔ (left ≡ right) }
-{
-    is_same_name(left.creditor, right.creditor) && is_same_name(left.invoice, right.invoice)
-}
-
-// A letter of `A-Z`.
 fn letter(c: u8) -> bool
     ensures { result ≡ is_letter c }
 {
     b'A' <= c && c <= b'Z'
 }
 
-// A letter, a digit or a dash.
 fn name_byte(c: u8) -> bool
     ensures { result ≡ is_name_byte c }
 {

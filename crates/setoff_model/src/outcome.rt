@@ -45,7 +45,7 @@ impl Outcome {
 
 /// The sum of the discharges, in cents.
 ///
-/// There are at most 262,144 of them, each at most 999,999,999,999 cents, as of every lawful set-off of a well-formed cut.
+/// There are at most as many of them as a round has claims, each at most an amount of a request, as of every lawful set-off of a well-formed cut.
 pub fn total(outcome: &Outcome) -> u64
     requires few { length outcome.now.discharges ≤ most_claims }
     requires small { All (λ d. d ≤ most_amount) outcome.now.discharges }
@@ -54,8 +54,8 @@ pub fn total(outcome: &Outcome) -> u64
     sum_of(outcome.discharges())
 }
 
-// The sum of a list whose sum fits.
-fn sum_of(numbers: &[u64]) -> u64
+/// The sum of numbers whose sum is below 2^64.
+pub fn sum_of(numbers: &[u64]) -> u64
     requires { sum numbers.now < 2 ^ 64 }
     ensures { result ≡ sum numbers.now }
 {

@@ -1,7 +1,8 @@
+use crate::limits::{MOST_AMOUNT, MOST_CLAIMS};
 use crate::{
     Cut, CutClaim, Key, Kind, Name, Outcome, Party, put, read_amount, read_kind, read_number,
-    read_price, read_sum, slackness, squeezing_keeps_proofs, total, weak_duality, write_cents,
-    write_number, write_signed,
+    read_price, read_sum, slackness, squeezing_keeps_proofs, sum_of, total, weak_duality,
+    windows_follow_balances, write_cents, write_number, write_signed,
 };
 use std::alloc::{AllocError, Global};
 
@@ -115,9 +116,12 @@ fn triangle_total(rt: HostRuntime) {
     weak_duality();
     slackness();
     squeezing_keeps_proofs();
+    windows_follow_balances();
     let outcome = triangle_outcome(rt.alloc()).expect(&rt, "memory");
     assert!(rt; outcome.prices().len() == 3);
-    assert!(rt; outcome.discharges().len() <= 262_144);
-    assert!(rt; outcome.discharges().iter().all(|d| *d <= 999_999_999_999));
+    assert!(rt; outcome.discharges().len() <= MOST_CLAIMS);
+    assert!(rt; outcome.discharges().iter().all(|d| *d <= MOST_AMOUNT));
     assert!(rt; total(&outcome) == 2100);
+    let two: [u64; 2] = [1, 2];
+    assert!(rt; sum_of(&two) == 3);
 }
