@@ -4,6 +4,7 @@ use Rattle.std.specs.Prelude.{ℤ, ◌&&◌, nat_le, unsigned_abs}
 use Rattle.std.specs.List.{flat_map, list_all}
 use Rattle.std.proofs.lemmas.Bool.{leb-true}
 use Rattle.std.proofs.lemmas.List.Concat.{flat_map-cons}
+use Rattle.setoff_model.specs.Limits.{most_claims, most_firms}
 use Rattle.setoff_model.specs.declared.name.Key.{Key}
 use Rattle.setoff_model.specs.Names.{is_name, is_letter, is_name_byte}
 use Rattle.setoff_model.specs.CutView.{OutcomeView}
@@ -38,12 +39,12 @@ short_claim key debtor h =
     let k = short_key key c.0 in
     (k.0, k.1, short_name debtor c.1)
 
-few : (outcome : OutcomeView) → is_outcome outcome ≡ true → (length outcome.discharges ≤ 262144) × (length outcome.prices ≤ 16384)
+few : (outcome : OutcomeView) → is_outcome outcome ≡ true → (length outcome.discharges ≤ most_claims) × (length outcome.prices ≤ most_firms)
 few outcome h =
-    let near = both (nat_le (length outcome.discharges) 262144 && nat_le (length outcome.prices) 16384 && list_all is_amount outcome.discharges) (list_all (λ p. nat_le (unsigned_abs p) (length outcome.prices)) outcome.prices) h in
-    let cents = both (nat_le (length outcome.discharges) 262144 && nat_le (length outcome.prices) 16384) (list_all is_amount outcome.discharges) near.0 in
-    let counts = both (nat_le (length outcome.discharges) 262144) (nat_le (length outcome.prices) 16384) cents.0 in
-    (leb-true (length outcome.discharges) 262144 counts.0, leb-true (length outcome.prices) 16384 counts.1)
+    let near = both (nat_le (length outcome.discharges) most_claims && nat_le (length outcome.prices) most_firms && list_all is_amount outcome.discharges) (list_all (λ p. nat_le (unsigned_abs p) (length outcome.prices)) outcome.prices) h in
+    let cents = both (nat_le (length outcome.discharges) most_claims && nat_le (length outcome.prices) most_firms) (list_all is_amount outcome.discharges) near.0 in
+    let counts = both (nat_le (length outcome.discharges) most_claims) (nat_le (length outcome.prices) most_firms) cents.0 in
+    (leb-true (length outcome.discharges) most_claims counts.0, leb-true (length outcome.prices) most_firms counts.1)
 
 key_long : (key : Key) → length (key_bytes key) ≡ 2 + (length key.creditor + length key.invoice)
 key_long key = omega (arith, length-append (name_bytes key.creditor) (name_bytes key.invoice))

@@ -1,5 +1,6 @@
 //! How long a body is.
 ghost use Rattle.std.specs.Prelude.{◌≡◌, ◌+◌, ◌*◌, ◌≤◌, length, true};
+ghost use Rattle.setoff_model.specs.Limits.{most_claims, most_firms};
 ghost use Rattle.claim_history.specs.Acts.{is_valid};
 ghost use Rattle.claim_history.specs.Needs.{body_length_of};
 
@@ -47,8 +48,8 @@ fn key_length(key: &Key) -> u64
 
 // The bytes of the discharges and of the prices.
 fn outcome_length(outcome: &Outcome) -> u64
-    requires discharges { length outcome.now.discharges ≤ 262144 }
-    requires prices { length outcome.now.prices ≤ 16384 }
+    requires discharges { length outcome.now.discharges ≤ most_claims }
+    requires prices { length outcome.now.prices ≤ most_firms }
     ensures length { result ≡ 8 * length outcome.now.discharges + 4 * length outcome.now.prices }
 {
     8 * outcome.discharges().len() as u64 + 4 * outcome.prices().len() as u64

@@ -5,6 +5,7 @@ use Rattle.std.proofs.Common.{◌≡◌, ℕ, ◌+◌, ◌*◌, ◌<◌, ◌≤�
 use Rattle.std.proofs.lemmas.Bool.{eq-eqb, le-leb, lt-ltb}
 use Rattle.std.proofs.lemmas.List.Elements.{All-head, All-tail, All-from_get_or, All-weaker}
 use Rattle.std.proofs.lemmas.Option.{same_Some, none-some}
+use Rattle.setoff_model.specs.Limits.{most_amount}
 use Rattle.setoff_model.specs.CutView.{CutView, OutcomeView, WellFormed, obligations}
 use Rattle.setoff_model.specs.Setoff.{Proves, total_of}
 use Rattle.setoff_model.specs.ProofTest.{is_proved}
@@ -51,7 +52,7 @@ outcome_valid cut outcome formed proved =
     both (few_discharges && few_prices && discharges) prices (both (few_discharges && few_prices) discharges (both few_discharges few_prices
     (le-leb (length outcome.discharges) 262144 (omega (arith, claims_long cut, proved.lawful.one_each, formed.few_claims)))
     (le-leb (length outcome.prices) 16384 (omega (arith, parties_long cut, proved.price_each, formed.few_parties))))
-    (list_true is_amount outcome.discharges (All-weaker (λ d. d ≤ 999999999999) (λ d. is_amount d ≡ true) (λ d le. lt-ltb d (10 ^ 12) (omega arith)) outcome.discharges (outcome_small cut outcome formed proved))))
+    (list_true is_amount outcome.discharges (All-weaker (λ d. d ≤ 999999999999) (λ d. is_amount d ≡ true) (λ d le. le-leb d most_amount le) outcome.discharges (outcome_small cut outcome formed proved))))
     (prices_valid cut outcome proved)
 
 -- an open round has a number from 1

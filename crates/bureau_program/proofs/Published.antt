@@ -6,6 +6,7 @@ use Rattle.std.proofs.Common.{◌≡◌, ℕ, ◌<◌, ◌≤◌, ◌^◌, Bool,
 use Rattle.std.proofs.lemmas.Bool.{eq-eqb, le-leb, lt-ltb}
 use Rattle.std.proofs.lemmas.List.Elements.{All-head, All-tail, All-from_get_or, All-weaker}
 use Rattle.std.proofs.lemmas.Option.{same_Some}
+use Rattle.setoff_model.specs.Limits.{most_amount}
 use Rattle.setoff_model.specs.CutView.{CutView, OutcomeView, WellFormed, obligations}
 use Rattle.setoff_model.specs.Setoff.{Proves, IsOldestFirst, total_of}
 use Rattle.setoff_model.specs.ProofTest.{is_proved}
@@ -36,7 +37,7 @@ list_true {X = X} p (x ∷ xs) h = both (p x) (list_all p xs) (All-head (λ (y :
 
 amounts_valid : (cut : CutView) (outcome : OutcomeView) → WellFormed cut → Proves (obligations cut) outcome.discharges outcome.prices → list_all is_amount outcome.discharges ≡ true
 amounts_valid cut outcome formed proved =
-    list_true is_amount outcome.discharges (All-weaker (λ d. d ≤ 999999999999) (λ d. is_amount d ≡ true) (λ d le. lt-ltb d (10 ^ 12) (omega arith)) outcome.discharges (lawful_fits.small cut outcome.discharges formed proved.lawful))
+    list_true is_amount outcome.discharges (All-weaker (λ d. d ≤ 999999999999) (λ d. is_amount d ≡ true) (λ d le. le-leb d most_amount le) outcome.discharges (lawful_fits.small cut outcome.discharges formed proved.lawful))
 
 prices_valid : (cut : CutView) (outcome : OutcomeView) → Proves (obligations cut) outcome.discharges outcome.prices → list_all (λ p. nat_le (unsigned_abs p) (length outcome.prices)) outcome.prices ≡ true
 prices_valid cut outcome proved =

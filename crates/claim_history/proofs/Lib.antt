@@ -25,6 +25,7 @@ pub mod Register
 pub mod Calls
 pub mod Published
 pub mod OneCut
+pub mod Open
 mod WorkedRounds
 mod WorkedNeeds
 pub mod Room

@@ -4,6 +4,7 @@ use Rattle.std.proofs.Common.{◌≡◌, ℕ, ◌^◌, ◌<◌, true, List, [], 
 use Rattle.std.proofs.lemmas.Int.{ints}
 use Rattle.std.proofs.lemmas.List.{reverse-reverse}
 use Rattle.std.proofs.lemmas.List.Elements.{All-nil, All-cons, All-tail}
+use Rattle.setoff_model.specs.Limits.{first_ceiling}
 use Rattle.setoff_model.specs.declared.kind.Kind.{Kind}
 use Rattle.setoff_model.specs.CutView.{OutcomeView, obligations}
 use Rattle.setoff_model.specs.Setoff.{total_of, IsLawful}
@@ -24,7 +25,7 @@ use Rattle.claim_history.proofs.Rows.{by_rows, and_true, not_false}
 use Rattle.claim_history.proofs.Pasts.{all_reverse}
 use Rattle.claim_history.proofs.Sizes.{sizes_law, published_small}
 
-size_below : (z : ℤ) → IsWithin (10 ^ 15) (10 ^ 15) z → unsigned_abs z < 10 ^ 18
+size_below : (z : ℤ) → IsWithin first_ceiling first_ceiling z → unsigned_abs z < 10 ^ 18
 size_below (pos n) h = omega (arith, ints, h.1)
 size_below (negsuc n) h = omega (arith, ints, h.0)
 

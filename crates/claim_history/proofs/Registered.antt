@@ -1,10 +1,11 @@
 -- What registrations, filings and limits keep in every legal history of valid acts.
 use Rattle.std.specs.Prelude.{◌≢◌, nat_le, find, is_some, Option, Some, None, if◌then◌else◌}
 use Rattle.std.specs.List.{list_any, cons_option}
-use Rattle.std.proofs.Common.{◌≡◌, ℕ, ◌^◌, ◌≤◌, Bool, true, false, ◌&&◌, cond, List, [], ◌∷◌, length, All, AllPairs, refl, sym, ◌∙◌, ap, true≢false, arith}
-use Rattle.std.proofs.lemmas.Bool.{ltb-true, leb-false, or_parts, or_right, false≢true}
+use Rattle.std.proofs.Common.{◌≡◌, ℕ, ◌≤◌, Bool, true, false, ◌&&◌, cond, List, [], ◌∷◌, length, All, AllPairs, refl, sym, ◌∙◌, ap, true≢false, arith}
+use Rattle.std.proofs.lemmas.Bool.{leb-true, leb-false, or_parts, or_right, false≢true}
 use Rattle.std.proofs.lemmas.List.Elements.{All-nil, All-cons, All-head, All-tail, All-weaker}
 use Rattle.std.proofs.lemmas.List.Kept.{AllPairs-cons}
+use Rattle.setoff_model.specs.Limits.{first_ceiling, most_amount, most_claims, most_firms}
 use Rattle.setoff_model.specs.declared.name.Key.{Key}
 use Rattle.setoff_model.specs.Names.{is_name}
 use Rattle.setoff_model.specs.Same.{same_name, same_key}
@@ -28,18 +29,18 @@ pub record IsFiling (names : List (List ℕ)) (f : Filing) : Type 0 where
   pub debtor : list_any (same_name f.debtor) names ≡ true
   pub creditor : list_any (same_name f.key.creditor) names ≡ true
   pub apart : f.debtor ≢ f.key.creditor
-  pub amount : f.amount ≤ 999999999999
+  pub amount : f.amount ≤ most_amount
 
 -- firms, each once, and claims with their own keys between them
 pub record IsRegister (names : List (List ℕ)) (claims : List Filing) : Type 0 where
-  pub few_firms : length names ≤ 16384
-  pub few_claims : length claims ≤ 262144
+  pub few_firms : length names ≤ most_firms
+  pub few_claims : length claims ≤ most_claims
   pub firms : AllPairs (λ (f g : List ℕ). f ≢ g) names
   pub keys : AllPairs (λ (f g : Filing). f.key ≢ g.key) claims
   pub each : All (IsFiling names) claims
 
 abbrev pub AreLimits : Limits → Type 0
-AreLimits limits = (limits.credit ≤ 999999999999) × (limits.ceiling ≤ 10 ^ 15)
+AreLimits limits = (limits.credit ≤ most_amount) × (limits.ceiling ≤ first_ceiling)
 
 abbrev pub IsOrderly : State → Type 0
 IsOrderly s = IsRegister (firms s.ledger) (filings s.ledger) × ((firm : List ℕ) → AreLimits (limits_of s.ledger firm))
@@ -55,7 +56,7 @@ none_is n (x ∷ xs) none =
 wider : (n : List ℕ) (names : List (List ℕ)) (f : Filing) → IsFiling names f → IsFiling (n ∷ names) f
 wider n names f is = record { debtor = or_right (same_name f.debtor n) _ is.debtor; creditor = or_right (same_name f.key.creditor n) _ is.creditor; apart = is.apart; amount = is.amount }
 
-firm_more : (names : List (List ℕ)) (claims : List Filing) (n : List ℕ) → IsRegister names claims → list_any (same_name n) names ≡ false → nat_le 16384 (length names) ≡ false → IsRegister (n ∷ names) claims
+firm_more : (names : List (List ℕ)) (claims : List Filing) (n : List ℕ) → IsRegister names claims → list_any (same_name n) names ≡ false → nat_le most_firms (length names) ≡ false → IsRegister (n ∷ names) claims
 firm_more names claims n is new few = record {
   few_firms = omega (arith, leb-false _ _ few);
   few_claims = is.few_claims;
@@ -76,7 +77,7 @@ none_alike key (f ∷ fs) none =
     let parts = found_no (same_key key f.key) f (find (λ g. same_key key g.key) fs) none in
     All-cons (λ (g : Filing). key ≢ g.key) f fs (λ e. false≢true (sym parts.0 ∙ ap (same_key key) (sym e) ∙ key_same key)) (none_alike key fs parts.1)
 
-file_more : (names : List (List ℕ)) (claims : List Filing) (f : Filing) → IsRegister names claims → IsFiling names f → is_some (find (λ g. same_key f.key g.key) claims) ≡ false → nat_le 262144 (length claims) ≡ false → IsRegister names (f ∷ claims)
+file_more : (names : List (List ℕ)) (claims : List Filing) (f : Filing) → IsRegister names claims → IsFiling names f → is_some (find (λ g. same_key f.key g.key) claims) ≡ false → nat_le most_claims (length claims) ≡ false → IsRegister names (f ∷ claims)
 file_more names claims f is among new few = record {
   few_firms = is.few_firms;
   few_claims = omega (arith, leb-false _ _ few);
@@ -85,11 +86,11 @@ file_more names claims f is among new few = record {
   each = All-cons (IsFiling names) f claims among is.each;
 }
 
-valid_amount : (key : Key) (debtor : List ℕ) (amount due : ℕ) → is_valid (act.File key debtor amount due) ≡ true → amount ≤ 999999999999
+valid_amount : (key : Key) (debtor : List ℕ) (amount due : ℕ) → is_valid (act.File key debtor amount due) ≡ true → amount ≤ most_amount
 valid_amount key debtor amount due v =
     let most = and_true (is_key key && is_name debtor && is_claim_amount amount) (is_day due) v in
     let amounts = and_true (is_key key && is_name debtor) (is_claim_amount amount) most.0 in
-    omega (arith, ltb-true _ _ (and_true (nat_le 1 amount) (is_amount amount) amounts.1).1)
+    omega (arith, leb-true _ _ (and_true (nat_le 1 amount) (is_amount amount) amounts.1).1)
 
 file_keeps : (s : State) (key : Key) (debtor : List ℕ) (amount due : ℕ) → is_valid (act.File key debtor amount due) ≡ true → IsOrderly s → NoneApplies (file_refusals s key debtor) → IsOrderly (accept (act.File key debtor amount due) s)
 file_keeps s key debtor amount due v inv none =
@@ -108,11 +109,11 @@ limits_more : (b : Bool) (new d : Limits) (xs : List Limits) → AreLimits new �
 limits_more true new d xs are were = are
 limits_more false new d xs are were = were
 
-valid_limits : (firm : List ℕ) (credit ceiling : ℕ) → is_valid (act.Limit firm credit ceiling) ≡ true → (credit ≤ 999999999999) × (ceiling ≤ 10 ^ 15)
+valid_limits : (firm : List ℕ) (credit ceiling : ℕ) → is_valid (act.Limit firm credit ceiling) ≡ true → (credit ≤ most_amount) × (ceiling ≤ first_ceiling)
 valid_limits firm credit ceiling v =
     let both = and_true (is_name firm && is_amount credit) (is_amount ceiling) v in
     let first = and_true (is_name firm) (is_amount credit) both.0 in
-    (omega (arith, ltb-true _ _ first.1), omega (arith, ltb-true _ _ both.1))
+    (omega (arith, leb-true _ _ first.1), omega (arith, leb-true _ _ both.1))
 
 limit_keeps : (s : State) (firm : List ℕ) (credit ceiling : ℕ) → is_valid (act.Limit firm credit ceiling) ≡ true → IsOrderly s → IsOrderly (accept (act.Limit firm credit ceiling) s)
 limit_keeps s firm credit ceiling v inv =

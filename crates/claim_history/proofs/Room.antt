@@ -6,6 +6,7 @@ use Rattle.std.proofs.lemmas.Bool.{ltb-false, le-ltb}
 use Rattle.std.proofs.lemmas.List.{reverse-append, reverse-reverse, length-map}
 use Rattle.std.proofs.lemmas.List.Elements.{All-head, All-tail}
 use Rattle.std.proofs.lemmas.List.Sums.{sum_by-cons}
+use Rattle.setoff_model.specs.Limits.{most_entries, most_journal_bytes}
 use Rattle.setoff_model.specs.declared.kind.Kind.{Kind}
 use Rattle.setoff_model.specs.declared.cut.Party.{Party}
 use Rattle.setoff_model.specs.declared.cut.CutClaim.{CutClaim}
@@ -24,7 +25,7 @@ use Rattle.claim_history.specs.Facts.{position_of}
 use Rattle.claim_history.specs.States.{OpenRound, State, after, state}
 use Rattle.claim_history.specs.History.{IsLegalPast, IsReply, Call, Refusals, abandon_answer, abandon_refusals, answer, ask, close_answer, close_refusals, confirm_refusals, dispute_refusals, draw_refusals, failed, file_refusals, firm_refusals, fund_refusals, is_accepted, is_no_refusal, limit_refusals, offer_refusals, position_refusals, publish_answer, publish_refusals, receive_refusals, refused_or, replay_after, replay_of, replied, withdraw_refusals}
 use Rattle.claim_history.specs.Callers.{accepted_acts}
-use Rattle.claim_history.specs.Needs.{EndingsLaw, CallsLaw, FitsPast, FullLaw, NeedsLaw, IsWithinLimitsPast, RecordsLaw, RoomLaw, UseLaw, body_length_of, endings_bytes, endings_entries, is_counted, is_of_device, most_bytes, most_entries, needed_bytes, needed_entries, own_bytes, record_length_of, used_bytes, used_entries}
+use Rattle.claim_history.specs.Needs.{EndingsLaw, CallsLaw, FitsPast, FullLaw, NeedsLaw, IsWithinLimitsPast, RecordsLaw, RoomLaw, UseLaw, body_length_of, endings_bytes, endings_entries, is_counted, is_of_device, needed_bytes, needed_entries, own_bytes, record_length_of, used_bytes, used_entries}
 use Rattle.claim_history.proofs.Pasts.{all_reverse, entry_of}
 use Rattle.claim_history.proofs.Rows.{and_true, not_true}
 use Rattle.claim_history.proofs.Greatest.{IsPublishedOf, reply_published}
@@ -53,7 +54,7 @@ one_at_most false = omega arith
 -- what is used, and both endings of the round that is open, are within the limits
 record KeepsRoom (past : List Entry) : Type 0 where
   entries : used_entries past + endings_entries (state past).open_round ≤ most_entries
-  bytes : used_bytes past + endings_bytes (state past).open_round ≤ most_bytes
+  bytes : used_bytes past + endings_bytes (state past).open_round ≤ most_journal_bytes
 
 due_room : (past : List Entry) (caller : ℕ) (a : Act) → FitsPast past caller a → KeepsRoom (entry_of caller a (answer (state past) caller a) ∷ past)
 due_room past caller a fits =
@@ -87,7 +88,7 @@ room_law history legal within round is =
     let room = past_room (reverse history) legal within in
     record {
       entries = subst (λ (o : Option OpenRound). used_entries (reverse history) + endings_entries o ≤ most_entries) is room.entries;
-      bytes = subst (λ (o : Option OpenRound). used_bytes (reverse history) + endings_bytes o ≤ most_bytes) is room.bytes;
+      bytes = subst (λ (o : Option OpenRound). used_bytes (reverse history) + endings_bytes o ≤ most_journal_bytes) is room.bytes;
     }
 
 -- ---- the endings
@@ -267,10 +268,10 @@ none : (a b : Bool) → a ≡ false → b ≡ false → (a || (not a && b)) ≡ 
 none true b e f = absurd (true≢false e)
 none false b e f = f
 
-fits_test : (entries bytes : ℕ) → ((nat_lt most_entries entries || (not (nat_lt most_entries entries) && nat_lt most_bytes bytes)) ≡ false) ↔ ((entries ≤ most_entries) × (bytes ≤ most_bytes))
+fits_test : (entries bytes : ℕ) → ((nat_lt most_entries entries || (not (nat_lt most_entries entries) && nat_lt most_journal_bytes bytes)) ≡ false) ↔ ((entries ≤ most_entries) × (bytes ≤ most_journal_bytes))
 fits_test entries bytes = (
-  λ e. let both = neither (nat_lt most_entries entries) (nat_lt most_bytes bytes) e in (ltb-false _ _ both.0, ltb-false _ _ both.1),
-  λ h. none (nat_lt most_entries entries) (nat_lt most_bytes bytes) (le-ltb _ _ h.0) (le-ltb _ _ h.1),
+  λ e. let both = neither (nat_lt most_entries entries) (nat_lt most_journal_bytes bytes) e in (ltb-false _ _ both.0, ltb-false _ _ both.1),
+  λ h. none (nat_lt most_entries entries) (nat_lt most_journal_bytes bytes) (le-ltb _ _ h.0) (le-ltb _ _ h.1),
 )
 
 pub full_law : FullLaw

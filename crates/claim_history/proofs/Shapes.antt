@@ -1,10 +1,11 @@
 -- Acts by their verb, names, amounts and days.
 use Rattle.std.proofs.lemmas.List.{length-map}
-use Rattle.std.proofs.Common.{◌≡◌, true≢false, ℕ, zero, suc, ◌<◌, ◌≤◌, ◌^◌, true, false, List, [], ◌∷◌, ◌++◌, length, map, get_or, take, drop, refl, sym, ap, ap₂, ◌∙◌, arith}
+use Rattle.std.proofs.Common.{◌≡◌, true≢false, ℕ, zero, suc, ◌≤◌, true, false, List, [], ◌∷◌, ◌++◌, length, map, get_or, take, drop, refl, sym, ap, ap₂, ◌∙◌, arith}
 use Rattle.std.specs.Prelude.{codes, ◌&&◌, nat_le, if◌then◌else◌}
 use Rattle.std.specs.Str.{bytes_eq}
 use Rattle.std.proofs.Math.Seq.{take-append_seam, drop-append_seam}
-use Rattle.std.proofs.lemmas.Bool.{leb-true, ltb-true}
+use Rattle.std.proofs.lemmas.Bool.{leb-true}
+use Rattle.setoff_model.specs.Limits.{most_amount}
 use Rattle.setoff_model.specs.declared.name.Key.{Key}
 use Rattle.setoff_model.specs.Names.{is_name}
 use Rattle.setoff_model.specs.declared.kind.Kind.{Kind}
@@ -119,17 +120,17 @@ record IsShape (a : Act) (s : Shape) : Type 0 where
   fields : act_fields a ≡ s.verb ∷ (s.names ++ (map cents_text s.amounts ++ map day_text s.days))
   names : length s.names ≡ name_count s.verb
   amounts : length s.amounts ≡ amount_count s.verb
-  small : (k : ℕ) → get_or s.amounts k 0 < 10 ^ 12
+  small : (k : ℕ) → get_or s.amounts k 0 ≤ most_amount
   days : (k : ℕ) → get_or s.days k 0 ≤ last_day
 
-none_small : (k : ℕ) → get_or [] k 0 < 10 ^ 12
+none_small : (k : ℕ) → get_or [] k 0 ≤ most_amount
 none_small k = omega arith
 
-one_small : (a : ℕ) → a < 10 ^ 12 → (k : ℕ) → get_or (a ∷ []) k 0 < 10 ^ 12
+one_small : (a : ℕ) → a ≤ most_amount → (k : ℕ) → get_or (a ∷ []) k 0 ≤ most_amount
 one_small a h zero = h
 one_small a h (suc k) = none_small k
 
-two_small : (a b : ℕ) → a < 10 ^ 12 → b < 10 ^ 12 → (k : ℕ) → get_or (a ∷ b ∷ []) k 0 < 10 ^ 12
+two_small : (a b : ℕ) → a ≤ most_amount → b ≤ most_amount → (k : ℕ) → get_or (a ∷ b ∷ []) k 0 ≤ most_amount
 two_small a b ha hb zero = ha
 two_small a b ha hb (suc k) = one_small b hb k
 
@@ -140,10 +141,10 @@ one_day : (d : ℕ) → d ≤ last_day → (k : ℕ) → get_or (d ∷ []) k 0 �
 one_day d h zero = h
 one_day d h (suc k) = no_day k
 
-is_small : (a : ℕ) → is_amount a ≡ true → a < 10 ^ 12
-is_small a h = ltb-true a (10 ^ 12) h
+is_small : (a : ℕ) → is_amount a ≡ true → a ≤ most_amount
+is_small a h = leb-true a most_amount h
 
-is_small_claim : (a : ℕ) → is_claim_amount a ≡ true → a < 10 ^ 12
+is_small_claim : (a : ℕ) → is_claim_amount a ≡ true → a ≤ most_amount
 is_small_claim a h = is_small a (and_true (nat_le 1 a) (is_amount a) h).1
 
 shape_is : (a : Act) → is_valid a ≡ true → is_publication a ≡ false → IsShape a (shape_of a)
@@ -170,7 +171,7 @@ shape_is (act.Publish round outcome) h p = absurd (true≢false p)
 
 -- lists of one length and one text are the same
 
-same_amounts : (xs ys : List ℕ) → ((k : ℕ) → get_or xs k 0 < 10 ^ 12) → ((k : ℕ) → get_or ys k 0 < 10 ^ 12) → map cents_text xs ≡ map cents_text ys → xs ≡ ys
+same_amounts : (xs ys : List ℕ) → ((k : ℕ) → get_or xs k 0 ≤ most_amount) → ((k : ℕ) → get_or ys k 0 ≤ most_amount) → map cents_text xs ≡ map cents_text ys → xs ≡ ys
 same_amounts [] [] h k e = refl
 same_amounts [] (y ∷ ys) h k e = absurd (omega (arith, ap length e))
 same_amounts (x ∷ xs) [] h k e = absurd (omega (arith, ap length e))

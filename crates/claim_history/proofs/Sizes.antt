@@ -3,11 +3,12 @@ use Rattle.std.specs.Prelude.{slice_index, if◌then◌else◌, Option, Some, No
 use Rattle.std.specs.List.{cons_option}
 use Rattle.std.proofs.Common.{◌≡◌, ℕ, ◌+◌, ◌*◌, ◌^◌, ◌≤◌, ◌<◌, Bool, true, false, ◌&&◌, List, [], ◌∷◌, length, nat_le, slice_index_or, All, refl, ◌∙◌, subst, arith}
 use Rattle.std.proofs.lemmas.Int.{ints, clamps}
-use Rattle.std.proofs.lemmas.Bool.{ltb-true, leb-false}
+use Rattle.std.proofs.lemmas.Bool.{leb-true, leb-false}
 use Rattle.std.proofs.lemmas.List.{length-reverse, length-map, get_or-map, get_or_default}
 use Rattle.std.proofs.lemmas.List.Elements.{All-head, All-tail}
 use Rattle.std.proofs.lemmas.List.Sums.{sum_by-le}
 use Rattle.std.proofs.lemmas.List.Sums.{length-filter, count_by-le-length}
+use Rattle.setoff_model.specs.Limits.{first_ceiling, most_amount, most_claims}
 use Rattle.setoff_model.specs.declared.name.Key.{Key}
 use Rattle.setoff_model.specs.declared.kind.Kind.{Kind}
 use Rattle.setoff_model.specs.declared.cut.CutClaim.{CutClaim}
@@ -36,8 +37,8 @@ use Rattle.claim_history.proofs.Histories.{holds}
 -- amounts and limits are no greater than the acts may say, or the first limits are
 abbrev IsSmall : State → Type 0
 IsSmall s =
-    ((key : Key) → amount_of (filing_of s.ledger key) ≤ 10 ^ 12)
-    × ((firm : List ℕ) → ((limits_of s.ledger firm).credit ≤ 10 ^ 15) × ((limits_of s.ledger firm).ceiling ≤ 10 ^ 15))
+    ((key : Key) → amount_of (filing_of s.ledger key) ≤ most_amount)
+    × ((firm : List ℕ) → ((limits_of s.ledger firm).credit ≤ first_ceiling) × ((limits_of s.ledger firm).ceiling ≤ first_ceiling))
 
 file_small : (b : Bool) (new : Filing) (old : Option Filing) (m : ℕ) → new.amount ≤ m → amount_of old ≤ m → amount_of (if b then Some new else old) ≤ m
 file_small true new old m le was = le
@@ -48,23 +49,23 @@ limits_small : (b : Bool) (new d : Limits) (xs : List Limits) (m : ℕ) → (new
 limits_small true new d xs m le was = le
 limits_small false new d xs m le was = was
 
-valid_amount : (key : Key) (debtor : List ℕ) (amount due : ℕ) → is_valid (act.File key debtor amount due) ≡ true → amount ≤ 10 ^ 12
+valid_amount : (key : Key) (debtor : List ℕ) (amount due : ℕ) → is_valid (act.File key debtor amount due) ≡ true → amount ≤ most_amount
 valid_amount key debtor amount due v =
     let most = and_true (is_key key && is_name debtor && is_claim_amount amount) (is_day due) v in
     let amounts = and_true (is_key key && is_name debtor) (is_claim_amount amount) most.0 in
-    omega (arith, ltb-true _ _ (and_true (nat_le 1 amount) (is_amount amount) amounts.1).1)
+    omega (arith, leb-true _ _ (and_true (nat_le 1 amount) (is_amount amount) amounts.1).1)
 
-valid_limits : (firm : List ℕ) (credit ceiling : ℕ) → is_valid (act.Limit firm credit ceiling) ≡ true → (credit ≤ 10 ^ 15) × (ceiling ≤ 10 ^ 15)
+valid_limits : (firm : List ℕ) (credit ceiling : ℕ) → is_valid (act.Limit firm credit ceiling) ≡ true → (credit ≤ first_ceiling) × (ceiling ≤ first_ceiling)
 valid_limits firm credit ceiling v =
     let both = and_true (is_name firm && is_amount credit) (is_amount ceiling) v in
     let first = and_true (is_name firm) (is_amount credit) both.0 in
-    (omega (arith, ltb-true _ _ first.1), omega (arith, ltb-true _ _ both.1))
+    (omega (arith, leb-true _ _ first.1), omega (arith, leb-true _ _ both.1))
 
 small_accept : (s : State) (a : Act) → is_valid a ≡ true → IsSmall s → IsSmall (accept a s)
 small_accept s (act.File key debtor amount due) v h =
-    (λ k. file_small (same_key k key) _ (filing_of s.ledger k) (10 ^ 12) (valid_amount key debtor amount due v) (h.0 k), h.1)
+    (λ k. file_small (same_key k key) _ (filing_of s.ledger k) most_amount (valid_amount key debtor amount due v) (h.0 k), h.1)
 small_accept s (act.Limit firm credit ceiling) v h =
-    (h.0, λ f. limits_small (same_name f firm) (record { credit = credit; ceiling = ceiling }) _ _ (10 ^ 15) (valid_limits firm credit ceiling v) (h.1 f))
+    (h.0, λ f. limits_small (same_name f firm) (record { credit = credit; ceiling = ceiling }) _ _ first_ceiling (valid_limits firm credit ceiling v) (h.1 f))
 small_accept s a v h = h
 
 small_open : (caller : ℕ) (a : Act) (s : State) → is_valid a ≡ true → IsSmall s → IsSmall (open_as caller a s)
@@ -91,15 +92,15 @@ small history v = small_past (reverse history) (all_reverse (λ e. is_valid e.ac
 
 -- few claims were filed, and few are in the open cut
 abbrev HasFew : State → Type 0
-HasFew s = (length (filings s.ledger) ≤ 262144) × ((round : OpenRound) → s.open_round ≡ Some round → length round.cut.claims ≤ 262144)
+HasFew s = (length (filings s.ledger) ≤ most_claims) × ((round : OpenRound) → s.open_round ≡ Some round → length round.cut.claims ≤ most_claims)
 
-due_few : (l : Ledger) (horizon : ℕ) → length (filings l) ≤ 262144 → length (due_claims l horizon) ≤ 262144
+due_few : (l : Ledger) (horizon : ℕ) → length (filings l) ≤ most_claims → length (due_claims l horizon) ≤ most_claims
 due_few l horizon h =
     omega (arith, h, length-filter (is_due l horizon) (reverse (filings l)), count_by-le-length (is_due l horizon) (reverse (filings l)), length-reverse (filings l))
 
 close_few : (l : Ledger) (n : ℕ) (o : Option OpenRound) (caller : ℕ) (kind : Kind) (horizon : ℕ) → HasFew (at_state l n o) → HasFew (after caller (act.Close kind horizon) (close_answer n o caller kind horizon) (at_state l n o))
 close_few l n None caller kind horizon was =
-    (was.0, λ round e. subst (λ (r : OpenRound). length r.cut.claims ≤ 262144) (same_open _ round e) (omega (arith, due_few l horizon was.0, length-map (due_claims l horizon) (cut_claim l (firms_of (due_claims l horizon))))))
+    (was.0, λ round e. subst (λ (r : OpenRound). length r.cut.claims ≤ most_claims) (same_open _ round e) (omega (arith, due_few l horizon was.0, length-map (due_claims l horizon) (cut_claim l (firms_of (due_claims l horizon))))))
 close_few l n (Some round) caller kind horizon was =
     by_rows (λ r. HasFew (after caller (act.Close kind horizon) r (at_state l n (Some round)))) (close_refusals round caller kind horizon) (reply.Continued round.cut.round) (λ w. was) (λ h. was)
 
@@ -131,26 +132,26 @@ few past legal = every_past HasFew (omega arith, λ round e. absurd (none_open r
 
 -- a balance is between -10^15 and 10^15
 pub balance_small : (history : List Entry) (firm : List ℕ) → IsLegal history → AreValid history
-    → (gained (state_of history).ledger firm ≤ spent (state_of history).ledger firm + 10 ^ 15) × (spent (state_of history).ledger firm ≤ gained (state_of history).ledger firm + 10 ^ 15)
+    → (gained (state_of history).ledger firm ≤ spent (state_of history).ledger firm + first_ceiling) × (spent (state_of history).ledger firm ≤ gained (state_of history).ledger firm + first_ceiling)
 balance_small history firm legal valid =
     let kept = (holds (reverse history) legal).0 firm in
     let limits = (small history valid).1 firm in
     (omega (arith, kept.1, limits.1), omega (arith, kept.0, limits.0))
 
-within : (g s : ℕ) → (g ≤ s + 10 ^ 15) × (s ≤ g + 10 ^ 15) → IsWithin (10 ^ 15) (10 ^ 15) (pos g -ℤ pos s)
+within : (g s : ℕ) → (g ≤ s + first_ceiling) × (s ≤ g + first_ceiling) → IsWithin first_ceiling first_ceiling (pos g -ℤ pos s)
 within g s h = (omega (arith, ints, clamps, h.1), omega (arith, ints, clamps, h.0))
 
-left_small : (history : List Entry) (key : Key) → AreValid history → left_of (state_of history).ledger key ≤ 10 ^ 12
+left_small : (history : List Entry) (key : Key) → AreValid history → left_of (state_of history).ledger key ≤ most_amount
 left_small history key valid = omega (arith, (small history valid).0 key)
 
--- what is owed is at most 10^12 on each of 262144 claims
-pub owed_small : (history : List Entry) (test : Filing → Bool) → IsLegal history → AreValid history → owed_of (state_of history).ledger test (filings (state_of history).ledger) ≤ 262144 * 10 ^ 12
+-- what is owed is at most 10^12 on each of most_claims claims
+pub owed_small : (history : List Entry) (test : Filing → Bool) → IsLegal history → AreValid history → owed_of (state_of history).ledger test (filings (state_of history).ledger) ≤ most_claims * most_amount
 owed_small history test legal valid =
     let l = (state_of history).ledger in
     let p : Filing → Bool = λ f. is_confirmed (status_of l f.key) && test f in
     let due : List Filing = filter p (filings l) in
-    let each : All (λ (f : Filing). left_of l f.key ≤ 10 ^ 12) due = (λ k d lt. left_small history (slice_index_or due k d).key valid) in
-    omega (arith, (few (reverse history) legal).0, length-filter p (filings l), count_by-le-length p (filings l), sum_by-le (λ f. left_of l f.key) (10 ^ 12) due each)
+    let each : All (λ (f : Filing). left_of l f.key ≤ most_amount) due = (λ k d lt. left_small history (slice_index_or due k d).key valid) in
+    omega (arith, (few (reverse history) legal).0, length-filter p (filings l), count_by-le-length p (filings l), sum_by-le (λ f. left_of l f.key) most_amount due each)
 
 pub sizes_law : SizesLaw
 sizes_law history firm legal valid = (
@@ -161,7 +162,7 @@ sizes_law history firm legal valid = (
 
 -- ---- publications
 
-claim_small : (l : Ledger) (cut : CutView) (d : List ℕ) (k : ℕ) → ((key : Key) → left_of l key ≤ 10 ^ 12) → All (IsFrozenClaim l) cut.claims → IsLawful (obligations cut) d → k < length cut.claims → slice_index d k ≤ 10 ^ 12
+claim_small : (l : Ledger) (cut : CutView) (d : List ℕ) (k : ℕ) → ((key : Key) → left_of l key ≤ most_amount) → All (IsFrozenClaim l) cut.claims → IsLawful (obligations cut) d → k < length cut.claims → slice_index d k ≤ most_amount
 claim_small l cut d k lefts frozen lawful lt =
     let claim = slice_index_or cut.claims k no_claim in
     let amount : slice_index (obligations cut).amounts k ≡ claim.amount = get_or-map (λ (c : CutClaim). c.amount) cut.claims k no_claim 0 lt in
@@ -170,12 +171,12 @@ claim_small l cut d k lefts frozen lawful lt =
     let was : left_of l claim.key ≡ claim.amount = (frozen k no_claim lt).1 in
     omega (arith, amount, within, was, lefts claim.key)
 
-lawful_total : (l : Ledger) (cut : CutView) (d : List ℕ) → length cut.claims ≤ 262144 → ((key : Key) → left_of l key ≤ 10 ^ 12) → All (IsFrozenClaim l) cut.claims → IsLawful (obligations cut) d → total_of d < 10 ^ 18
+lawful_total : (l : Ledger) (cut : CutView) (d : List ℕ) → length cut.claims ≤ most_claims → ((key : Key) → left_of l key ≤ most_amount) → All (IsFrozenClaim l) cut.claims → IsLawful (obligations cut) d → total_of d < 10 ^ 18
 lawful_total l cut d few lefts frozen lawful =
     let long : length d ≡ length cut.claims = lawful.one_each ∙ length-map cut.claims (λ (c : CutClaim). c.amount) in
-    let each : All (λ (x : ℕ). x ≤ 10 ^ 12) d = λ k other lt.
-    subst (λ n. n ≤ 10 ^ 12) (get_or_default d k 0 other lt) (claim_small l cut d k lefts frozen lawful (omega (arith, lt, long))) in
-    omega (arith, few, long, sum_by-le (λ (x : ℕ). x) (10 ^ 12) d each)
+    let each : All (λ (x : ℕ). x ≤ most_amount) d = λ k other lt.
+    subst (λ n. n ≤ most_amount) (get_or_default d k 0 other lt) (claim_small l cut d k lefts frozen lawful (omega (arith, lt, long))) in
+    omega (arith, few, long, sum_by-le (λ (x : ℕ). x) most_amount d each)
 
 -- the total of what is published of the open round is below 10^18
 pub published_small : (history : List Entry) → IsLegal history → AreValid history → (round : OpenRound) (d : List ℕ) → (state_of history).open_round ≡ Some round → IsLawful (obligations round.cut) d → total_of d < 10 ^ 18

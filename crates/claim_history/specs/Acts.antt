@@ -1,6 +1,7 @@
 -- What may be asked, and its text.
 use Rattle.std.specs.Prelude.{ℕ, Bool, true, false, ◌&&◌, nat_le, nat_lt, List, [], ◌∷◌, ◌^◌, codes, decimal, length, unsigned_abs, ◌≡◌}
 use Rattle.std.specs.List.{join_with_byte, list_all}
+use Rattle.setoff_model.specs.Limits.{most_amount, most_claims, most_firms}
 use Rattle.setoff_model.specs.declared.name.Key.{Key}
 use Rattle.setoff_model.specs.Names.{is_name}
 use Rattle.setoff_model.specs.CutView.{OutcomeView}
@@ -15,7 +16,7 @@ is_key key = is_name key.creditor && is_name key.invoice
 
 -- 0.00 to 9999999999.99
 abbrev pub is_amount : ℕ → Bool
-is_amount cents = nat_lt cents (10 ^ 12)
+is_amount cents = nat_le cents most_amount
 
 -- 0.01 to 9999999999.99
 abbrev pub is_claim_amount : ℕ → Bool
@@ -28,10 +29,11 @@ is_day number = nat_le number last_day
 abbrev pub is_round : ℕ → Bool
 is_round round = nat_le 1 round && nat_lt round (2 ^ 32)
 
--- at most 262144 discharges of 0.00 to 9999999999.99, and at most 16384 prices, each from -n to n for n prices
+-- at most as many discharges, of 0.00 to 9999999999.99, as a round has claims, and at most as many prices as it has parties, each
+-- from -n to n for n prices
 abbrev pub is_outcome : OutcomeView → Bool
 is_outcome outcome =
-    nat_le (length outcome.discharges) 262144 && nat_le (length outcome.prices) 16384
+    nat_le (length outcome.discharges) most_claims && nat_le (length outcome.prices) most_firms
     && list_all is_amount outcome.discharges
     && list_all (λ p. nat_le (unsigned_abs p) (length outcome.prices)) outcome.prices
 
@@ -56,6 +58,11 @@ is_valid (act.Publish round outcome) = is_round round && is_outcome outcome
 abbrev pub is_publication : Act → Bool
 is_publication (act.Publish round outcome) = true
 is_publication _ = false
+
+-- the act is an Abandon
+abbrev pub is_abandonment : Act → Bool
+is_abandonment act.Abandon = true
+is_abandonment _ = false
 
 -- the act is a Close
 abbrev pub is_close : Act → Bool

@@ -1,13 +1,16 @@
--- The rounds of a history: the cut of each, and the cuts of those that were published.
-use Rattle.std.specs.Prelude.{◌≡◌, ℕ, List, [], ◌∷◌, ◌++◌, length, map, take, drop, reverse, Option, Some, None}
+-- The rounds of a history: the cut of each, what ends one, and the cuts of those that were published.
+use Rattle.std.specs.Prelude.{◌≡◌, ℕ, Bool, ◌&&◌, ◌||◌, List, [], ◌∷◌, ◌++◌, length, map, take, drop, reverse, Option, Some, None}
+use Rattle.std.specs.List.{list_any}
 use Rattle.setoff_model.specs.declared.kind.Kind.{Kind}
 use Rattle.setoff_model.specs.CutView.{CutView}
 use Rattle.claim_history.specs.declared.act.Act.TheVariants as act
 use Rattle.claim_history.specs.declared.entry.Entry.{Entry}
 use Rattle.claim_history.specs.declared.entry.Reply.{Reply}
 use Rattle.claim_history.specs.declared.entry.Reply.TheVariants as reply
+use Rattle.claim_history.specs.Acts.{is_abandonment, is_publication}
 use Rattle.claim_history.specs.Cut.{cut_of}
 use Rattle.claim_history.specs.States.{OpenRound, state, state_of}
+use Rattle.claim_history.specs.History.{is_accepted}
 
 -- the cut of the round of this number: that of the entries before its opening, with the opening's kind and horizon. What is so
 -- in a history is so in each longer one
@@ -21,6 +24,14 @@ pub record IsRoundCut (history : List Entry) (number : ℕ) (cut : CutView) : Ty
   pub asks : opening.act ≡ act.Close kind horizon
   pub opens : opening.reply ≡ reply.Opened number
   pub cut_is : cut ≡ cut_of number (state_of before).ledger kind horizon
+
+-- the entry ends the open round: a publication or an Abandon that is accepted
+abbrev pub ends_round : Entry → Bool
+ends_round e = is_accepted e && (is_publication e.act || is_abandonment e.act)
+
+-- one of the entries ends a round
+abbrev pub has_end : List Entry → Bool
+has_end entries = list_any ends_round entries
 
 -- ---- the cuts of published rounds
 

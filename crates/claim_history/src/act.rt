@@ -5,6 +5,7 @@ ghost use Rattle.setoff_model.specs.Names.{is_name};
 ghost use Rattle.claim_history.specs.Acts.{is_key, is_amount, is_claim_amount, is_day, is_round, is_outcome, is_valid, is_publication, ActTextsLaw};
 
 use crate::day::Day;
+use setoff_model::limits::{MOST_AMOUNT, MOST_CLAIMS, MOST_FIRMS};
 use setoff_model::{Key, Kind, Name, Outcome};
 
 /// What a caller asks. Amounts are cents.
@@ -131,8 +132,8 @@ fn outcome_is_valid(outcome: &Outcome) -> bool
 {
     let discharges = outcome.discharges();
     let prices = outcome.prices();
-    discharges.len() <= 262_144
-        && prices.len() <= 16_384
+    discharges.len() <= MOST_CLAIMS
+        && prices.len() <= MOST_FIRMS
         && are_cents(discharges)
         && are_near(prices, prices.len())
 }
@@ -153,7 +154,7 @@ fn are_near(prices: &[i64], n: usize) -> bool
 fn is_cents(amount: u64) -> bool
     ensures { result ≡ is_amount amount }
 {
-    amount < 1_000_000_000_000
+    amount <= MOST_AMOUNT
 }
 
 fn is_payment(amount: u64) -> bool

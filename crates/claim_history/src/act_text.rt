@@ -1,7 +1,8 @@
 //! The text of what is asked.
-ghost use Rattle.std.specs.Prelude.{◌≡◌, ◌+◌, ◌≤◌, ◌<◌, ◌^◌, ◌++◌, ◌∷◌, [], codes, decimal, length, vec_len, vec_capacity, true};
+ghost use Rattle.std.specs.Prelude.{◌≡◌, ◌+◌, ◌≤◌, ◌++◌, ◌∷◌, [], codes, decimal, length, vec_len, vec_capacity, true};
 ghost use Rattle.std.specs.List.{join_with_byte};
 ghost use Rattle.setoff_model.specs.Texts.{cents_text, kind_text};
+ghost use Rattle.setoff_model.specs.Limits.{most_amount};
 ghost use Rattle.claim_history.specs.Days.{day_text};
 ghost use Rattle.claim_history.specs.Acts.{is_valid, act_text};
 
@@ -59,7 +60,7 @@ fn write_firm(buffer: &mut Vec<u8>, verb: &[u8], firm: &Name)
 
 fn write_file(buffer: &mut Vec<u8>, key: &Key, debtor: &Name, amount: u64, due: &Day)
     requires spare { vec_len buffer.old + 160 ≤ vec_capacity buffer.old }
-    requires amount { amount < 10 ^ 12 }
+    requires amount { amount ≤ most_amount }
     ensures text { buffer.new.items ≡ buffer.old.items ++ join_with_byte 32 (codes "FILE" ∷ key.now.creditor ∷ key.now.invoice ∷ debtor.now ∷ cents_text amount ∷ day_text due.now ∷ []) }
     ensures len { vec_len buffer.new ≤ vec_len buffer.old + 80 }
     ensures room { vec_capacity buffer.old ≤ vec_capacity buffer.new }
@@ -94,7 +95,7 @@ fn write_withdraw(buffer: &mut Vec<u8>, key: &Key)
 
 fn write_receive(buffer: &mut Vec<u8>, key: &Key, amount: u64)
     requires spare { vec_len buffer.old + 160 ≤ vec_capacity buffer.old }
-    requires amount { amount < 10 ^ 12 }
+    requires amount { amount ≤ most_amount }
     ensures text { buffer.new.items ≡ buffer.old.items ++ join_with_byte 32 (codes "RECEIVE" ∷ key.now.creditor ∷ key.now.invoice ∷ cents_text amount ∷ []) }
     ensures len { vec_len buffer.new ≤ vec_len buffer.old + 80 }
     ensures room { vec_capacity buffer.old ≤ vec_capacity buffer.new }
@@ -109,7 +110,7 @@ fn write_receive(buffer: &mut Vec<u8>, key: &Key, amount: u64)
 fn write_account_act(buffer: &mut Vec<u8>, verb: &[u8], firm: &Name, amount: u64)
     requires spare { vec_len buffer.old + 160 ≤ vec_capacity buffer.old }
     requires verb { length verb.now ≤ 8 }
-    requires amount { amount < 10 ^ 12 }
+    requires amount { amount ≤ most_amount }
     ensures text { buffer.new.items ≡ buffer.old.items ++ (verb.now ++ join_with_byte 32 (firm.now ∷ cents_text amount ∷ [])) }
     ensures len { vec_len buffer.new ≤ vec_len buffer.old + 40 }
     ensures room { vec_capacity buffer.old ≤ vec_capacity buffer.new }
@@ -121,8 +122,8 @@ fn write_account_act(buffer: &mut Vec<u8>, verb: &[u8], firm: &Name, amount: u64
 
 fn write_limit(buffer: &mut Vec<u8>, firm: &Name, credit: u64, ceiling: u64)
     requires spare { vec_len buffer.old + 160 ≤ vec_capacity buffer.old }
-    requires credit { credit < 10 ^ 12 }
-    requires ceiling { ceiling < 10 ^ 12 }
+    requires credit { credit ≤ most_amount }
+    requires ceiling { ceiling ≤ most_amount }
     ensures text { buffer.new.items ≡ buffer.old.items ++ join_with_byte 32 (codes "LIMIT" ∷ firm.now ∷ cents_text credit ∷ cents_text ceiling ∷ []) }
     ensures len { vec_len buffer.new ≤ vec_len buffer.old + 80 }
     ensures room { vec_capacity buffer.old ≤ vec_capacity buffer.new }
@@ -193,7 +194,7 @@ fn write_claim(buffer: &mut Vec<u8>, key: &Key, debtor: &Name)
 // Amount and due day.
 fn write_terms(buffer: &mut Vec<u8>, amount: u64, due: &Day)
     requires spare { vec_len buffer.old + 80 ≤ vec_capacity buffer.old }
-    requires amount { amount < 10 ^ 12 }
+    requires amount { amount ≤ most_amount }
     ensures text { buffer.new.items ≡ buffer.old.items ++ join_with_byte 32 (cents_text amount ∷ day_text due.now ∷ []) }
     ensures len { vec_len buffer.new ≤ vec_len buffer.old + 24 }
     ensures room { vec_capacity buffer.old ≤ vec_capacity buffer.new }

@@ -1,5 +1,5 @@
 //! What holds of every legal history. Each of these calls does nothing.
-ghost use Rattle.claim_history.specs.Laws.{ActsLaw, CutLaw, OneCutLaw, GrowthLaw, ReplayLaw, LimitsLaw, FormulasLaw, SizesLaw, RepliesLaw, FrozenLaw, OwnedLaw, PublicationLaw, GreatestLaw, OpeningsLaw};
+ghost use Rattle.claim_history.specs.Laws.{ActsLaw, CutLaw, OneCutLaw, OpenLaw, NoneOpenLaw, GrowthLaw, ReplayLaw, LimitsLaw, FormulasLaw, SizesLaw, RepliesLaw, FrozenLaw, OwnedLaw, PublicationLaw, GreatestLaw, OpeningsLaw};
 ghost use Rattle.claim_history.specs.Needs.{RoomLaw, EndingsLaw, RecordsLaw, UseLaw, CallsLaw, NeedsLaw, FullLaw};
 ghost use Rattle.claim_history.specs.Register.{FullRegister};
 
@@ -14,6 +14,13 @@ pub fn state_is_of_the_history()
 /// A round has one cut: that of the entries before its opening, which stays the same however long the history grows.
 pub fn each_round_has_one_cut()
     ensures { OneCutLaw }
+{}
+
+/// A round is open from its opening until a publication or an Abandon is accepted: exactly where none comes later. So no round
+/// is open exactly where one comes behind each opening.
+pub fn round_is_open_until_its_end()
+    ensures open { OpenLaw }
+    ensures none { NoneOpenLaw }
 {}
 
 /// A legal history stays legal with one more entry whose reply is the history's one reply or tells of a device, and each list

@@ -16,7 +16,8 @@ pub use fact::{AccountFact, ClaimFact, Position, Status};
 pub use laws::{
     each_round_has_one_cut, full_register_refuses_claims, legal_history_grows, limits_hold,
     open_cut_is_frozen, owned_round_stays_open, publication_keeps_net_positions,
-    publications_are_greatest, room_for_endings_is_kept, state_is_of_the_history, use_is_counted,
+    publications_are_greatest, room_for_endings_is_kept, round_is_open_until_its_end,
+    state_is_of_the_history, use_is_counted,
 };
 
 #[cfg(test)]

@@ -9,7 +9,8 @@ use Rattle.claim_history.specs.declared.entry.Entry.{Entry}
 use Rattle.claim_history.specs.Acts.{is_publication}
 use Rattle.claim_history.specs.States.{State, after, open_as, state, state_of}
 use Rattle.claim_history.specs.History.{IsLegal, IsLegalPast, IsReply, answer, answer_of, failed, is_no_refusal, replied}
-use Rattle.claim_history.specs.Needs.{Fits, FitsPast, IsWithinLimits, IsWithinLimitsPast, is_counted, most_bytes, most_entries, own_bytes, used_bytes, used_bytes_of, used_entries, used_entries_of}
+use Rattle.claim_history.specs.Needs.{Fits, FitsPast, IsWithinLimits, IsWithinLimitsPast, is_counted, own_bytes, used_bytes, used_bytes_of, used_entries, used_entries_of}
+use Rattle.setoff_model.specs.Limits.{most_entries, most_journal_bytes}
 use Rattle.setoff_model.specs.Setoff.{total_of}
 use Rattle.claim_history.proofs.Pasts.{entry_of}
 use Rattle.claim_history.proofs.Replies.{publishes}
@@ -20,7 +21,7 @@ use Rattle.limited_book.specs.Limited.{IsLimited}
 
 record IsSmall (past : List Entry) : Type 0 where
   pub entries : used_entries past ≤ most_entries
-  pub bytes : used_bytes past ≤ most_bytes
+  pub bytes : used_bytes past ≤ most_journal_bytes
 
 one_most : (b : Bool) → one_if b ≤ 1
 one_most true = omega arith
@@ -49,7 +50,7 @@ small (e ∷ past) legal within = small_step past _ e.caller e.act e.reply legal
 pub few_entries : (history : List Entry) → IsLegal history → IsWithinLimits history → used_entries_of history ≤ most_entries
 few_entries history legal within = (small (reverse history) legal within).entries
 
-pub few_bytes : (history : List Entry) → IsLegal history → IsWithinLimits history → used_bytes_of history ≤ most_bytes
+pub few_bytes : (history : List Entry) → IsLegal history → IsWithinLimits history → used_bytes_of history ≤ most_journal_bytes
 few_bytes history legal within = (small (reverse history) legal within).bytes
 
 -- ---- openings

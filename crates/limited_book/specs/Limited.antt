@@ -1,11 +1,12 @@
 -- A history within the limits, what it uses, and what an act lacks.
 use Rattle.std.specs.Prelude.{◌≡◌, ℕ, Bool, true, false, not, ◌&&◌, ◌||◌, nat_lt, List, Option, None}
+use Rattle.setoff_model.specs.Limits.{most_entries, most_journal_bytes}
 use Rattle.claim_history.specs.declared.act.Act.{Act}
 use Rattle.claim_history.specs.declared.entry.Entry.{Entry}
 use Rattle.claim_history.specs.declared.entry.Reply.{Reply}
 use Rattle.claim_history.specs.declared.entry.Reply.TheVariants as reply
 use Rattle.claim_history.specs.States.{OpenRound}
-use Rattle.claim_history.specs.Needs.{used_entries_of, used_bytes_of, needed_entries_of, needed_bytes_of, most_entries, most_bytes, lacks_entries, lacks_bytes, IsWithinLimits}
+use Rattle.claim_history.specs.Needs.{used_entries_of, used_bytes_of, needed_entries_of, needed_bytes_of, lacks_entries, lacks_bytes, IsWithinLimits}
 use Rattle.limited_book.specs.declared.room.Room.{Room}
 use Rattle.limited_book.specs.declared.room.Room.TheVariants.{Entries, Bytes}
 use Rattle.limited_book.specs.declared.full.Full.{Full}
@@ -20,7 +21,7 @@ pub record IsLimited (history : List Entry) (entries bytes : ℕ) : Type 0 where
 
 abbrev pub limit_of : Room → ℕ
 limit_of Entries = most_entries
-limit_of Bytes = most_bytes
+limit_of Bytes = most_journal_bytes
 
 -- of so many entries and bytes
 abbrev pub number_of : Room → ℕ → ℕ → ℕ
@@ -30,7 +31,7 @@ number_of Bytes entries bytes = bytes
 -- it is the first that is above its limit, entries before bytes
 abbrev pub is_over : Room → ℕ → ℕ → Bool
 is_over Entries entries bytes = nat_lt most_entries entries
-is_over Bytes entries bytes = not (nat_lt most_entries entries) && nat_lt most_bytes bytes
+is_over Bytes entries bytes = not (nat_lt most_entries entries) && nat_lt most_journal_bytes bytes
 
 abbrev pub is_over_one : ℕ → ℕ → Bool
 is_over_one entries bytes = is_over Entries entries bytes || is_over Bytes entries bytes

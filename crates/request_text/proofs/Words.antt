@@ -1,8 +1,9 @@
 -- A line and its fields.
-use Rattle.std.proofs.Common.{◌≡◌, ℕ, ◌<◌, ◌≤◌, ◌^◌, ◌+◌, ◌/◌, ◌%◌, Bool, true, false, List, [], ◌∷◌, ◌++◌, length, refl, sym, ap, ◌∙◌, arith}
-use Rattle.std.specs.Prelude.{◌&&◌, nat_le, nat_lt, codes, get_or, Result, Ok, Err, IfOk, OnErr}
+use Rattle.std.proofs.Common.{◌≡◌, ℕ, ◌<◌, ◌≤◌, ◌+◌, ◌/◌, ◌%◌, Bool, true, false, List, [], ◌∷◌, ◌++◌, length, refl, sym, ap, ◌∙◌, arith}
+use Rattle.std.specs.Prelude.{◌&&◌, nat_le, codes, get_or, Result, Ok, Err, IfOk, OnErr}
 use Rattle.std.specs.List.{AllByRecursion}
-use Rattle.std.proofs.lemmas.Bool.{leb-true, ltb-true}
+use Rattle.std.proofs.lemmas.Bool.{leb-true}
+use Rattle.setoff_model.specs.Limits.{most_amount}
 use Rattle.setoff_model.specs.declared.name.Key.{Key}
 use Rattle.setoff_model.specs.Names.{is_name}
 use Rattle.setoff_model.specs.declared.kind.Kind.{Kind}
@@ -23,10 +24,10 @@ pub both : (a b : Bool) → (a && b) ≡ true → (a ≡ true) × (b ≡ true)
 both true b h = (refl, h)
 both false b h = absurd cc
 
-amount_within : (cents : ℕ) → is_claim_amount cents ≡ true → (1 ≤ cents) × (cents < 10 ^ 12)
+amount_within : (cents : ℕ) → is_claim_amount cents ≡ true → (1 ≤ cents) × (cents ≤ most_amount)
 amount_within cents h =
-    let p : (nat_le 1 cents ≡ true) × (nat_lt cents (10 ^ 12) ≡ true) = both _ _ h in
-    (leb-true 1 cents p.0, ltb-true cents (10 ^ 12) p.1)
+    let p : (nat_le 1 cents ≡ true) × (nat_le cents most_amount ≡ true) = both _ _ h in
+    (leb-true 1 cents p.0, leb-true cents most_amount p.1)
 
 -- an amount of a claim is not that of nothing
 pub not_nothing : (cents : ℕ) → is_claim_amount cents ≡ true → cents_text 0 ≡ cents_text cents → ⊥
@@ -85,7 +86,7 @@ key_visible law key h =
     (law.names key.creditor k.0, law.names key.invoice k.1)
 
 amount_visible : VisibleLaw → (cents : ℕ) → is_amount cents ≡ true → IsVisible (cents_text cents)
-amount_visible law cents h = law.cents cents (omega (arith, ltb-true cents (10 ^ 12) h))
+amount_visible law cents h = law.cents cents (omega (arith, leb-true cents most_amount h))
 
 claim_amount_visible : VisibleLaw → (cents : ℕ) → is_claim_amount cents ≡ true → IsVisible (cents_text cents)
 claim_amount_visible law cents h = amount_visible law cents (both (nat_le 1 cents) (is_amount cents) h).1

@@ -4,6 +4,7 @@ use Rattle.std.proofs.Common.{◌≡◌, ℕ, ◌<◌, ◌≤◌, ◌^◌, true,
 use Rattle.std.proofs.lemmas.List.{map-append, length_push, length-map, nil_from_length}
 use Rattle.std.proofs.lemmas.List.Elements.{All-nil, All-push, All-same, All-map}
 use Rattle.std.proofs.lemmas.List.Quantifiers.{all_pairs_push}
+use Rattle.setoff_model.specs.Limits.{most_amount, most_claims, most_firms}
 use Rattle.setoff_model.specs.declared.name.Key.{Key}
 use Rattle.setoff_model.specs.declared.cut.Party.{Party}
 use Rattle.setoff_model.specs.declared.cut.CutClaim.{CutClaim}
@@ -81,7 +82,7 @@ old_firm : (firms : List (List ℕ)) (firm : List ℕ) (r : Option ℕ) → Matc
 old_firm firms firm None h e new = absurd cc
 old_firm firms firm (Some p) h e new = new p [] h.0 (h.1 [])
 
-pub may_be_party : (firms : List (List ℕ)) (keys : List Key) (d : Drafted) (f : Party) (r : Option ℕ) → IsDraft firms keys d.cut d.outcome → length d.cut.claims ≡ 0 → length d.cut.parties < 16384
+pub may_be_party : (firms : List (List ℕ)) (keys : List Key) (d : Drafted) (f : Party) (r : Option ℕ) → IsDraft firms keys d.cut d.outcome → length d.cut.claims ≡ 0 → length d.cut.parties < most_firms
     → MatchOption r (All (λ g. g ≢ f.firm) firms) (λ p. (p < length firms) × ((e : List ℕ) → get_or firms p e ≡ f.firm)) → is_some r ≡ false → IsWindowOf d.cut.kind f → MayBeParty d f
 may_be_party firms keys d f r i first few place e window = record {
   first = nil_from_length d.cut.claims first;
@@ -109,8 +110,8 @@ firms_of firms keys d i p lt =
 abbrev claim_of : Key → ℕ → ℕ → ℕ → CutClaim
 claim_of key debtor creditor amount = record { key = key; debtor = debtor; creditor = creditor; amount = amount }
 
-pub may_be_claim : (firms : List (List ℕ)) (keys : List Key) (d : Drafted) (key : Key) (debtor : List ℕ) (amount p q : ℕ) → IsDraft firms keys d.cut d.outcome → length d.cut.claims < 262144
-    → All (λ k. k ≢ key) keys → (q < length firms) × ((e : List ℕ) → get_or firms q e ≡ key.creditor) → (p < length firms) × ((e : List ℕ) → get_or firms p e ≡ debtor) → p ≢ q → 1 ≤ amount → amount < 10 ^ 12
+pub may_be_claim : (firms : List (List ℕ)) (keys : List Key) (d : Drafted) (key : Key) (debtor : List ℕ) (amount p q : ℕ) → IsDraft firms keys d.cut d.outcome → length d.cut.claims < most_claims
+    → All (λ k. k ≢ key) keys → (q < length firms) × ((e : List ℕ) → get_or firms q e ≡ key.creditor) → (p < length firms) × ((e : List ℕ) → get_or firms p e ≡ debtor) → p ≢ q → 1 ≤ amount → amount ≤ most_amount
     → MayBeClaim d (claim_of key p q amount) × IsClaimOf d.cut.parties key debtor amount (claim_of key p q amount)
 may_be_claim firms keys d key debtor amount p q i few new creditor_at debtor_at apart some small =
     let creditor = firms_of firms keys d i q creditor_at.0 in

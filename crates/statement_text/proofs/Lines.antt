@@ -2,6 +2,7 @@
 use Rattle.std.specs.Prelude.{ℤ, unsigned_abs, All}
 use Rattle.std.proofs.Common.{◌≡◌, ℕ, ◌<◌, ◌≤◌, ◌^◌, true, List, [], ◌∷◌, ◌++◌, get_or, drop, map, refl, sym, ap, subst, ◌∙◌, arith, append_assoc}
 use Rattle.std.specs.List.{AllByRecursion}
+use Rattle.setoff_model.specs.Limits.{most_window}
 use Rattle.setoff_model.specs.declared.kind.Kind.{Kind}
 use Rattle.setoff_model.specs.declared.kind.Kind.TheVariants.{Plain, Funded}
 use Rattle.setoff_model.specs.declared.name.Key.{Key}
@@ -92,7 +93,7 @@ begins (x ∷ front) (y ∷ all) later h i e =
 
 -- ---- each line of a statement is in its range
 
-plain_or_funded : (kind : Kind) (f : Party) → IsWindowOf kind f → (f.spend ≤ 2000000000000000) × (f.room ≤ 2000000000000000)
+plain_or_funded : (kind : Kind) (f : Party) → IsWindowOf kind f → (f.spend ≤ most_window) × (f.room ≤ most_window)
 plain_or_funded Plain f h = (omega (arith, h.0), omega (arith, h.1))
 plain_or_funded Funded f h = h
 

@@ -1,6 +1,7 @@
 -- A line and its fields.
 use Rattle.std.specs.Prelude.{codes, ℤ, pos, negsuc, unsigned_abs, Option, Some, None, IfNone}
 use Rattle.std.proofs.Common.{◌≡◌, ℕ, suc, ◌<◌, ◌≤◌, ◌^◌, List, [], ◌∷◌, length, get_or, refl, sym, ap, ◌∙◌, arith, decimal}
+use Rattle.setoff_model.specs.Limits.{most_window}
 use Rattle.setoff_model.specs.declared.kind.Kind.{Kind}
 use Rattle.setoff_model.specs.declared.kind.Kind.TheVariants.{Plain, Funded}
 use Rattle.setoff_model.specs.Texts.{cents_text, integer_text, kind_text}
@@ -25,7 +26,7 @@ pub none : {A : Type 0} {P : Type 0} (r : Option A) → P → IfNone r P
 none None h = h
 none (Some x) h = tt
 
-pub no_room : (firm spend room price : List ℕ) → ((c : ℕ) → c ≤ 2000000000000000 → room ≡ cents_text c → ⊥) → AreNoFields (codes "PARTY" ∷ firm ∷ spend ∷ room ∷ price ∷ [])
+pub no_room : (firm spend room price : List ℕ) → ((c : ℕ) → c ≤ most_window → room ≡ cents_text c → ⊥) → AreNoFields (codes "PARTY" ∷ firm ∷ spend ∷ room ∷ price ∷ [])
 no_room firm spend room price bad (line.Head round kind) r e = absurd cc
 no_room firm spend room price bad (line.Party f p) r e = bad f.room r.2 (ap (λ (fs : List (List ℕ)). get_or fs 3 []) e)
 no_room firm spend room price bad (line.Claim key debtor amount d) r e = absurd cc

@@ -1,17 +1,15 @@
 //! A statement as far as it is read.
 ghost use Rattle.std.specs.Prelude.{◌≡◌, ◌↔◌, ◌<◌, ◌≤◌, ◌^◌, true, IfOk, OnErr, IsNone, IsTrue, unsigned_abs};
+ghost use Rattle.setoff_model.specs.Limits.{most_amount, most_window};
 ghost use Rattle.setoff_model.specs.CutView.{IsWindowOf};
 
 use crate::error::StatementCause;
 use crate::index::{add_firm, add_key, is_new_key, place_of};
 use indexmap::IndexSet;
+use setoff_model::limits::{MOST_CLAIMS, MOST_FIRMS};
 use setoff_model::{Cut, CutClaim, Key, Kind, Name, Outcome, Party};
 use std::alloc::{AllocError, Global};
 use std::marker::Model;
-
-const MOST_PARTIES: usize = 16_384;
-
-const MOST_CLAIMS: usize = 262_144;
 
 /// The parties and the claims of the lines so far, with an index of their firms and keys.
 #[derive(Drop)]
@@ -38,8 +36,8 @@ impl Model for Draft {
 
 // Whether a party's window, of at most 2 * 10^15 cents either way, is one of the kind.
 fn has_window_of(kind: Kind, party: &Party) -> bool
-    requires spend { party.now.spend ≤ 2000000000000000 }
-    requires room { party.now.room ≤ 2000000000000000 }
+    requires spend { party.now.spend ≤ most_window }
+    requires room { party.now.room ≤ most_window }
     ensures { IsTrue result ↔ IsWindowOf kind party.now }
 {
     match kind {
@@ -74,14 +72,14 @@ impl Draft {
 
     /// Why a party may not stand next; None exactly where it may. Its spend and room are at most 2 * 10^15 cents.
     pub(crate) fn party_refusal(&self, party: &Party) -> Option<StatementCause>
-        requires spend { party.now.spend ≤ 2000000000000000 }
-        requires room { party.now.room ≤ 2000000000000000 }
+        requires spend { party.now.spend ≤ most_window }
+        requires room { party.now.room ≤ most_window }
         ensures refused { IsNone result ↔ MayBeParty self.now party.now }
         ensures stated { CanBeStated self.now.cut self.now.outcome }
     {
         if !self.claims.is_empty() {
             Some(StatementCause::Shape)
-        } else if self.parties.len() >= MOST_PARTIES {
+        } else if self.parties.len() >= MOST_FIRMS {
             Some(StatementCause::Limit)
         } else if place_of(&self.firms, &party.firm).is_some() {
             Some(StatementCause::Repeat)
@@ -114,7 +112,7 @@ impl Draft {
         amount: u64,
     ) -> Result<CutClaim, StatementCause>
         requires some { 1 ≤ amount }
-        requires amount { amount < 10 ^ 12 }
+        requires amount { amount ≤ most_amount }
         ensures found { IfOk result (λ c. MayBeClaim self.now c × IsClaimOf self.now.cut.parties key.now debtor.now amount c) }
         ensures refused { OnErr result ((c : CutClaim) → MayBeClaim self.now c → IsClaimOf self.now.cut.parties key.now debtor.now amount c → ⊥) }
         ensures stated { CanBeStated self.now.cut self.now.outcome }

@@ -1,15 +1,15 @@
 //! The line that a text is, read by its fields.
 ghost use Rattle.std.specs.Prelude.{◌≡◌, ◌↔◌, ◌∷◌, ◌<◌, ◌≤◌, ◌^◌, ℕ, [], codes, decimal, map, true, false, IfOk, IfSome, IfNone, unsigned_abs};
+ghost use Rattle.setoff_model.specs.Limits.{most_amount, most_window};
 ghost use Rattle.setoff_model.specs.Names.{is_name};
 ghost use Rattle.setoff_model.specs.Texts.{cents_text};
 ghost use Rattle.statement_text.specs.Lines.{AreFields, AreNoFields, IsLine, IsNoLine};
 
 use crate::line::Line;
+use setoff_model::limits::MOST_WINDOW;
 use setoff_model::{Key, Name, Party, read_amount, read_kind, read_number, read_price, read_sum};
 use std::alloc::{AllocError, Global};
 use text_lines::{fields_of, joined_fields_are_cut_again};
-
-const MOST_CENTS: u64 = 2_000_000_000_000_000;
 
 // The number of a round that a field is.
 #[tactic(auto, using(crate::proofs::Words::same_number))]
@@ -40,11 +40,11 @@ fn name_at(field: &[u8]) -> Option<Name>
 // The spend or the room that a field is.
 #[tactic(auto, using(crate::proofs::Words::same_cents))]
 fn window_at(field: &[u8]) -> Option<u64>
-    ensures found { IfSome result (λ c. (field.now ≡ cents_text c) × (c ≤ 2000000000000000)) }
-    ensures none { IfNone result ((c : ℕ) → c ≤ 2000000000000000 → field.now ≡ cents_text c → ⊥) }
+    ensures found { IfSome result (λ c. (field.now ≡ cents_text c) × (c ≤ most_window)) }
+    ensures none { IfNone result ((c : ℕ) → c ≤ most_window → field.now ≡ cents_text c → ⊥) }
 {
     match read_sum(field) {
-        Some(cents) if cents <= MOST_CENTS => Some(cents),
+        Some(cents) if cents <= MOST_WINDOW => Some(cents),
         _ => None,
     }
 }
@@ -52,8 +52,8 @@ fn window_at(field: &[u8]) -> Option<u64>
 // The amount from 0.01 on that a field is.
 #[tactic(auto, using(crate::proofs::Words::same_cents))]
 fn amount_at(field: &[u8]) -> Option<u64>
-    ensures found { IfSome result (λ c. (field.now ≡ cents_text c) × (1 ≤ c) × (c < 10 ^ 12)) }
-    ensures none { IfNone result ((c : ℕ) → 1 ≤ c → c < 10 ^ 12 → field.now ≡ cents_text c → ⊥) }
+    ensures found { IfSome result (λ c. (field.now ≡ cents_text c) × (1 ≤ c) × (c ≤ most_amount)) }
+    ensures none { IfNone result ((c : ℕ) → 1 ≤ c → c ≤ most_amount → field.now ≡ cents_text c → ⊥) }
 {
     match read_amount(field) {
         None | Some(0) => None,

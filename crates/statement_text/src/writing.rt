@@ -1,6 +1,7 @@
 //! Writing statements.
 ghost use Rattle.std.specs.Prelude.{◌≡◌, ◌+◌, ◌^◌, ◌<◌, ◌≤◌, ◌++◌, ◌∷◌, [], length, codes, slice_index_or, unsigned_abs, vec_len, vec_capacity};
 ghost use Rattle.text_lines.specs.Fields.{line_of};
+ghost use Rattle.setoff_model.specs.Limits.{most_window};
 ghost use Rattle.setoff_model.specs.declared.cut.CutClaim.{CutClaim};
 ghost use Rattle.setoff_model.specs.CutView.{WellFormed};
 ghost use Rattle.setoff_model.specs.Texts.{cents_text};
@@ -30,8 +31,8 @@ pub fn write_head(buffer: &mut Vec<u8>, round: u32, kind: Kind)
 ///
 /// Spend and room are at most 2 * 10^15 cents, and the price has at most 9 digits.
 pub fn write_party(buffer: &mut Vec<u8>, party: &Party, price: i64)
-    requires spend { party.now.spend ≤ 2000000000000000 }
-    requires room { party.now.room ≤ 2000000000000000 }
+    requires spend { party.now.spend ≤ most_window }
+    requires room { party.now.room ≤ most_window }
     requires price { unsigned_abs price < 10 ^ 9 }
     requires spare { vec_len buffer.old + 200 ≤ vec_capacity buffer.old }
     ensures text { buffer.new.items ≡ buffer.old.items ++ line_of (party_fields party.now price) ++ codes "\n" }
