@@ -3,8 +3,8 @@ use Rattle.std.proofs.Common.{◌≡◌, ℕ, ◌<◌, ◌^◌, Bool, true, fals
 use Rattle.std.specs.Prelude.{◌&&◌, ◌||◌, nat_le, nat_lt}
 use Rattle.std.proofs.lemmas.Bool.{ltb-true}
 use Rattle.claim_history.specs.declared.act.Act.{Act}
-use Rattle.claim_history.specs.Acts.{is_valid}
-use Rattle.act_bodies.specs.Bodies.{is_abandonment, is_keepable}
+use Rattle.claim_history.specs.Acts.{is_abandonment, is_valid}
+use Rattle.act_bodies.specs.Bodies.{is_keepable}
 
 pub both : (a b : Bool) → (a && b) ≡ true → (a ≡ true) × (b ≡ true)
 both true b h = (refl, h)

@@ -8,7 +8,7 @@ use Rattle.setoff_model.specs.declared.kind.Kind.TheVariants.{Plain, Funded}
 use Rattle.setoff_model.specs.CutView.{OutcomeView}
 use Rattle.claim_history.specs.declared.act.Act.{Act}
 use Rattle.claim_history.specs.declared.act.Act.TheVariants as act
-use Rattle.claim_history.specs.Acts.{is_valid}
+use Rattle.claim_history.specs.Acts.{is_abandonment, is_valid}
 
 -- a number of 4 bytes, and one of 8
 abbrev pub four : ℕ → List ℕ
@@ -65,11 +65,6 @@ fields_of (act.Publish round outcome) = 14 ∷ four round ++ outcome_bytes outco
 -- the caller, then the tag and the fields
 unfoldable pub body_of : ℕ → Act → List ℕ
 body_of caller a = four caller ++ fields_of a
-
--- the act abandons a round
-abbrev pub is_abandonment : Act → Bool
-is_abandonment act.Abandon = true
-is_abandonment _ = false
 
 -- the caller's number has 4 bytes, every field is in its range, and caller 0, the bureau itself, does nothing but abandon
 unfoldable pub is_keepable : ℕ → Act → Bool

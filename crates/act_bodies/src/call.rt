@@ -1,6 +1,7 @@
 //! An act and who asked for it.
 ghost use Rattle.std.specs.Prelude.{◌≡◌};
-ghost use Rattle.act_bodies.specs.Bodies.{is_abandonment, is_keepable};
+ghost use Rattle.claim_history.specs.Acts.{is_abandonment};
+ghost use Rattle.act_bodies.specs.Bodies.{is_keepable};
 
 use claim_history::Act;
 

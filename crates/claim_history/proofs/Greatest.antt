@@ -1,6 +1,6 @@
 -- What is published is greatest.
-use Rattle.std.specs.Prelude.{reverse, Option, Some, None}
-use Rattle.std.proofs.Common.{◌≡◌, ℕ, Bool, true, false, ◌∷◌, refl, sym, ◌∙◌, ap, subst, true≢false}
+use Rattle.std.specs.Prelude.{Option, Some, None}
+use Rattle.std.proofs.Common.{◌≡◌, ℕ, Bool, true, false, refl, sym, ◌∙◌, ap, true≢false}
 use Rattle.std.proofs.lemmas.Bool.{eqb-true}
 use Rattle.setoff_model.specs.declared.kind.Kind.{Kind}
 use Rattle.setoff_model.specs.CutView.{OutcomeView, obligations}
@@ -14,9 +14,9 @@ use Rattle.claim_history.specs.declared.entry.Reply.{Reply}
 use Rattle.claim_history.specs.declared.entry.Reply.TheVariants as reply
 use Rattle.claim_history.specs.declared.entry.Why.{Why}
 use Rattle.claim_history.specs.States.{OpenRound, State, state_of}
-use Rattle.claim_history.specs.History.{IsLegalPast, IsReply, Refusals, abandon_answer, abandon_refusals, answer, close_answer, close_refusals, failed, publish_answer, publish_refusals, refused_or, replied}
+use Rattle.claim_history.specs.History.{IsReply, Refusals, abandon_answer, abandon_refusals, answer, close_answer, close_refusals, failed, publish_answer, publish_refusals, refused_or, replied}
 use Rattle.claim_history.specs.Laws.{GreatestLaw}
-use Rattle.claim_history.proofs.Pasts.{legal_rest, reverse_parts}
+use Rattle.claim_history.proofs.Pasts.{legal_first}
 use Rattle.claim_history.proofs.Rows.{by_rows, not_false, NoneApplies}
 use Rattle.claim_history.proofs.Histories.{answer_cases}
 
@@ -94,8 +94,7 @@ reply_published s counted caller a r total (failed device) is = absurd (refused_
 
 pub greatest_law : GreatestLaw
 greatest_law before later e total legal is =
-    let past = legal_rest (reverse later) (e ∷ reverse before) (subst IsLegalPast (reverse_parts before later e) legal) in
-    let p = reply_published (state_of before) _ e.caller e.act e.reply total past.0 is in
+    let p = reply_published (state_of before) _ e.caller e.act e.reply total (legal_first before later e legal).0 is in
     let proved = (proof_test_law (obligations p.round.cut) p.outcome.discharges p.outcome.prices).0 p.proved in
     record {
       round = p.round;

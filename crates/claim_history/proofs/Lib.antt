@@ -29,3 +29,4 @@ pub mod Open
 mod WorkedRounds
 mod WorkedNeeds
 pub mod Room
+pub mod Bounds

@@ -16,7 +16,7 @@ use Rattle.claim_history.specs.States.{OpenRound, State, after, number_of, state
 use Rattle.claim_history.specs.History.{IsLegal, IsLegalPast, IsReply, abandon_answer, abandon_refusals, answer, close_answer, close_refusals, failed, is_no_refusal, is_opening, publish_answer, publish_refusals, replied}
 use Rattle.claim_history.specs.Rounds.{ends_round, has_end}
 use Rattle.claim_history.specs.Laws.{NoneOpenLaw, OpenLaw}
-use Rattle.claim_history.proofs.Pasts.{legal_rest, reverse_parts}
+use Rattle.claim_history.proofs.Pasts.{legal_first, reverse_parts}
 use Rattle.claim_history.proofs.Histories.{answer_cases}
 use Rattle.claim_history.proofs.Rows.{by_rows, or_false}
 use Rattle.claim_history.proofs.Rounds.{none_open}
@@ -150,7 +150,7 @@ pub open_law : OpenLaw
 open_law before later opening number legal is =
     let whole = reverse_parts before later opening in
     let past = subst IsLegalPast whole legal in
-    let first_legal = legal_rest (reverse later) (opening ∷ reverse before) past in (
+    let first_legal = legal_first before later opening legal in (
       λ same. ⊎_elim
           (λ some. absurd (gone (reverse before) opening number is first_legal (reverse later) past (same_ends later ∙ some) _ refl (sym (ap (λ (p : List Entry). number_of (state p).open_round) whole) ∙ same)))
           (λ none. none)
@@ -164,7 +164,7 @@ opened_as s a r o = (s.openings + 1, o.reply_is, omega arith)
 ends_behind : (history before later : List Entry) (opening : Entry) → IsLegal history → (state_of history).open_round ≡ None → history ≡ before ++ opening ∷ later → is_opening opening.reply ≡ true → has_end later ≡ true
 ends_behind history before later opening legal none parts opening_too =
     let whole : IsLegal (before ++ opening ∷ later) = subst IsLegal parts legal in
-    let first_legal = legal_rest (reverse later) (opening ∷ reverse before) (subst IsLegalPast (reverse_parts before later opening) whole) in
+    let first_legal = legal_first before later opening whole in
     let told = opened_as (state_of before) opening.act opening.reply (opens (state_of before) _ opening.caller opening.act opening.reply first_legal.0 opening_too) in
     ⊎_elim
     (λ some. some)

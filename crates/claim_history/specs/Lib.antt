@@ -9,3 +9,4 @@ pub mod Rounds
 pub mod Laws
 pub mod Register
 pub mod Needs
+pub mod Bounds

@@ -163,8 +163,7 @@ fn is_payment(amount: u64) -> bool
     1 <= amount && is_cents(amount)
 }
 
-/// Two valid acts that are no publications have two texts, so an act that is written is read back to the same act. A law, which
-/// does nothing when it is called.
+/// Two valid acts that are no publications have two texts. A law, which does nothing when it is called.
 pub fn each_act_has_its_own_text()
     ensures law { ActTextsLaw }
 {}

@@ -75,10 +75,10 @@ impl Day {
         let date = self.date();
         let year = date.year as u16;
         // Century, year, month and day have two digits each.
-        let [c1, c2] = written((year / 100) as u8);
-        let [y1, y2] = written((year % 100) as u8);
-        let [m1, m2] = written(date.month);
-        let [d1, d2] = written(date.day);
+        let [c1, c2] = two_digits((year / 100) as u8);
+        let [y1, y2] = two_digits((year % 100) as u8);
+        let [m1, m2] = two_digits(date.month);
+        let [d1, d2] = two_digits(date.day);
         put(buffer, &[c1, c2, y1, y2, b'-', m1, m2, b'-', d1, d2]);
     }
 
@@ -142,7 +142,7 @@ fn read_two(tens: u8, ones: u8) -> Option<u8>
 }
 
 // A number below 100 as two digits.
-fn written(number: u8) -> [u8; 2]
+fn two_digits(number: u8) -> [u8; 2]
     requires { number < 100 }
     ensures { result ≡ two_digits number }
 {

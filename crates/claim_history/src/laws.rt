@@ -1,6 +1,7 @@
 //! What holds of every legal history. Each of these calls does nothing.
 ghost use Rattle.claim_history.specs.Laws.{ActsLaw, CutLaw, OneCutLaw, OpenLaw, NoneOpenLaw, GrowthLaw, ReplayLaw, LimitsLaw, FormulasLaw, SizesLaw, RepliesLaw, FrozenLaw, OwnedLaw, PublicationLaw, GreatestLaw, OpeningsLaw};
 ghost use Rattle.claim_history.specs.Needs.{RoomLaw, EndingsLaw, RecordsLaw, UseLaw, CallsLaw, NeedsLaw, FullLaw};
+ghost use Rattle.claim_history.specs.Bounds.{CutBoundLaw, UseBoundLaw};
 ghost use Rattle.claim_history.specs.Register.{FullRegister};
 
 /// What a history comes to is that of its entries: its acts are the accepted ones, newest first, and its open round has the cut
@@ -80,6 +81,13 @@ pub fn use_is_counted()
     ensures calls { CallsLaw }
     ensures needs { NeedsLaw }
     ensures full { FullLaw }
+{}
+
+/// The calls bound what a history uses, whatever their replies: an entry for each, and the bytes of their records. They bound the
+/// cut of each round too: it has at most as many claims as calls file one, and as many parties as calls register a firm.
+pub fn calls_bound_use_and_cuts()
+    ensures use_of_calls { UseBoundLaw }
+    ensures cut { CutBoundLaw }
 {}
 
 /// Where 262,143 claims were filed, two registered firms may file one more, and where 262,144 were, the next one is

@@ -152,7 +152,13 @@ fn bad_lines(rt: HostRuntime) {
     }
 }
 
-fn many_lines(alloc: Global, parties: u32, claims: u32) -> Result<Vec<u8>, AllocError> {
+// A statement of so many parties and claims, with one more line before its end.
+fn many_lines(
+    alloc: Global,
+    parties: u32,
+    claims: u32,
+    more: &[u8],
+) -> Result<Vec<u8>, AllocError> {
     let mut text = Vec::new(alloc);
     text.extend_from_slice(b"ROUND 1 PLAIN\n")?;
     for k in 0..parties {
@@ -163,18 +169,30 @@ fn many_lines(alloc: Global, parties: u32, claims: u32) -> Result<Vec<u8>, Alloc
         let line = format!(in alloc; "CLAIM F-1 I-{k} F-0 1.00 0.50\n")?;
         text.extend_from_slice(line.as_bytes())?;
     }
+    text.extend_from_slice(more)?;
     text.extend_from_slice(b"END\n")?;
     Ok(text)
 }
 
 #[test]
 fn limits(rt: HostRuntime) {
-    let most = many_lines(rt.alloc(), 16_384, 262_144).expect(&rt, "memory");
+    let most = many_lines(rt.alloc(), 16_384, 262_144, b"").expect(&rt, "memory");
     assert!(rt; read_statement(rt.alloc(), &most).is_ok());
-    let parties = many_lines(rt.alloc(), 16_385, 0).expect(&rt, "memory");
-    assert!(rt; bad_line(rt.alloc(), &parties) == Some((16_386, Limit)));
-    let claims = many_lines(rt.alloc(), 2, 262_145).expect(&rt, "memory");
-    assert!(rt; bad_line(rt.alloc(), &claims) == Some((262_148, Limit)));
+    // The limit comes before all that a line repeats or does not name.
+    let parties: [&[u8]; 2] = [b"PARTY G 0.00 0.00 0\n", b"PARTY F-0 0.00 0.01 0\n"];
+    for line in parties {
+        let text = many_lines(rt.alloc(), 16_384, 0, line).expect(&rt, "memory");
+        assert!(rt; bad_line(rt.alloc(), &text) == Some((16_386, Limit)));
+    }
+    let claims: [&[u8]; 3] = [
+        b"CLAIM F-1 J F-0 1.00 0.50\n",
+        b"CLAIM F-1 I-0 F-0 1.00 0.50\n",
+        b"CLAIM F-1 J G 1.00 0.50\n",
+    ];
+    for line in claims {
+        let text = many_lines(rt.alloc(), 2, 262_144, line).expect(&rt, "memory");
+        assert!(rt; bad_line(rt.alloc(), &text) == Some((262_148, Limit)));
+    }
 }
 
 #[test]
