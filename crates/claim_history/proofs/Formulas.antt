@@ -1,11 +1,14 @@
 -- The words of the limits, and the tests of the refusals, are the formulas that they are named for.
 use Rattle.std.specs.Int.{int_min}
-use Rattle.std.specs.Prelude.{min, pos, neg_ℤ, ◌+ℤ◌, ◌-ℤ◌, ◌<ℤ◌, ◌↔◌}
-use Rattle.std.proofs.Common.{◌≡◌, ℕ, ◌+◌, ◌-◌, ◌≤◌, Bool, true, ◌&&◌, nat_lt, nat_le, ap₂, arith}
+use Rattle.std.specs.Prelude.{pos, neg_ℤ, ◌+ℤ◌, ◌-ℤ◌, ◌<ℤ◌, ◌↔◌}
+use Rattle.std.proofs.Common.{◌≡◌, ℕ, ◌+◌, ◌≤◌, List, Bool, true, ◌&&◌, nat_lt, nat_le, ap₂, arith}
 use Rattle.std.proofs.lemmas.Int.{ints, clamps}
 use Rattle.std.proofs.lemmas.Bool.{leb-true, le-leb, ltb-true, lt-ltb}
-use Rattle.claim_history.specs.Facts.{gained, limits_of, offer_of, spent}
-use Rattle.claim_history.specs.Laws.{FormulasLaw, IsWithin}
+use Rattle.setoff_model.specs.declared.kind.Kind.TheVariants.{Funded}
+use Rattle.setoff_model.proofs.Windowed.{window_law}
+use Rattle.claim_history.specs.Facts.{Ledger, balance_of, gained, limits_of, offer_of, spent}
+use Rattle.claim_history.specs.Cut.{party_of}
+use Rattle.claim_history.specs.Laws.{FormulasLaw, IsWithin, KeepLimits}
 use Rattle.claim_history.proofs.Rows.{and_true}
 
 range : (g s c k : ℕ) → ((s ≤ g + c) × (g ≤ k + s)) ↔ IsWithin c k (pos g -ℤ pos s)
@@ -23,11 +26,10 @@ are_kept g s c k = (
   λ h. let both = (range g s c k).1 h in ap₂ (λ (x y : Bool). x && y) (le-leb _ _ both.0) (le-leb _ _ both.1),
 )
 
-room_is : (g s k : ℕ) → g ≤ k + s → pos (k + s - g) ≡ pos k -ℤ (pos g -ℤ pos s)
-room_is g s k le = omega (arith, ints, clamps, le)
-
-spend_is : (g s c o : ℕ) → s ≤ g + c → pos (min o (g + c - s)) ≡ int_min (pos o) ((pos g -ℤ pos s) +ℤ pos c)
-spend_is g s c o le = omega (arith, ints, clamps, le)
+-- the window of the firm's account is that of its balance
+windows_are : (l : Ledger) (firm : List ℕ) → KeepLimits l → (pos (party_of l Funded firm).spend ≡ int_min (pos (offer_of l firm)) (balance_of l firm +ℤ pos (limits_of l firm).credit))
+    × (pos (party_of l Funded firm).room ≡ pos (limits_of l firm).ceiling -ℤ balance_of l firm)
+windows_are l firm keep = window_law (gained l firm) (spent l firm) (limits_of l firm).credit (limits_of l firm).ceiling (offer_of l firm) (keep firm).0 (keep firm).1
 
 pub formulas_law : FormulasLaw
 formulas_law = record {
@@ -35,7 +37,7 @@ formulas_law = record {
   left = λ l key keep. omega (arith, keep key);
   over_ceiling = λ l firm amount. is_over (gained l firm) (spent l firm) (limits_of l firm).ceiling amount;
   below_floor = λ l firm amount. is_below (gained l firm) (spent l firm) (limits_of l firm).credit amount;
-  room = λ l firm keep. room_is (gained l firm) (spent l firm) (limits_of l firm).ceiling (keep firm).1;
-  spend = λ l firm keep. spend_is (gained l firm) (spent l firm) (limits_of l firm).credit (offer_of l firm) (keep firm).0;
+  room = λ l firm keep. (windows_are l firm keep).1;
+  spend = λ l firm keep. (windows_are l firm keep).0;
   new_limits = λ l firm credit ceiling. are_kept (gained l firm) (spent l firm) credit ceiling;
 }

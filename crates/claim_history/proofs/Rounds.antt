@@ -58,17 +58,13 @@ due_is_frozen l horizon firms f e =
     let parts = and_true (is_confirmed (status_of l f.key)) (nat_le 1 (left_of l f.key)) both.0 in
     (confirmed_is (status_of l f.key) parts.0, refl, leb-true 1 (left_of l f.key) parts.1)
 
-party_again : (l : Ledger) (kind : Kind) (firm : List ℕ) → party_of l kind (party_of l kind firm).firm ≡ party_of l kind firm
-party_again l Plain firm = refl
-party_again l Funded firm = refl
-
 -- the cut that is made now is frozen now
 pub cut_is_frozen : (n : ℕ) (l : Ledger) (kind : Kind) (horizon : ℕ) → IsFrozen l (cut_of n l kind horizon)
 cut_is_frozen n l kind horizon =
     let firms = firms_of (due_claims l horizon) in (
       All-map (IsFrozenClaim l) (cut_claim l firms) (due_claims l horizon)
           (All-weaker (λ f. is_due l horizon f ≡ true) (λ f. IsFrozenClaim l (cut_claim l firms f)) (due_is_frozen l horizon firms) (due_claims l horizon) (filter_passes (is_due l horizon) (reverse (filings l)))),
-      All-map (λ p. party_of l kind p.firm ≡ p) (party_of l kind) firms (λ k d lt. party_again l kind (slice_index_or firms k d)),
+      All-map (λ p. party_of l kind p.firm ≡ p) (party_of l kind) firms (λ k d lt. refl),
     )
 
 pub close_keeps : (l : Ledger) (n : ℕ) (o : Option OpenRound) (caller : ℕ) (kind : Kind) (horizon : ℕ) → Holds (at_state l n o) → Holds (after caller (act.Close kind horizon) (close_answer n o caller kind horizon) (at_state l n o))
