@@ -1,4 +1,11 @@
 //! Requests as text.
+//!
+//! A line is a request: a lane, a verb and its fields, with single spaces between them. It ends at a line feed, or at a carriage
+//! return and a line feed; the last line may end with the input. The lane is 1, and all lines are one batch.
+//!
+//! - A text has one reading, or is refused with the number of its first bad line.
+//! - What is written of acts is read back as requests of these acts.
+//! - The cause that is told is the first in the order of `LineCause` that applies. This is tested and not proved.
 #![tactic(auto)]
 
 ghost use Rattle.request_text.specs.Grammar.{ReadBackLaw};
