@@ -8,6 +8,7 @@ use Rattle.std.proofs.lemmas.List.Sums.{sum_by_more_le, sum_by-le}
 use Rattle.std.proofs.lemmas.List.Elements.{All-from_get_or}
 use Rattle.std.proofs.lemmas.List.{get_or-map}
 use Rattle.std.specs.List.{All}
+use Rattle.setoff_model.specs.Limits.{most_claims, most_amount}
 use Rattle.setoff_model.specs.CutView.{amounts}
 use Rattle.setoff_model.specs.declared.cut.CutClaim.{CutClaim}
 use Rattle.setoff_model.specs.Sums.{above_zero}
@@ -48,9 +49,9 @@ claims_bound_more n debtors creditors amounts p b x y u k ex ey eu eb ek =
     rw (add-one, ex, ey, eu, eb, ek) refl
 
 -- discharges within their claims sum up to less than 2 ^ 64
-pub sum_fits : (claims : List CutClaim) (d : List ℕ) → length d ≡ length claims → length claims ≤ 262144 → All (λ c. c.amount ≤ 999999999999) claims →
+pub sum_fits : (claims : List CutClaim) (d : List ℕ) → length d ≡ length claims → length claims ≤ most_claims → All (λ c. c.amount ≤ most_amount) claims →
     ((k : ℕ) → k < length claims → slice_index d k ≤ slice_index (amounts claims) k) → sum d < 18446744073709551616
 sum_fits claims d same few limit within =
-    let small : (k : ℕ) → k < length d → get_or d k 0 ≤ 999999999999 =
+    let small : (k : ℕ) → k < length d → get_or d k 0 ≤ most_amount =
     λ k h. let in' : k < length claims = omega arith in omega (arith, within k in', get_or-map (λ c. c.amount) claims k no_claim 0 in', limit k no_claim in') in
-    omega (arith, sum_by-le (λ x. x) 999999999999 d (All-from_get_or (λ x. x ≤ 999999999999) d 0 small))
+    omega (arith, sum_by-le (λ x. x) most_amount d (All-from_get_or (λ x. x ≤ most_amount) d 0 small))

@@ -1,12 +1,13 @@
 //! The tests of a set-off, over the columns of a cut and of an outcome.
 ghost use Rattle.std.specs.Prelude.{◌≡◌, ◌+◌, ◌*◌, ◌<◌, ◌≤◌, ◌^◌, ℕ, pos, ◌+ℤ◌, ◌-ℤ◌, length, sum, slice_index, unsigned_abs, All, MatchOption, if◌then◌else◌, ◌==◌};
+ghost use Rattle.setoff_model.specs.Limits.{most_firms, most_claims, most_amount, most_window};
 ghost use Rattle.setoff_model.specs.Sums.{sum_below, above_zero};
-ghost use Rattle.setoff_model.specs.Setoff.{window_worth, price_at, total_of, flow_at, InWindow, claims_bound, parties_bound};
+ghost use Rattle.setoff_model.specs.Setoff.{window_worth, price_at, flow_at, InWindow, claims_bound, parties_bound};
 ghost use Rattle.setoff_model.specs.CutView.{debtors, creditors, amounts, spends, rooms, IsClaimAmong, obligations_of};
 ghost use Rattle.setoff_checker.specs.Verdicts.{IsVerdictOn};
 
 use crate::verdict::Verdict;
-use setoff_model::{CutClaim, Party};
+use setoff_model::{CutClaim, Party, sum_of};
 
 // The verdict on discharges and prices.
 pub(crate) fn judge(
@@ -17,11 +18,11 @@ pub(crate) fn judge(
     inflows: &mut [u64],
     outflows: &mut [u64],
 ) -> Verdict
-    requires few_parties { length parties.now ≤ 16384 }
-    requires few_claims { length claims.now ≤ 262144 }
+    requires few_parties { length parties.now ≤ most_firms }
+    requires few_claims { length claims.now ≤ most_claims }
     requires claims { All (IsClaimAmong parties.now) claims.now }
-    requires spends { All (λ f. f.spend ≤ 2000000000000000) parties.now }
-    requires rooms { All (λ f. f.room ≤ 2000000000000000) parties.now }
+    requires spends { All (λ f. f.spend ≤ most_window) parties.now }
+    requires rooms { All (λ f. f.room ≤ most_window) parties.now }
     requires inflows { length inflows.old ≡ length parties.now }
     requires outflows { length outflows.old ≡ length parties.now }
     ensures { IsVerdictOn (obligations_of parties.now claims.now) discharges.now prices.now result }
@@ -57,14 +58,6 @@ pub(crate) fn judge(
     }
 }
 
-// The sum of a list whose sum fits.
-fn sum_of(numbers: &[u64]) -> u64
-    requires { sum numbers.now < 2 ^ 64 }
-    ensures { result ≡ total_of numbers.now }
-{
-    numbers.iter().sum()
-}
-
 // The first claim whose discharge is above its amount.
 fn first_over(claims: &[CutClaim], discharges: &[u64]) -> Option<usize>
     requires { length discharges.now ≡ length claims.now }
@@ -80,10 +73,10 @@ fn first_over(claims: &[CutClaim], discharges: &[u64]) -> Option<usize>
 
 // 1 + the debtor's price - the creditor's, or 0 where that is negative.
 fn factor_of(debtor: i64, creditor: i64) -> u64
-    requires debtor { unsigned_abs debtor ≤ 16384 }
-    requires creditor { unsigned_abs creditor ≤ 16384 }
+    requires debtor { unsigned_abs debtor ≤ most_firms }
+    requires creditor { unsigned_abs creditor ≤ most_firms }
     ensures value { result ≡ above_zero ((pos 1 +ℤ debtor) -ℤ creditor) }
-    ensures limit { result ≤ 32769 }
+    ensures limit { result ≤ 2 * most_firms + 1 }
 {
     let factor = 1 + debtor - creditor;
     if factor > 0 { factor as u64 } else { 0 }
@@ -91,11 +84,11 @@ fn factor_of(debtor: i64, creditor: i64) -> u64
 
 // The larger of price * room and -price * spend.
 fn worth_of(price: i64, spend: u64, room: u64) -> u128
-    requires price { unsigned_abs price ≤ 16384 }
-    requires spend { spend ≤ 2000000000000000 }
-    requires room { room ≤ 2000000000000000 }
+    requires price { unsigned_abs price ≤ most_firms }
+    requires spend { spend ≤ most_window }
+    requires room { room ≤ most_window }
     ensures value { result ≡ window_worth price spend room }
-    ensures limit { result ≤ 32768000000000000000 }
+    ensures limit { result ≤ most_firms * most_window }
 {
     if price < 0 {
         price.unsigned_abs() as u128 * spend as u128
@@ -152,11 +145,11 @@ fn first_far(prices: &[i64], limit: u64) -> Option<usize>
 
 // The part of the bound that the claims add.
 fn bound_of_claims(claims: &[CutClaim], prices: &[i64]) -> u128
-    requires few { length claims.now ≤ 262144 }
-    requires amounts { All (λ c. c.amount ≤ 999999999999) claims.now }
+    requires few { length claims.now ≤ most_claims }
+    requires amounts { All (λ c. c.amount ≤ most_amount) claims.now }
     requires creditors { All (λ c. c.creditor < length prices.now) claims.now }
     requires debtors { All (λ c. c.debtor < length prices.now) claims.now }
-    requires prices { (f : ℕ) → f < length prices.now → unsigned_abs (price_at prices.now f) ≤ 16384 }
+    requires prices { (f : ℕ) → f < length prices.now → unsigned_abs (price_at prices.now f) ≤ most_firms }
     ensures value { result ≡ claims_bound (length claims.now) (debtors claims.now) (creditors claims.now) (amounts claims.now) prices.now }
     ensures limit { result < 2 ^ 73 }
 {
@@ -173,11 +166,11 @@ fn bound_of_claims(claims: &[CutClaim], prices: &[i64]) -> u128
 
 // The part of the bound that the windows add.
 fn bound_of_parties(parties: &[Party], prices: &[i64]) -> u128
-    requires few { length parties.now ≤ 16384 }
+    requires few { length parties.now ≤ most_firms }
     requires price_each { length prices.now ≡ length parties.now }
-    requires spends { All (λ f. f.spend ≤ 2000000000000000) parties.now }
-    requires rooms { All (λ f. f.room ≤ 2000000000000000) parties.now }
-    requires prices { (f : ℕ) → f < length prices.now → unsigned_abs (price_at prices.now f) ≤ 16384 }
+    requires spends { All (λ f. f.spend ≤ most_window) parties.now }
+    requires rooms { All (λ f. f.room ≤ most_window) parties.now }
+    requires prices { (f : ℕ) → f < length prices.now → unsigned_abs (price_at prices.now f) ≤ most_firms }
     ensures value { result ≡ parties_bound (length parties.now) (spends parties.now) (rooms parties.now) prices.now }
     ensures limit { result < 2 ^ 79 }
 {

@@ -114,6 +114,30 @@ fn judges_a_triangle(rt: HostRuntime) {
     }
 }
 
+// A owes B 100.00, and B owes C 100.00. No balance may change.
+fn open_chain(alloc: Global, firms: [Name; 3]) -> Result<Cut, AllocError> {
+    let [a, b, c] = firms;
+    let parties = vec![in alloc; party(a, 0, 0), party(b, 0, 0), party(c, 0, 0)]?;
+    let claims = vec![in alloc; claim(b, 0, 1, 10_000), claim(c, 1, 2, 10_000)]?;
+    Ok(Cut::new(1, Kind::Plain, parties, claims))
+}
+
+#[test]
+fn a_chain_without_a_cycle_discharges_nothing(rt: HostRuntime) {
+    let a = Name::of(b"A").expect(&rt, "a name");
+    let b = Name::of(b"B").expect(&rt, "a name");
+    let c = Name::of(b"C").expect(&rt, "a name");
+    let cut = open_chain(rt.alloc(), [a, b, c]).expect(&rt, "memory");
+    let cases: [(&[u64], Verdict); 2] = [
+        (&[0, 0], Verdict::Greatest { total: 0 }),
+        (&[10_000, 10_000], Verdict::OutsideWindow { party: 0 }),
+    ];
+    for (discharges, want) in cases {
+        let got = verdict_on(rt.alloc(), &cut, discharges, &[0, 1, 2]).expect(&rt, "memory");
+        assert!(rt; got == Some(want));
+    }
+}
+
 #[test]
 fn judges_a_funded_chain(rt: HostRuntime) {
     let a = Name::of(b"A").expect(&rt, "a name");
