@@ -1,6 +1,7 @@
 -- A sink in memory, and what a write leaves of it.
 use Rattle.std.specs.Prelude.{ℕ, List, ◌++◌, if◌then◌else◌}
-use Rattle.bureau_edge.specs.Calls.{next_count, is_to_fail}
+use Rattle.fault_count.specs.Counts.{next_count}
+use Rattle.bureau_edge.specs.Calls.{is_to_fail}
 
 -- the bytes that it holds, the numbers of the calls that fail, and how many calls, faults and refused growths there were
 pub record SinkState : Type 0 where

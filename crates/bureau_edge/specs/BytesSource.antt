@@ -1,6 +1,6 @@
 -- A source in memory, and what a read leaves of it.
 use Rattle.std.specs.Prelude.{ℕ, List, drop}
-use Rattle.bureau_edge.specs.Calls.{next_count}
+use Rattle.fault_count.specs.Counts.{next_count}
 
 -- the bytes that are left, the numbers of the calls that fail, and how many calls and faults there were
 pub record SourceState : Type 0 where

@@ -1,12 +1,13 @@
 //! A sink in memory that fails where it is told to.
 ghost use Rattle.std.specs.Prelude.{◌≡◌, ◌<◌, ◌≤◌, [], length, true, IfOk, IsErr, OnErr, OnOk};
 ghost use Rattle.std.specs.Io.KnownBytes.{WriteAppends};
-ghost use Rattle.bureau_edge.specs.Causes.{HasCause};
+ghost use Rattle.fault_count.specs.Counts.{IsCounted};
 ghost use Rattle.bureau_edge.specs.Calls.{is_to_fail};
 ghost use Rattle.bureau_edge.specs.BytesSink.{after_write, after_failed_write};
 
 use crate::failed::Failed;
 use crate::sink::Sink;
+use fault_count::next_count;
 use std::alloc::Global;
 use std::marker::Model;
 
@@ -73,23 +74,23 @@ impl Sink for BytesSink {
         ensures some { IfOk result (λ count. 0 < count) }
         ensures bound { IfOk result (λ count. count ≤ length piece.now) }
         ensures bytes { WriteAppends (Some self.old.held) (Some self.new.held) result piece.now }
-        ensures cause { HasCause self.old.faults self.new.faults result }
+        ensures cause { IsCounted self.old.faults self.new.faults result }
 
         ensures whole { IfOk result (λ count. count ≡ length piece.now) }
         ensures ok { OnOk result (self.new ≡ after_write piece.now self.old) }
         ensures named { is_to_fail self.old.fails self.old.calls ≡ true → IsErr result }
         ensures err { OnErr result (self.new ≡ after_failed_write self.old) }
     {
-        self.calls = self.calls.saturating_add(1);
+        self.calls = next_count(self.calls);
         if self.fails.contains(&self.calls) {
-            self.faults = self.faults.saturating_add(1);
+            self.faults = next_count(self.faults);
             return Err(Failed);
         }
         match self.bytes.extend_from_slice(piece) {
             Ok(()) => Ok(piece.len()),
             Err(_) => {
-                self.refused = self.refused.saturating_add(1);
-                self.faults = self.faults.saturating_add(1);
+                self.refused = next_count(self.refused);
+                self.faults = next_count(self.faults);
                 Err(Failed)
             }
         }

@@ -2,13 +2,14 @@
 ghost use Rattle.std.specs.Prelude.{◌≡◌, ◌↔◌, true, length, min, IfOk, IsErr, OnErr};
 ghost use Rattle.std.specs.Io.{ReadsAtMost};
 ghost use Rattle.std.specs.Io.KnownBytes.{ReadConsumes};
-ghost use Rattle.bureau_edge.specs.Causes.{HasCause};
+ghost use Rattle.fault_count.specs.Counts.{IsCounted};
 ghost use Rattle.bureau_edge.specs.Calls.{is_to_fail};
 ghost use Rattle.bureau_edge.specs.BytesSource.{after_read, after_failed_read};
 
 use crate::failed::Failed;
 use crate::source::Source;
 use crate::sure_source::SureSource;
+use fault_count::next_count;
 use std::marker::Model;
 
 /// Bytes in memory that are read with faults at chosen calls. Contracts see the bytes that are
@@ -56,16 +57,16 @@ impl Source for BytesSource {
     fn read(&mut self, into: &mut [u8]) -> Result<usize, Failed>
         ensures bound { ReadsAtMost result into.new }
         ensures bytes { ReadConsumes (Some self.old.left) (Some self.new.left) result into.new }
-        ensures cause { HasCause self.old.faults self.new.faults result }
+        ensures cause { IsCounted self.old.faults self.new.faults result }
 
         ensures named { IsErr result ↔ (is_to_fail self.old.fails self.old.calls ≡ true) }
         ensures taken { IfOk result (λ count. count ≡ min (length self.old.left) (length into.old)) }
         ensures ok { IfOk result (λ count. self.new ≡ after_read count self.old) }
         ensures err { OnErr result (self.new ≡ after_failed_read self.old) }
     {
-        self.calls = self.calls.saturating_add(1);
+        self.calls = next_count(self.calls);
         if self.fails.contains(&self.calls) {
-            self.faults = self.faults.saturating_add(1);
+            self.faults = next_count(self.faults);
             return Err(Failed);
         }
         self.source.read(into)

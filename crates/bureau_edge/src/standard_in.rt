@@ -2,12 +2,12 @@
 ghost use Rattle.std.specs.Prelude.{◌≡◌, OnOk, OnErr};
 ghost use Rattle.std.specs.Io.{ReadsAtMost};
 ghost use Rattle.std.specs.Io.KnownBytes.{ReadConsumes};
-ghost use Rattle.bureau_edge.specs.Calls.{next_count};
-ghost use Rattle.bureau_edge.specs.Causes.{HasCause};
+ghost use Rattle.fault_count.specs.Counts.{IsCounted, next_count};
 
 use crate::failed::Failed;
 use crate::interrupts::read_again;
 use crate::source::Source;
+use fault_count::next_count;
 use std::io::{Input, Read};
 use std::marker::Model;
 
@@ -49,7 +49,7 @@ impl<I: Read> Source for StandardIn<I> {
     fn read(&mut self, into: &mut [u8]) -> Result<usize, Failed>
         ensures bound { ReadsAtMost result into.new }
         ensures bytes { ReadConsumes (I.remaining self.old.device) (I.remaining self.new.device) result into.new }
-        ensures cause { HasCause self.old.faults self.new.faults result }
+        ensures cause { IsCounted self.old.faults self.new.faults result }
 
         ensures ok { OnOk result (self.new.faults ≡ self.old.faults) }
         ensures err { OnErr result (self.new.faults ≡ next_count self.old.faults) }
@@ -57,7 +57,7 @@ impl<I: Read> Source for StandardIn<I> {
         match read_again(&mut self.reader, into) {
             Ok(count) => Ok(count),
             Err(_) => {
-                self.faults = self.faults.saturating_add(1);
+                self.faults = next_count(self.faults);
                 Err(Failed)
             }
         }

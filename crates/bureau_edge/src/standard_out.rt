@@ -1,12 +1,12 @@
 //! Standard output.
 ghost use Rattle.std.specs.Prelude.{◌≡◌, ◌<◌, ◌≤◌, None, length, take, IfOk, IfSome, OnOk, OnErr};
 ghost use Rattle.std.specs.Io.KnownBytes.{Appends, WriteAppends};
-ghost use Rattle.bureau_edge.specs.Calls.{next_count};
-ghost use Rattle.bureau_edge.specs.Causes.{HasCause};
+ghost use Rattle.fault_count.specs.Counts.{IsCounted, next_count};
 
 use crate::failed::Failed;
 use crate::interrupts::{flush_again, write_again};
 use crate::sink::Sink;
+use fault_count::next_count;
 use std::io::{self, Print, Printer, Write};
 use std::marker::Model;
 
@@ -50,7 +50,7 @@ impl<W: Write> Sink for StandardOut<W> {
         ensures some { IfOk result (λ count. 0 < count) }
         ensures bound { IfOk result (λ count. count ≤ length piece.now) }
         ensures bytes { WriteAppends None None result piece.now }
-        ensures cause { HasCause self.old.faults self.new.faults result }
+        ensures cause { IsCounted self.old.faults self.new.faults result }
 
         ensures ok { OnOk result (self.new.faults ≡ self.old.faults) }
         ensures taken { IfOk result (λ count. Appends (W.contents self.old.device) (W.contents self.new.device) (take count piece.now)) }
@@ -59,7 +59,7 @@ impl<W: Write> Sink for StandardOut<W> {
         match write_through(&mut self.writer, piece) {
             Some(count) => Ok(count),
             None => {
-                self.faults = self.faults.saturating_add(1);
+                self.faults = next_count(self.faults);
                 Err(Failed)
             }
         }

@@ -2,7 +2,7 @@
 ghost use Rattle.std.specs.Prelude.{◌≡◌, ◌++◌, length, min, take, drop};
 ghost use Rattle.std.specs.Io.{ReadsAtMost};
 ghost use Rattle.std.specs.Io.KnownBytes.{ReadConsumes};
-ghost use Rattle.bureau_edge.specs.Causes.{HasCause};
+ghost use Rattle.fault_count.specs.Counts.{IsCounted};
 
 use crate::failed::Failed;
 use crate::source::Source;
@@ -45,7 +45,7 @@ impl Source for SureSource {
     fn read(&mut self, into: &mut [u8]) -> Result<usize, Failed>
         ensures bound { ReadsAtMost result into.new }
         ensures bytes { ReadConsumes (Some self.old) (Some self.new) result into.new }
-        ensures cause { HasCause 0 0 result }
+        ensures cause { IsCounted 0 0 result }
         ensures sure { result ≡ Ok (min (length self.old) (length into.old)) }
         ensures rest { self.new ≡ drop (length into.old) self.old }
     {

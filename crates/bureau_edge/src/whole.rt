@@ -1,6 +1,6 @@
 //! Reading a source to its end.
 ghost use Rattle.std.specs.Prelude.{◌≡◌, ◌≤◌, IfOk, IfErr};
-ghost use Rattle.bureau_edge.specs.Causes.{Rose};
+ghost use Rattle.fault_count.specs.Counts.{HasRisen};
 ghost use Rattle.bureau_edge.specs.Streams.{EndsReading, TakesAll};
 
 use crate::failed::Failed;
@@ -47,7 +47,7 @@ pub fn read_whole<S: Source>(alloc: Global, source: &mut S, limit: u64) -> Resul
     ensures all { IfOk result (λ v. TakesAll limit (S.left source.old) (S.left source.new) v.items) }
     ensures end { IfErr result (EndsReading limit (S.left source.old) (S.left source.new)) }
     ensures later { S.faults source.old ≤ S.faults source.new }
-    ensures failed { IfErr result (λ e. e ≡ ReadEnd.Failed → Rose (S.faults source.old) (S.faults source.new)) }
+    ensures failed { IfErr result (λ e. e ≡ ReadEnd.Failed → HasRisen (S.faults source.old) (S.faults source.new)) }
 {
     let mut bytes = Vec::new(alloc);
     let mut piece = [0; 4096];

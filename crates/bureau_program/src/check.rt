@@ -1,7 +1,7 @@
 //! The words `check`: from the bytes of a statement to the line of its verdict.
 ghost use Rattle.std.specs.Prelude.{◌≡◌, ◌≢◌};
 ghost use Rattle.std.specs.Str.Lines.{lines};
-ghost use Rattle.bureau_edge.specs.Causes.{Rose};
+ghost use Rattle.fault_count.specs.Counts.{HasRisen};
 ghost use Rattle.statement_text.specs.Statements as statements;
 ghost use Rattle.printed_text.specs.Writing.{Wrote};
 ghost use Rattle.bureau_program.specs.Headline.{IsCheckDue};
@@ -23,7 +23,7 @@ fn check_statement<K: Sink>(
 ) -> u8
     requires { statements.IsStatement (lines input.now) cut.now outcome.now }
     ensures wrote { Wrote (IsCheckDue input.now) (K.held sink.old) (K.held sink.new) result }
-    ensures write_fault { result ≡ 4 → Rose (K.faults sink.old) (K.faults sink.new) }
+    ensures write_fault { result ≡ 4 → HasRisen (K.faults sink.old) (K.faults sink.new) }
     ensures no_read_fault { result ≢ 3 }
 {
     let Ok(mut checker) = Checker::for_cut(alloc, cut) else {
@@ -48,7 +48,7 @@ fn tell_bad_statement<K: Sink>(
     requires first { statements.IsFirstBadLine (lines input.now) line }
     requires none { statements.IsNoStatement (lines input.now) }
     ensures wrote { Wrote (IsCheckDue input.now) (K.held sink.old) (K.held sink.new) result }
-    ensures write_fault { result ≡ 4 → Rose (K.faults sink.old) (K.faults sink.new) }
+    ensures write_fault { result ≡ 4 → HasRisen (K.faults sink.old) (K.faults sink.new) }
     ensures no_read_fault { result ≢ 3 }
 {
     let Ok(mut buffer) = Vec::with_capacity(alloc, 200) else {
@@ -61,7 +61,7 @@ fn tell_bad_statement<K: Sink>(
 /// Reads a statement from an input, judges it, and prints the verdict.
 pub fn check_input<K: Sink>(alloc: Global, input: &[u8], sink: &mut K) -> u8
     ensures wrote { Wrote (IsCheckDue input.now) (K.held sink.old) (K.held sink.new) result }
-    ensures write_fault { result ≡ 4 → Rose (K.faults sink.old) (K.faults sink.new) }
+    ensures write_fault { result ≡ 4 → HasRisen (K.faults sink.old) (K.faults sink.new) }
     ensures no_read_fault { result ≢ 3 }
 {
     match read_statement(alloc, input) {

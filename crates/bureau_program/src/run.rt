@@ -1,6 +1,6 @@
 //! The words `run`: from the bytes of an input to the entries and their text.
 ghost use Rattle.std.specs.Prelude.{◌≡◌, ◌≢◌, ◌≤◌, ◌+◌, [], true, All, length, vec_len, vec_capacity};
-ghost use Rattle.bureau_edge.specs.Causes.{Rose};
+ghost use Rattle.fault_count.specs.Counts.{HasRisen};
 ghost use Rattle.claim_history.specs.Acts.{is_request};
 ghost use Rattle.request_text.specs.Grammar.{IsFirstBadLine, IsNoRequestText};
 ghost use Rattle.printed_text.specs.Printing.{cuts_of};
@@ -28,7 +28,7 @@ fn print_served<K: Sink>(
     requires empty { buffer.old.items ≡ [] }
     requires spare { 65536 ≤ vec_capacity buffer.old }
     ensures wrote { Wrote (IsServedRun requests.now) (K.held sink.old) (K.held sink.new) result }
-    ensures write_fault { result ≡ 4 → Rose (K.faults sink.old) (K.faults sink.new) }
+    ensures write_fault { result ≡ 4 → HasRisen (K.faults sink.old) (K.faults sink.new) }
     ensures no_read_fault { result ≢ 3 }
 {
     limits_hold();
@@ -50,7 +50,7 @@ fn print_served<K: Sink>(
 fn run_requests<K: Sink>(alloc: Global, requests: &[Request], sink: &mut K) -> u8
     requires { All (λ r. is_request r.act ≡ true) requests.now }
     ensures wrote { Wrote (IsBatchDue requests.now) (K.held sink.old) (K.held sink.new) result }
-    ensures write_fault { result ≡ 4 → Rose (K.faults sink.old) (K.faults sink.new) }
+    ensures write_fault { result ≡ 4 → HasRisen (K.faults sink.old) (K.faults sink.new) }
     ensures no_read_fault { result ≢ 3 }
 {
     let Ok(mut buffer) = output_buffer(alloc) else {
@@ -73,7 +73,7 @@ fn tell_bad_line<K: Sink>(
     requires first { IsFirstBadLine input.now line }
     requires none { IsNoRequestText input.now }
     ensures wrote { Wrote (IsRunDue input.now) (K.held sink.old) (K.held sink.new) result }
-    ensures write_fault { result ≡ 4 → Rose (K.faults sink.old) (K.faults sink.new) }
+    ensures write_fault { result ≡ 4 → HasRisen (K.faults sink.old) (K.faults sink.new) }
     ensures no_read_fault { result ≢ 3 }
 {
     let Ok(mut buffer) = Vec::with_capacity(alloc, 200) else {
@@ -86,7 +86,7 @@ fn tell_bad_line<K: Sink>(
 /// Reads requests from an input, serves them, and prints what came of it.
 pub fn run_input<K: Sink>(alloc: Global, input: &[u8], sink: &mut K) -> u8
     ensures wrote { Wrote (IsRunDue input.now) (K.held sink.old) (K.held sink.new) result }
-    ensures write_fault { result ≡ 4 → Rose (K.faults sink.old) (K.faults sink.new) }
+    ensures write_fault { result ≡ 4 → HasRisen (K.faults sink.old) (K.faults sink.new) }
     ensures no_read_fault { result ≢ 3 }
 {
     match read_requests(alloc, input) {

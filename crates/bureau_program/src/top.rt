@@ -1,6 +1,6 @@
 //! The top call: words, source and sink.
 ghost use Rattle.std.specs.Prelude.{◌≡◌, ◌≢◌, map, string_bytes};
-ghost use Rattle.bureau_edge.specs.Causes.{Rose};
+ghost use Rattle.fault_count.specs.Counts.{HasRisen};
 ghost use Rattle.printed_text.specs.Writing.{Wrote};
 ghost use Rattle.bureau_program.specs.Headline.{IsReadDue, Ran};
 ghost use Rattle.bureau_program.specs.Commands.{AreNoWords, IsInputDue};
@@ -27,7 +27,7 @@ pub struct Ended<S, K> {
 // What an input comes to for a command.
 fn answer_input<K: Sink>(alloc: Global, command: Command, input: &[u8], sink: &mut K) -> u8
     ensures wrote { Wrote (IsInputDue command input.now) (K.held sink.old) (K.held sink.new) result }
-    ensures write_fault { result ≡ 4 → Rose (K.faults sink.old) (K.faults sink.new) }
+    ensures write_fault { result ≡ 4 → HasRisen (K.faults sink.old) (K.faults sink.new) }
     ensures no_read_fault { result ≢ 3 }
 {
     match command {
@@ -44,8 +44,8 @@ fn answer_source<S: Source, K: Sink>(
     sink: &mut K,
 ) -> u8
     ensures wrote { Wrote (IsReadDue (IsInputDue command) (S.left source.old) (S.left source.new)) (K.held sink.old) (K.held sink.new) result }
-    ensures read_fault { result ≡ 3 → Rose (S.faults source.old) (S.faults source.new) }
-    ensures write_fault { result ≡ 4 → Rose (K.faults sink.old) (K.faults sink.new) }
+    ensures read_fault { result ≡ 3 → HasRisen (S.faults source.old) (S.faults source.new) }
+    ensures write_fault { result ≡ 4 → HasRisen (K.faults sink.old) (K.faults sink.new) }
 {
     match read_whole(alloc, source, MOST_BYTES) {
         Ok(input) => answer_input(alloc, command, input.as_slice(), sink),
@@ -63,8 +63,8 @@ fn answer_words<S: Source, K: Sink>(
     sink: &mut K,
 ) -> u8
     ensures ran { Ran (map (λ w. string_bytes w) words.now) (S.left source.old) (S.left source.new) (K.held sink.old) (K.held sink.new) result }
-    ensures read_fault { result ≡ 3 → Rose (S.faults source.old) (S.faults source.new) }
-    ensures write_fault { result ≡ 4 → Rose (K.faults sink.old) (K.faults sink.new) }
+    ensures read_fault { result ≡ 3 → HasRisen (S.faults source.old) (S.faults source.new) }
+    ensures write_fault { result ≡ 4 → HasRisen (K.faults sink.old) (K.faults sink.new) }
     ensures unread { AreNoWords (map (λ w. string_bytes w) words.now) → source.new ≡ source.old }
 {
     match command_of(words) {
@@ -96,10 +96,10 @@ pub fn bureau<R, S: Source, K: Sink>(
     mut sink: K,
 ) -> Ended<S, K>
     ensures ran { Ran (map (λ w. string_bytes w) words.items) (S.left source) (S.left result.source) (K.held sink) (K.held result.sink) result.status }
-    ensures read_fault { result.status ≡ 3 → Rose (S.faults source) (S.faults result.source) }
-    ensures write_fault { result.status ≡ 4 → Rose (K.faults sink) (K.faults result.sink) }
+    ensures read_fault { result.status ≡ 3 → HasRisen (S.faults source) (S.faults result.source) }
+    ensures write_fault { result.status ≡ 4 → HasRisen (K.faults sink) (K.faults result.sink) }
     ensures unread { AreNoWords (map (λ w. string_bytes w) words.items) → result.source ≡ source }
-    ensures complete { Completes (map (λ w. string_bytes w) words.items) (S.left source) (K.held sink) (K.held result.sink) (Rose (S.faults source) (S.faults result.source)) (Rose (K.faults sink) (K.faults result.sink)) result.status }
+    ensures complete { Completes (map (λ w. string_bytes w) words.items) (S.left source) (K.held sink) (K.held result.sink) (HasRisen (S.faults source) (S.faults result.source)) (HasRisen (K.faults sink) (K.faults result.sink)) result.status }
 {
     let status = answer_words(alloc, words.as_slice(), &mut source, &mut sink);
     Ended {

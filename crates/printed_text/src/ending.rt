@@ -1,6 +1,6 @@
 //! Fault lines that end a run.
 ghost use Rattle.std.specs.Prelude.{◌≡◌, ◌≢◌, ◌⊎◌, ◌≤◌};
-ghost use Rattle.bureau_edge.specs.Causes.{Rose};
+ghost use Rattle.fault_count.specs.Counts.{HasRisen};
 ghost use Rattle.printed_text.specs.Texts.{bad_line_text};
 ghost use Rattle.printed_text.specs.Writing.{IsWritten, Wrote};
 
@@ -10,7 +10,7 @@ use bureau_edge::{Sink, write_all};
 pub fn told<K: Sink>(sink: &mut K, status: u8, line: &[u8]) -> u8
     requires { status ≢ 4 }
     ensures written { IsWritten (K.held sink.old) (K.held sink.new) status line.now result }
-    ensures failed { result ≡ 4 → Rose (K.faults sink.old) (K.faults sink.new) }
+    ensures failed { result ≡ 4 → HasRisen (K.faults sink.old) (K.faults sink.new) }
     ensures either { result ≡ status ⊎ result ≡ 4 }
 {
     match write_all(sink, line) {

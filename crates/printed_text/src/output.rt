@@ -1,7 +1,7 @@
 //! Output in pieces: text goes through a buffer of 65,536 bytes to the sink.
 ghost use Rattle.std.specs.Prelude.{◌≡◌, ℕ, ◌+◌, ◌≤◌, [], ◌++◌, true, All, IfOk, OnOk, OnErr, vec_len, vec_capacity, length, slice_get};
 ghost use Rattle.std.specs.Io.KnownBytes.{Appends};
-ghost use Rattle.bureau_edge.specs.Causes.{HasCause};
+ghost use Rattle.fault_count.specs.Counts.{IsCounted};
 ghost use Rattle.bureau_edge.specs.Streams.{AppendsPart};
 ghost use Rattle.claim_history.specs.declared.entry.Reply.TheVariants as reply;
 ghost use Rattle.claim_history.specs.Acts.{is_valid};
@@ -40,7 +40,7 @@ pub fn flush<K: Sink>(sink: &mut K, buffer: &mut Vec<u8>) -> Result<(), Failed>
     ensures ok { OnOk result (Passes (K.held sink.old) (K.held sink.new) buffer.old.items buffer.new.items []) }
     ensures empty { OnOk result (vec_len buffer.new ≡ 0) }
     ensures part { OnErr result (AppendsPart (K.held sink.old) (K.held sink.new) buffer.old.items) }
-    ensures cause { HasCause (K.faults sink.old) (K.faults sink.new) result }
+    ensures cause { IsCounted (K.faults sink.old) (K.faults sink.new) result }
     ensures room { vec_capacity buffer.old ≤ vec_capacity buffer.new }
 {
     write_all(sink, buffer.as_slice())?;
@@ -54,7 +54,7 @@ pub fn make_room<K: Sink>(sink: &mut K, buffer: &mut Vec<u8>) -> Result<(), Fail
     ensures ok { OnOk result (Passes (K.held sink.old) (K.held sink.new) buffer.old.items buffer.new.items []) }
     ensures spare { OnOk result (vec_len buffer.new + 200 ≤ vec_capacity buffer.new) }
     ensures part { OnErr result (AppendsPart (K.held sink.old) (K.held sink.new) buffer.old.items) }
-    ensures cause { HasCause (K.faults sink.old) (K.faults sink.new) result }
+    ensures cause { IsCounted (K.faults sink.old) (K.faults sink.new) result }
     ensures room { 65536 ≤ vec_capacity buffer.new }
 {
     if buffer.len() <= OUTPUT_BYTES - LINE_BYTES {
@@ -70,7 +70,7 @@ fn print_entry<K: Sink>(sink: &mut K, buffer: &mut Vec<u8>, entry: &Entry) -> Re
     requires spare { 65536 ≤ vec_capacity buffer.old }
     ensures ok { OnOk result (Passes (K.held sink.old) (K.held sink.new) buffer.old.items buffer.new.items (entry_line entry.now)) }
     ensures part { OnErr result (AppendsPart (K.held sink.old) (K.held sink.new) (buffer.old.items ++ entry_line entry.now)) }
-    ensures cause { HasCause (K.faults sink.old) (K.faults sink.new) result }
+    ensures cause { IsCounted (K.faults sink.old) (K.faults sink.new) result }
     ensures room { 65536 ≤ vec_capacity buffer.new }
 {
     make_room(sink, buffer)?;
@@ -92,7 +92,7 @@ fn print_publication<K: Sink>(
     ensures ok { OnOk result (Passes (K.held sink.old) (K.held sink.new) buffer.old.items buffer.new.items (statement_of (slice_get rounds.now next) entry.now.act entry.now.reply)) }
     ensures next { IfOk result (λ place. place ≡ next + rounds_in entry.now.reply) }
     ensures part { OnErr result (AppendsPart (K.held sink.old) (K.held sink.new) (buffer.old.items ++ statement_of (slice_get rounds.now next) entry.now.act entry.now.reply)) }
-    ensures cause { HasCause (K.faults sink.old) (K.faults sink.new) result }
+    ensures cause { IsCounted (K.faults sink.old) (K.faults sink.new) result }
     ensures room { 65536 ≤ vec_capacity buffer.new }
 {
     let Reply::Published { .. } = entry.reply else {
@@ -120,7 +120,7 @@ fn print_answer<K: Sink>(
     ensures ok { OnOk result (Passes (K.held sink.old) (K.held sink.new) buffer.old.items buffer.new.items (entry_line entry.now ++ statement_of (slice_get rounds.now next) entry.now.act entry.now.reply)) }
     ensures next { IfOk result (λ place. place ≡ next + rounds_in entry.now.reply) }
     ensures part { OnErr result (AppendsPart (K.held sink.old) (K.held sink.new) (buffer.old.items ++ (entry_line entry.now ++ statement_of (slice_get rounds.now next) entry.now.act entry.now.reply))) }
-    ensures cause { HasCause (K.faults sink.old) (K.faults sink.new) result }
+    ensures cause { IsCounted (K.faults sink.old) (K.faults sink.new) result }
     ensures room { 65536 ≤ vec_capacity buffer.new }
 {
     print_entry(sink, buffer, entry)?;
@@ -141,7 +141,7 @@ fn print_entries<K: Sink>(
     requires spare { 65536 ≤ vec_capacity buffer.old }
     ensures ok { OnOk result (Passes (K.held sink.old) (K.held sink.new) buffer.old.items buffer.new.items (history_text history.now)) }
     ensures part { OnErr result (AppendsPart (K.held sink.old) (K.held sink.new) (buffer.old.items ++ history_text history.now)) }
-    ensures cause { HasCause (K.faults sink.old) (K.faults sink.new) result }
+    ensures cause { IsCounted (K.faults sink.old) (K.faults sink.new) result }
     ensures room { 65536 ≤ vec_capacity buffer.new }
 {
     let mut next = 0;
@@ -161,7 +161,7 @@ fn print_unserved<K: Sink>(
     requires { 65536 ≤ vec_capacity buffer.old }
     ensures ok { OnOk result (Passes (K.held sink.old) (K.held sink.new) buffer.old.items buffer.new.items (unserved_line request.now mark)) }
     ensures part { OnErr result (AppendsPart (K.held sink.old) (K.held sink.new) (buffer.old.items ++ unserved_line request.now mark)) }
-    ensures cause { HasCause (K.faults sink.old) (K.faults sink.new) result }
+    ensures cause { IsCounted (K.faults sink.old) (K.faults sink.new) result }
     ensures room { 65536 ≤ vec_capacity buffer.new }
 {
     if mark {
@@ -183,7 +183,7 @@ fn print_all_unserved<K: Sink>(
     requires spare { 65536 ≤ vec_capacity buffer.old }
     ensures ok { OnOk result (Passes (K.held sink.old) (K.held sink.new) buffer.old.items buffer.new.items (unserved_text requests.now marks.now)) }
     ensures part { OnErr result (AppendsPart (K.held sink.old) (K.held sink.new) (buffer.old.items ++ unserved_text requests.now marks.now)) }
-    ensures cause { HasCause (K.faults sink.old) (K.faults sink.new) result }
+    ensures cause { IsCounted (K.faults sink.old) (K.faults sink.new) result }
 {
     for i in 0..requests.len() {
         print_unserved(sink, buffer, &requests[i], marks[i])?;
@@ -212,7 +212,7 @@ pub fn print_run<K: Sink>(
     requires spare { 65536 ≤ vec_capacity buffer.old }
     ensures ok { OnOk result (Appends (K.held sink.old) (K.held sink.new) (printed_of requests.now marks.now history.now)) }
     ensures part { OnErr result (AppendsPart (K.held sink.old) (K.held sink.new) (printed_of requests.now marks.now history.now)) }
-    ensures cause { HasCause (K.faults sink.old) (K.faults sink.new) result }
+    ensures cause { IsCounted (K.faults sink.old) (K.faults sink.new) result }
 {
     print_entries(sink, buffer, history, rounds)?;
     print_all_unserved(sink, buffer, requests, marks)?;

@@ -1,7 +1,7 @@
 //! Statements: their lines go through the buffer of the output. Their printing is never inlined, so that a profile of the
 //! program shows what it takes.
 ghost use Rattle.std.specs.Prelude.{◌≡◌, ◌<◌, ◌≤◌, ◌^◌, ◌++◌, All, OnOk, OnErr, vec_capacity, length, slice_index_or, unsigned_abs};
-ghost use Rattle.bureau_edge.specs.Causes.{HasCause};
+ghost use Rattle.fault_count.specs.Counts.{IsCounted};
 ghost use Rattle.bureau_edge.specs.Streams.{AppendsPart};
 ghost use Rattle.setoff_model.specs.declared.cut.CutClaim.{CutClaim};
 ghost use Rattle.setoff_model.specs.CutView.{WellFormed};
@@ -21,7 +21,7 @@ fn print_head<K: Sink>(sink: &mut K, buffer: &mut Vec<u8>, cut: &Cut) -> Result<
     requires spare { 65536 ≤ vec_capacity buffer.old }
     ensures ok { OnOk result (Passes (K.held sink.old) (K.held sink.new) buffer.old.items buffer.new.items (line_bytes (line.Head cut.now.round cut.now.kind))) }
     ensures part { OnErr result (AppendsPart (K.held sink.old) (K.held sink.new) (buffer.old.items ++ line_bytes (line.Head cut.now.round cut.now.kind))) }
-    ensures cause { HasCause (K.faults sink.old) (K.faults sink.new) result }
+    ensures cause { IsCounted (K.faults sink.old) (K.faults sink.new) result }
     ensures room { 65536 ≤ vec_capacity buffer.new }
 {
     make_room(sink, buffer)?;
@@ -42,7 +42,7 @@ fn print_party<K: Sink>(
     requires spare { 65536 ≤ vec_capacity buffer.old }
     ensures ok { OnOk result (Passes (K.held sink.old) (K.held sink.new) buffer.old.items buffer.new.items (line_bytes (line.Party party.now price))) }
     ensures part { OnErr result (AppendsPart (K.held sink.old) (K.held sink.new) (buffer.old.items ++ line_bytes (line.Party party.now price))) }
-    ensures cause { HasCause (K.faults sink.old) (K.faults sink.new) result }
+    ensures cause { IsCounted (K.faults sink.old) (K.faults sink.new) result }
     ensures room { 65536 ≤ vec_capacity buffer.new }
 {
     make_room(sink, buffer)?;
@@ -64,7 +64,7 @@ fn print_parties<K: Sink>(
     requires spare { 65536 ≤ vec_capacity buffer.old }
     ensures ok { OnOk result (Passes (K.held sink.old) (K.held sink.new) buffer.old.items buffer.new.items (lines_bytes (party_lines parties.now prices.now))) }
     ensures part { OnErr result (AppendsPart (K.held sink.old) (K.held sink.new) (buffer.old.items ++ lines_bytes (party_lines parties.now prices.now))) }
-    ensures cause { HasCause (K.faults sink.old) (K.faults sink.new) result }
+    ensures cause { IsCounted (K.faults sink.old) (K.faults sink.new) result }
     ensures room { 65536 ≤ vec_capacity buffer.new }
 {
     for i in 0..parties.len() {
@@ -87,7 +87,7 @@ fn print_claim<K: Sink>(
     requires spare { 65536 ≤ vec_capacity buffer.old }
     ensures ok { (none : CutClaim) → OnOk result (Passes (K.held sink.old) (K.held sink.new) buffer.old.items buffer.new.items (line_bytes (claim_line cut.now.parties (slice_index_or cut.now.claims place none) discharge))) }
     ensures part { (none : CutClaim) → OnErr result (AppendsPart (K.held sink.old) (K.held sink.new) (buffer.old.items ++ line_bytes (claim_line cut.now.parties (slice_index_or cut.now.claims place none) discharge))) }
-    ensures cause { HasCause (K.faults sink.old) (K.faults sink.new) result }
+    ensures cause { IsCounted (K.faults sink.old) (K.faults sink.new) result }
     ensures room { 65536 ≤ vec_capacity buffer.new }
 {
     make_room(sink, buffer)?;
@@ -108,7 +108,7 @@ fn print_claims<K: Sink>(
     requires spare { 65536 ≤ vec_capacity buffer.old }
     ensures ok { OnOk result (Passes (K.held sink.old) (K.held sink.new) buffer.old.items buffer.new.items (lines_bytes (claim_lines cut.now.parties cut.now.claims discharges.now))) }
     ensures part { OnErr result (AppendsPart (K.held sink.old) (K.held sink.new) (buffer.old.items ++ lines_bytes (claim_lines cut.now.parties cut.now.claims discharges.now))) }
-    ensures cause { HasCause (K.faults sink.old) (K.faults sink.new) result }
+    ensures cause { IsCounted (K.faults sink.old) (K.faults sink.new) result }
     ensures room { 65536 ≤ vec_capacity buffer.new }
 {
     for i in 0..discharges.len() {
@@ -122,7 +122,7 @@ fn print_end<K: Sink>(sink: &mut K, buffer: &mut Vec<u8>) -> Result<(), Failed>
     requires spare { 65536 ≤ vec_capacity buffer.old }
     ensures ok { OnOk result (Passes (K.held sink.old) (K.held sink.new) buffer.old.items buffer.new.items (line_bytes line.End)) }
     ensures part { OnErr result (AppendsPart (K.held sink.old) (K.held sink.new) (buffer.old.items ++ line_bytes line.End)) }
-    ensures cause { HasCause (K.faults sink.old) (K.faults sink.new) result }
+    ensures cause { IsCounted (K.faults sink.old) (K.faults sink.new) result }
     ensures room { 65536 ≤ vec_capacity buffer.new }
 {
     make_room(sink, buffer)?;
@@ -144,7 +144,7 @@ pub fn print_statement<K: Sink>(
     requires spare { 65536 ≤ vec_capacity buffer.old }
     ensures ok { OnOk result (Passes (K.held sink.old) (K.held sink.new) buffer.old.items buffer.new.items (statement_bytes cut.now outcome.now)) }
     ensures part { OnErr result (AppendsPart (K.held sink.old) (K.held sink.new) (buffer.old.items ++ statement_bytes cut.now outcome.now)) }
-    ensures cause { HasCause (K.faults sink.old) (K.faults sink.new) result }
+    ensures cause { IsCounted (K.faults sink.old) (K.faults sink.new) result }
     ensures room { 65536 ≤ vec_capacity buffer.new }
 {
     print_head(sink, buffer, cut)?;
