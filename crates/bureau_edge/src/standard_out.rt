@@ -31,10 +31,16 @@ impl<'a, R: Print> StandardOut<Printer<'a, R>> {
     pub fn new(rt: &'a R) -> StandardOut<Printer<'a, R>>
         ensures { result.faults ≡ 0 }
     {
-        StandardOut {
-            writer: io::writer(rt),
-            faults: 0,
-        }
+        StandardOut::over(io::writer(rt))
+    }
+}
+
+impl<W> StandardOut<W> {
+    // The output by any writer.
+    pub(crate) fn over(writer: W) -> StandardOut<W>
+        ensures { result ≡ record { device = writer; faults = 0 } }
+    {
+        StandardOut { writer, faults: 0 }
     }
 }
 

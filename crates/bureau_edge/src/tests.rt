@@ -115,3 +115,37 @@ fn an_interrupted_call_is_made_again(rt: HostRuntime) {
         assert_eq!(rt; flush.is_ok(), gets_through, "a flush, at {times}");
     }
 }
+
+// A device that takes bytes, and tells how many were not flushed and how often it was flushed.
+#[derive(Drop)]
+struct Counting {
+    unflushed: usize,
+    flushes: u32,
+}
+
+impl Write for Counting {
+    fn write(&mut self, buf: &[u8]) -> io::Result<usize> {
+        self.unflushed = self.unflushed.saturating_add(buf.len());
+        Ok(buf.len())
+    }
+
+    fn flush(&mut self) -> io::Result<()> {
+        self.unflushed = 0;
+        self.flushes = self.flushes.saturating_add(1);
+        Ok(())
+    }
+}
+
+#[test]
+fn the_standard_output_is_flushed_in_each_call(rt: HostRuntime) {
+    let mut device = Counting {
+        unflushed: 0,
+        flushes: 0,
+    };
+    for calls in 1..4 {
+        let written = write_all(&mut StandardOut::over(&mut device), b"line\n");
+        assert_eq!(rt; written, Ok(()));
+        assert_eq!(rt; device.unflushed, 0, "after {calls}");
+        assert_eq!(rt; device.flushes, calls);
+    }
+}
