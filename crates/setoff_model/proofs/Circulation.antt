@@ -31,6 +31,9 @@ pub sum_below-zero : (n : ℕ) → sum_below n (λ _. 0) ≡ 0
 sum_below-zero zero = refl
 sum_below-zero (suc n) = omega (arith, sum_below-zero n)
 
+pub sum_below-none : (n : ℕ) (g : ℕ → ℕ) → ((k : ℕ) → k < n → g k ≡ 0) → sum_below n g ≡ 0
+sum_below-none n g none = sum_below-same n g (λ _. 0) none ∙ sum_below-zero n
+
 -- ---- one term of a sum
 
 -- a lone term past the end adds nothing

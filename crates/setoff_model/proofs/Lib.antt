@@ -1,3 +1,4 @@
+pub mod Lists
 pub mod SameNames
 pub mod Padded
 pub mod Fronts

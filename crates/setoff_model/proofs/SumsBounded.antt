@@ -5,6 +5,7 @@ use borrow.Author.Differences.{up, down}
 use Rattle.std.proofs.lemmas.Int.{ints}
 use Rattle.std.proofs.lemmas.Nat.{mul-le}
 use Rattle.std.proofs.lemmas.List.Sums.{sum_by-le}
+use Rattle.setoff_model.specs.Limits.{most_firms, most_amount, most_window}
 use Rattle.setoff_model.specs.Sums.{sum_below, above_zero}
 use Rattle.setoff_model.specs.Setoff.{IsLawful, flow_at, total_of, price_at, factor, window_worth, claims_bound, parties_bound, bound_of}
 use Rattle.setoff_model.specs.CutView.{CutView, WellFormed, SumsAreBounded, PricesInRange, obligations, amounts, debtors, creditors, spends, rooms}
@@ -23,40 +24,40 @@ chosen false x k le = omega arith
 
 flow_small : (cut : CutView) (places d : List ℕ) (m f : ℕ) → WellFormed cut → IsLawful (obligations cut) d → m ≤ length cut.claims → flow_at m places d f < 2 ^ 58
 flow_small cut places d m f formed lawful le =
-    let each : (i : ℕ) → i < m → (if slice_index places i == f then slice_index d i else 0) ≤ 999999999999 =
-    λ i lt. chosen (slice_index places i == f) (slice_index d i) 999999999999 (discharge_small cut d i formed lawful (omega arith)) in
-    omega (arith, sum_below-most m 999999999999 _ each, formed.few_claims)
+    let each : (i : ℕ) → i < m → (if slice_index places i == f then slice_index d i else 0) ≤ most_amount =
+    λ i lt. chosen (slice_index places i == f) (slice_index d i) most_amount (discharge_small cut d i formed lawful (omega arith)) in
+    omega (arith, sum_below-most m most_amount _ each, formed.few_claims)
 
 total_small : (cut : CutView) (d : List ℕ) → WellFormed cut → IsLawful (obligations cut) d → total_of d < 2 ^ 58
 total_small cut d formed lawful =
-    omega (arith, sum_by-le (λ x. x) 999999999999 d (lawful_fits.small cut d formed lawful), lawful_fits.few cut d formed lawful)
+    omega (arith, sum_by-le (λ x. x) most_amount d (lawful_fits.small cut d formed lawful), lawful_fits.few cut d formed lawful)
 
 pub above_zero_is : (z : ℤ) → above_zero z ≡ up z - down z
 above_zero_is (pos n) = omega arith
 above_zero_is (negsuc n) = omega arith
 
-factor_small : (a b : ℤ) → unsigned_abs a ≤ 16384 → unsigned_abs b ≤ 16384 → above_zero ((pos 1 +ℤ a) -ℤ b) ≤ 32769
+factor_small : (a b : ℤ) → unsigned_abs a ≤ most_firms → unsigned_abs b ≤ most_firms → above_zero ((pos 1 +ℤ a) -ℤ b) ≤ 32769
 factor_small a b le_a le_b = omega (arith, ints, above_zero_is ((pos 1 +ℤ a) -ℤ b), abs_parts a, abs_parts b)
 
 claims_small : (cut : CutView) (p : List ℤ) (m : ℕ) → WellFormed cut → PricesInRange cut p → m ≤ length cut.claims → claims_bound m (debtors cut.claims) (creditors cut.claims) (amounts cut.claims) p < 2 ^ 73
 claims_small cut p m formed range le =
-    let each : (i : ℕ) → i < m → slice_index (amounts cut.claims) i * factor (debtors cut.claims) (creditors cut.claims) p i ≤ 999999999999 * 32769 =
+    let each : (i : ℕ) → i < m → slice_index (amounts cut.claims) i * factor (debtors cut.claims) (creditors cut.claims) p i ≤ most_amount * 32769 =
     λ i lt.
     let in' : i < length cut.claims = omega arith in
-    mul-le _ _ 999999999999 32769 (amount_small cut i formed in') (factor_small (price_at p (slice_index (debtors cut.claims) i)) (price_at p (slice_index (creditors cut.claims) i)) (debtor_price cut p i formed range in') (creditor_price cut p i formed range in')) in
-    omega (arith, sum_below-most m (999999999999 * 32769) _ each, formed.few_claims)
+    mul-le _ _ most_amount 32769 (amount_small cut i formed in') (factor_small (price_at p (slice_index (debtors cut.claims) i)) (price_at p (slice_index (creditors cut.claims) i)) (debtor_price cut p i formed range in') (creditor_price cut p i formed range in')) in
+    omega (arith, sum_below-most m (most_amount * 32769) _ each, formed.few_claims)
 
-worth_small : (z : ℤ) (s r : ℕ) → unsigned_abs z ≤ 16384 → s ≤ 2000000000000000 → r ≤ 2000000000000000 → window_worth z s r ≤ 16384 * 2000000000000000
-worth_small (pos n) s r le spend room = mul-le n r 16384 2000000000000000 (omega arith) room
-worth_small (negsuc n) s r le spend room = mul-le (suc n) s 16384 2000000000000000 (omega arith) spend
+worth_small : (z : ℤ) (s r : ℕ) → unsigned_abs z ≤ most_firms → s ≤ most_window → r ≤ most_window → window_worth z s r ≤ most_firms * most_window
+worth_small (pos n) s r le spend room = mul-le n r most_firms most_window (omega arith) room
+worth_small (negsuc n) s r le spend room = mul-le (suc n) s most_firms most_window (omega arith) spend
 
 parties_small : (cut : CutView) (p : List ℤ) (n : ℕ) → WellFormed cut → PricesInRange cut p → n ≤ length cut.parties → parties_bound n (spends cut.parties) (rooms cut.parties) p < 2 ^ 79
 parties_small cut p n formed range le =
-    let each : (f : ℕ) → f < n → window_worth (price_at p f) (slice_index (spends cut.parties) f) (slice_index (rooms cut.parties) f) ≤ 16384 * 2000000000000000 =
+    let each : (f : ℕ) → f < n → window_worth (price_at p f) (slice_index (spends cut.parties) f) (slice_index (rooms cut.parties) f) ≤ most_firms * most_window =
     λ f lt.
     let in' : f < length cut.parties = omega arith in
     worth_small (price_at p f) _ _ (omega (arith, range f (omega (arith, parties_long cut)), parties_long cut, formed.few_parties)) (spend_small cut f formed in') (room_small cut f formed in') in
-    omega (arith, sum_below-most n (16384 * 2000000000000000) _ each, formed.few_parties)
+    omega (arith, sum_below-most n (most_firms * most_window) _ each, formed.few_parties)
 
 bound_small : (cut : CutView) (p : List ℤ) → WellFormed cut → PricesInRange cut p → bound_of (obligations cut) p < 2 ^ 80
 bound_small cut p formed range =
