@@ -1,15 +1,12 @@
 //! Closing: a Close opens or continues a round, which is solved, certified and published.
 //!
 //! The steps of a round are functions that are never inlined, so that a profile of the program shows what each takes.
-ghost use Rattle.std.specs.Prelude.{◌≡◌, ◌<◌, ◌≤◌, true, false, IfOk, IsTrue, vec_len, vec_capacity};
-ghost use Rattle.setoff_model.specs.CutView.{WellFormed, obligations};
-ghost use Rattle.setoff_model.specs.Setoff.{IsOldestFirst};
+ghost use Rattle.std.specs.Prelude.{◌≡◌, ◌<◌, ◌≤◌, true, false, vec_len, vec_capacity};
 ghost use Rattle.claim_history.specs.Acts.{is_day};
 ghost use Rattle.claim_history.specs.States.{state_of};
 ghost use Rattle.claim_history.specs.History.{IsLegal, answer_of, is_opening};
 ghost use Rattle.claim_history.specs.declared.act.Act.TheVariants as acts;
 ghost use Rattle.claim_history.specs.declared.entry.Reply.TheVariants as replies;
-ghost use Rattle.flow_solver.specs.Solution.{IsSolution};
 ghost use Rattle.printed_text.specs.Printing.{cuts_of};
 ghost use Rattle.bureau_program.specs.Serving.{IsAnswered};
 ghost use Rattle.bureau_program.specs.Closing.{Owns, IsClosed, HasRoomIfAccepted, IsPublished, IsOutcomeDue, IsPublishedAs};
@@ -17,13 +14,11 @@ ghost use Rattle.bureau_program.specs.Closing.{Owns, IsClosed, HasRoomIfAccepted
 use crate::serve::has_room;
 use claim_book::Book;
 use claim_history::{Act, Day, Entry, Reply, accepted};
-use flow_solver::{Flow, PlainSolver, Solver};
-use netting_graph::Net;
-use price_certificate::outcome_of;
+use level_solver::LevelSolver;
+use price_certificate::certified;
 use round_cut::{build_cut, cut_of_a_history_is_of_its_facts, open_cut_is_well_formed};
-use setoff_checker::{Checked, Checker};
 use setoff_model::{Cut, Kind, Outcome, total};
-use std::alloc::{AllocError, Global};
+use std::alloc::Global;
 
 /// What came of the entry of a Close.
 #[derive(Clone, Copy, Debug)]
@@ -146,37 +141,12 @@ fn publish(alloc: Global, book: &mut Book, rounds: &mut Vec<Cut>, caller: u32) -
     let Ok(Some(cut)) = book.open_cut(alloc) else {
         return false;
     };
-    let Ok(checked) = certified(alloc, cut) else {
+    let Ok(checked) = certified(alloc, &LevelSolver::new(), cut) else {
         return false;
     };
     let (cut, outcome) = checked.parts();
     put_publication(book, rounds, caller, cut.round(), outcome);
     true
-}
-
-// A greatest set-off of a cut, found by the plain solver and certified by the checker. An error is want of memory.
-#[inline(never)]
-fn certified(alloc: Global, cut: Cut) -> Result<Checked, AllocError>
-    requires { WellFormed cut }
-    ensures cut { IfOk result (λ checked. checked.cut ≡ cut) }
-    ensures oldest_first { IfOk result (λ checked. IsOldestFirst (obligations cut) checked.outcome.discharges) }
-{
-    let net = Net::of(alloc, &cut)?;
-    let flow = solved(alloc, &net)?;
-    let outcome = outcome_of(alloc, &cut, &net, flow)?;
-    let checker = Checker::for_cut(alloc, &cut)?;
-    match checker.certify(cut, outcome) {
-        Ok(checked) => Ok(checked),
-        Err(_) => unreachable!(),
-    }
-}
-
-// What the plain solver finds for a net. An error is want of memory.
-#[inline(never)]
-fn solved(alloc: Global, net: &Net) -> Result<Flow, AllocError>
-    ensures { IfOk result (λ flow. IsSolution net.now flow) }
-{
-    PlainSolver::new().solve(alloc, net)
 }
 
 // Puts the publication of the open round at the end, and its cut at the end of the cuts.

@@ -9,13 +9,13 @@ use netting_graph::{Arc, Net};
 use setoff_model::Party;
 use std::alloc::{AllocError, Global};
 
-// An arc from one node to another: how much it holds, and what a unit of flow on it counts.
+/// An arc from one node to another: how much it holds, and what a unit of flow on it counts.
 #[derive(Clone, Copy, Debug)]
-pub(crate) struct Edge {
-    pub(crate) tail: usize,
-    pub(crate) head: usize,
-    pub(crate) capacity: u64,
-    pub(crate) reward: u32,
+pub struct Edge {
+    pub tail: usize,
+    pub head: usize,
+    pub capacity: u64,
+    pub reward: u32,
 }
 
 // The arcs of the net, from debtor to creditor, and then one from each party to the ground.
@@ -61,8 +61,8 @@ fn window_edges(alloc: Global, parties: &[Party]) -> Result<Vec<Edge>, AllocErro
     Ok(edges)
 }
 
-// The arc at a place.
-pub(crate) fn edge_at(edges: &[Edge], place: usize) -> Edge
+/// The arc at a place.
+pub fn edge_at(edges: &[Edge], place: usize) -> Edge
     requires { place < length edges.now }
     ensures { IsEdgeAt edges.now place result }
 {

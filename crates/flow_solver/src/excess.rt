@@ -38,8 +38,8 @@ pub(crate) fn clamped(number: i128) -> u64
     }
 }
 
-// Moves the amount from one node to another.
-pub(crate) fn move_excess(excess: &mut [i128], from: usize, to: usize, amount: u64)
+/// Moves the amount from one node to another.
+pub fn move_excess(excess: &mut [i128], from: usize, to: usize, amount: u64)
     requires from { from < length excess.old }
     requires to { to < length excess.old }
     requires apart { from ≢ to }

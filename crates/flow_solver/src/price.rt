@@ -21,8 +21,8 @@ fn price_of(prices: &[i64], node: usize) -> i64
     }
 }
 
-// What a unit of flow on an arc gains at these prices.
-pub(crate) fn gain_of(edges: &[Edge], prices: &[i64], arc: usize) -> i64
+/// What a unit of flow on an arc gains at these prices.
+pub fn gain_of(edges: &[Edge], prices: &[i64], arc: usize) -> i64
     requires within { arc < length edges.now }
     requires among { (n : ℕ) × AreAmong n edges.now }
     requires near { IsNear 16384 prices.now }

@@ -23,18 +23,18 @@ use crate::start::{excess_at_start, flows_at_start};
 use netting_graph::Net;
 use std::alloc::{AllocError, Global};
 
-// The arcs with a flow on each, the excess of each node and the price of each party.
+/// The arcs with a flow on each, the excess of each node and the price of each party.
 #[derive(Debug, Drop)]
-pub(crate) struct Work {
-    pub(crate) edges: Vec<Edge>,
-    pub(crate) around: Around,
-    pub(crate) flows: Vec<u64>,
-    pub(crate) excess: Vec<i128>,
-    pub(crate) prices: Vec<i64>,
+pub struct Work {
+    pub edges: Vec<Edge>,
+    pub around: Around,
+    pub flows: Vec<u64>,
+    pub excess: Vec<i128>,
+    pub prices: Vec<i64>,
 }
 
-// The work at the beginning: each claim is discharged whole, no balance changes, and the prices are 0.
-pub(crate) fn start(alloc: Global, net: &Net) -> Result<Work, AllocError>
+/// The work at the beginning: each claim is discharged whole, no balance changes, and the prices are 0.
+pub fn start(alloc: Global, net: &Net) -> Result<Work, AllocError>
     ensures { IfOk result (IsWork (obligations_of_net net.now)) }
 {
     let nodes = net.parties().len() + 1;
@@ -52,8 +52,8 @@ pub(crate) fn start(alloc: Global, net: &Net) -> Result<Work, AllocError>
     })
 }
 
-// Moves some excess to where it is wanted. False where no node has an excess above 0.
-pub(crate) fn turn(alloc: Global, work: &mut Work) -> Result<bool, AllocError>
+/// Moves some excess to where it is wanted. False where no node has an excess above 0.
+pub fn turn(alloc: Global, work: &mut Work) -> Result<bool, AllocError>
     requires { (o : Obligations) × IsWork o work.old }
     ensures work { OnOk result ((o : Obligations) → IsWork o work.old → IsWork o work.new) }
     ensures falls { IfOk result (λ moved. IsTrue moved → surplus work.new.excess.items < surplus work.old.excess.items) }
@@ -120,11 +120,9 @@ fn spread_from(work: &Work, labels: &mut Labels, place: usize) -> Result<Option<
     ensures met { IfOk result (λ r. MatchOption r (IsUnmet work.now.excess.items labels.new) (IsWanting work.now.excess.items labels.new)) }
 {
     let node = label_at(&labels.found, place).node;
-    if node < work.around.arcs.len() {
-        for &arc in &work.around.arcs[node] {
-            if let Some(place) = spread_over(work, labels, arc)? {
-                return Ok(Some(place));
-            }
+    for &arc in work.around.at(node) {
+        if let Some(place) = spread_over(work, labels, arc)? {
+            return Ok(Some(place));
         }
     }
     Ok(None)
