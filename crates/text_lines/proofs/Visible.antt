@@ -3,7 +3,7 @@ use Rattle.std.proofs.Common.{◌≡◌, ℕ, suc, ◌+◌, ◌-◌, ◌/◌, �
 use Rattle.std.specs.Prelude.{◌&&◌, ◌||◌, ◌==◌, nat_le, codes, slice_index_or, slice_index, ℤ, pos, negsuc, unsigned_abs}
 use Rattle.std.specs.List.{list_all, All, AllByRecursion}
 use Rattle.std.specs.Str.Lines.{lines, lines_of_parts, strip_carriage_return}
-use Rattle.std.proofs.lemmas.Bool.{ne_eqb, leb-true, le-leb, eqb-true, or_cases}
+use Rattle.std.proofs.lemmas.Bool.{and_parts, ne_eqb, leb-true, le-leb, eqb-true, or_cases}
 use Rattle.std.proofs.lemmas.List.Sums.{AllPass-from_list_all}
 use Rattle.std.proofs.lemmas.List.Elements.{All-append, All-nil, All-cons}
 use Rattle.std.proofs.lemmas.List.Splits.{slice_split_at}
@@ -13,12 +13,8 @@ use Rattle.setoff_model.specs.Texts.{cents_text, integer_text}
 use Rattle.text_lines.specs.Fields.{line_of, IsVisible, VisibleLaw, EndedLaw}
 use Rattle.text_lines.proofs.Cutting.{feed, some_parts}
 
-both : (a b : Bool) → (a && b) ≡ true → (a ≡ true) × (b ≡ true)
-both true b h = (refl, h)
-both false b h = absurd cc
-
 above_range : (low high b : ℕ) → 33 ≤ low → (nat_le low b && nat_le b high) ≡ true → nat_le 33 b ≡ true
-above_range low high b from h = le-leb 33 b (omega (arith, leb-true low b (both (nat_le low b) (nat_le b high) h).0))
+above_range low high b from h = le-leb 33 b (omega (arith, leb-true low b (and_parts (nat_le low b) (nat_le b high) h).0))
 
 name_byte_above : (b : ℕ) → is_name_byte b ≡ true → nat_le 33 b ≡ true
 name_byte_above b h =
@@ -52,9 +48,9 @@ letter_byte c b h = ap (λ (x : Bool). x || b) h
 name_visible : (text : List ℕ) → is_name text ≡ true → IsVisible text
 name_visible [] h = absurd cc
 name_visible (c ∷ cs) h =
-    let p = both (is_letter c && nat_le (length cs) 15) (list_all is_name_byte cs) h in
-    let q = both (is_letter c) (nat_le (length cs) 15) p.0 in
-    All-cons (λ (x : ℕ). 32 < x) c cs (omega (arith, leb-true 65 c (both (nat_le 65 c) (nat_le c 90) q.0).0)) (bytes_above cs p.1)
+    let p = and_parts (is_letter c && nat_le (length cs) 15) (list_all is_name_byte cs) h in
+    let q = and_parts (is_letter c) (nat_le (length cs) 15) p.0 in
+    All-cons (λ (x : ℕ). 32 < x) c cs (omega (arith, leb-true 65 c (and_parts (nat_le 65 c) (nat_le c 90) q.0).0)) (bytes_above cs p.1)
 
 pub decimal_visible : (n : ℕ) → n < 2 ^ 64 → IsVisible (decimal n)
 decimal_visible n lt = decimal_by_steps (λ m ds. IsVisible ds) (λ m small. one (48 + m) (omega arith)) (λ m ds large h. join ds ((48 + m % 10) ∷ []) h (one (48 + m % 10) (omega arith))) n lt

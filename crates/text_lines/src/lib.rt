@@ -1,4 +1,11 @@
 //! The lines of a text, and the fields of a line.
+//!
+//! A line ends at a line feed, and a carriage return directly before that is no byte of it. What follows the last line feed is a
+//! line where it is not empty. The fields of a line are its pieces between single spaces: two spaces in a row have an empty field
+//! between them, and an empty line has one field, which is empty.
+//!
+//! `next_line` and `fields_of` cut. Two laws say that what is written is cut again: `joined_fields_are_cut_again`, since no name
+//! and no number has a space in it, and `ended_lines_are_lines`, since none has a line feed or a carriage return.
 #![tactic(auto)]
 
 ghost use Rattle.text_lines.specs.Fields.{JoinLaw, NoSpaceLaw, VisibleLaw, EndedLaw};
