@@ -3,11 +3,11 @@ use Rattle.std.proofs.Common.{◌≡◌, ⊎_elim, ℕ, ◌+◌, ◌≤◌, Bool
 use Rattle.std.proofs.lemmas.List.{take_at, take_all, take-append-le}
 use Rattle.std.proofs.lemmas.Bool.{cases_lt, and_parts, and_from, le-leb}
 use Rattle.std.specs.declared.alloc.Global.{Global}
-use Rattle.disk_model.specs.Calls.{Torn, After, Passes}
+use Rattle.disk_model.specs.Calls.{IsPresent, Torn, After, Passes}
 use Rattle.disk_model.specs.declared.step.Step.{Step}
 use Rattle.disk_model.specs.declared.step.Step.TheVariants.{Waited, Wrote, Synced}
 use Rattle.disk_model.specs.Counts.{next_count}
-use Rattle.disk_model.specs.Memory.{MemoryState, end_step, after_quiet, after_write, HasFailed}
+use Rattle.disk_model.specs.Memory.{MemoryState, seen_in, end_step, after_quiet, after_write, after_refused, HasFailed}
 use Rattle.disk_model.specs.ReadsNow.{memory_reads_now}
 use Rattle.disk_model.specs.Steps.{reads_then, reads_after, begins_within, all_within, images_then, images_after, images_from, overlay}
 
@@ -37,28 +37,33 @@ pub images_two_to : (reads : List ℕ) (images : List ℕ → Type 0) (steps : L
 images_two_to reads images [] a b c has = has
 images_two_to reads images (step ∷ steps) a b c has = images_two_to (reads_then reads step) (images_then reads images step) steps a b c has
 
--- the moments of a disk in memory
-abbrev pub ImageAt : List ℕ → List Step → ℕ → List ℕ → Type 0
-ImageAt start steps t = images_from start (take t steps)
+-- no step more
+passes_none : (old : MemoryState) (P : List ℕ → Type 0) → Passes (seen_in old) (seen_in (after_refused old)) P
+passes_none old P = record { later = omega arith; no_more = λ t c le has. has; no_fewer = λ t c le has. has; since = λ t c lt le has. absurd (omega (arith, lt, le)) }
 
-pub passes_none : (start : List ℕ) (steps : List Step) (P : List ℕ → Type 0) → Passes (length steps) (ImageAt start steps) (length steps) (ImageAt start steps) P
-passes_none start steps P = record { later = omega arith; no_more = λ t c le has. has; no_fewer = λ t c le has. has; since = λ t c lt le has. absurd (omega (arith, lt, le)) }
+-- two steps more
+module _ (old : MemoryState) (a b : Step) (bytes : List ℕ) (faults : ℕ) (P : List ℕ → Type 0) where
+  abbrev start : List ℕ
+  start = old.first
 
-pub passes_two : (start : List ℕ) (steps : List Step) (a b : Step) (P : List ℕ → Type 0) → ((c : List ℕ) → images_from start (steps ++ a ∷ []) c → P c) → ((c : List ℕ) → images_from start (steps ++ a ∷ b ∷ []) c → P c)
-    → Passes (length steps) (ImageAt start steps) (length (steps ++ a ∷ b ∷ [])) (ImageAt start (steps ++ a ∷ b ∷ [])) P
-passes_two start steps a b P during ended = record {
-  later = omega (arith, length-append steps (a ∷ b ∷ []));
-  no_more = λ t c le has. subst (λ (s : List Step). images_from start s c) (take-append-le t steps (a ∷ b ∷ []) le) has;
-  no_fewer = λ t c le has. subst (λ (s : List Step). images_from start s c) (sym (take-append-le t steps (a ∷ b ∷ []) le)) has;
-  since = λ t c lt le has. ⊎_elim
-      (λ last. ended c (subst (λ (s : List Step). images_from start s c) (take_all t (steps ++ a ∷ b ∷ []) (omega (arith, last, length-append steps (a ∷ b ∷ [])))) has))
-      (λ first. let is : t ≡ length steps + 1 = omega (arith, lt, first) in
-      during c (subst (λ (s : List Step). images_from start s c) (front t is) has))
-      (cases_lt (length steps + 1) t);
-}
-  where
-    front : (t : ℕ) → t ≡ length steps + 1 → take t (steps ++ a ∷ b ∷ []) ≡ steps ++ a ∷ []
-    front t is = ap (λ (l : List Step). take t l) (sym (append_assoc steps (a ∷ []) (b ∷ []))) ∙ take_at (steps ++ a ∷ []) (b ∷ []) t (omega (arith, is, length-append steps (a ∷ [])))
+  abbrev steps : List Step
+  steps = old.steps
+
+  front : (t : ℕ) → t ≡ length steps + 1 → take t (steps ++ a ∷ b ∷ []) ≡ steps ++ a ∷ []
+  front t is = ap (λ (l : List Step). take t l) (sym (append_assoc steps (a ∷ []) (b ∷ []))) ∙ take_at (steps ++ a ∷ []) (b ∷ []) t (omega (arith, is, length-append steps (a ∷ [])))
+
+  passes_two : ((c : List ℕ) → images_from start (steps ++ a ∷ []) c → P c) → ((c : List ℕ) → images_from start (steps ++ a ∷ b ∷ []) c → P c)
+      → Passes (seen_in old) (seen_in (record old { bytes = bytes; steps = steps ++ a ∷ b ∷ []; faults = faults })) P
+  passes_two during ended = record {
+    later = omega (arith, length-append steps (a ∷ b ∷ []));
+    no_more = λ t c le has. subst (λ (s : List Step). images_from start s c) (take-append-le t steps (a ∷ b ∷ []) le) has;
+    no_fewer = λ t c le has. subst (λ (s : List Step). images_from start s c) (sym (take-append-le t steps (a ∷ b ∷ []) le)) has;
+    since = λ t c lt le has. ⊎_elim
+        (λ last. ended c (subst (λ (s : List Step). images_from start s c) (take_all t (steps ++ a ∷ b ∷ []) (omega (arith, last, length-append steps (a ∷ b ∷ [])))) has))
+        (λ first. let is : t ≡ length steps + 1 = omega (arith, lt, first) in
+        during c (subst (λ (s : List Step). images_from start s c) (front t is) has))
+        (cases_lt (length steps + 1) t);
+  }
 
 module _ (start bytes : List ℕ) (steps new : List Step) where
   pub quiet_read : (syncs : Bool) → bytes ≡ reads_after start steps → new ≡ steps ++ Waited ∷ end_step syncs ∷ [] → bytes ≡ reads_after start new
@@ -95,15 +100,12 @@ pub pushed_two : (old mid reserved one two : List Step) (a b : Step) → mid ≡
 pushed_two old mid reserved one two a b same is_reserved is_one is_two =
     is_two ∙ ap (λ (l : List Step). l ++ b ∷ []) (is_one ∙ ap (λ (l : List Step). l ++ a ∷ []) (is_reserved ∙ same)) ∙ append_assoc old (a ∷ []) (b ∷ [])
 
--- what a crash may leave, at each moment of a disk in memory
-abbrev pub ImageIn : MemoryState → ℕ → List ℕ → Type 0
-ImageIn s t = images_from s.first (take t s.steps)
-
+-- what a crash may leave now of a disk in memory
 abbrev pub PresentIn : MemoryState → List ℕ → Type 0
-PresentIn s = ImageIn s (length s.steps)
+PresentIn s = IsPresent (seen_in s)
 
 abbrev pub PassesIn : MemoryState → MemoryState → (List ℕ → Type 0) → Type 0
-PassesIn old new P = Passes (length old.steps) (ImageIn old) (length new.steps) (ImageIn new) P
+PassesIn old new P = Passes (seen_in old) (seen_in new) P
 
 module _ (old new : MemoryState) where
   present : (c : List ℕ) → images_from old.first old.steps c → PresentIn old c
@@ -122,16 +124,16 @@ module _ (old new : MemoryState) where
   -- a call that failed: no moment, or two in which nothing comes about
   pub failed_passes : (P : List ℕ → Type 0) → ((c : List ℕ) → PresentIn old c → P c) → HasFailed old new → PassesIn old new P
   failed_passes P wider failed = ⊎_elim
-      (λ named. subst (λ (s : MemoryState). PassesIn old s P) (sym named.1) (passes_two old.first old.steps Waited Waited P (λ c has. wider c (waited_one c has)) (λ c has. wider c (waited_two c has))))
-      (λ refused. subst (λ (s : MemoryState). PassesIn old s P) (sym refused) (passes_none old.first old.steps P))
+      (λ named. subst (λ (s : MemoryState). PassesIn old s P) (sym named.1) (passes_two old Waited Waited old.bytes (next_count old.faults) P (λ c has. wider c (waited_one c has)) (λ c has. wider c (waited_two c has))))
+      (λ refused. subst (λ (s : MemoryState). PassesIn old s P) (sym refused) (passes_none old P))
       failed
 
   -- a call that changed no byte
   pub looked_passes : new ≡ after_quiet Waited old → PassesIn old new (PresentIn old)
-  looked_passes is = subst (λ (s : MemoryState). PassesIn old s (PresentIn old)) (sym is) (passes_two old.first old.steps Waited Waited (PresentIn old) waited_one waited_two)
+  looked_passes is = subst (λ (s : MemoryState). PassesIn old s (PresentIn old)) (sym is) (passes_two old Waited Waited old.bytes old.faults (PresentIn old) waited_one waited_two)
 
   pub synced_passes : old.bytes ≡ reads_after old.first old.steps → all_within old.first old.steps ≡ true → new ≡ after_quiet Synced old → PassesIn old new (PresentIn old)
-  synced_passes reads all is = subst (λ (s : MemoryState). PassesIn old s (PresentIn old)) (sym is) (passes_two old.first old.steps Waited Synced (PresentIn old) waited_one (synced_two reads all))
+  synced_passes reads all is = subst (λ (s : MemoryState). PassesIn old s (PresentIn old)) (sym is) (passes_two old Waited Synced old.bytes old.faults (PresentIn old) waited_one (synced_two reads all))
 
   -- a write
   pub wrote_passes : (at : ℕ) (kept : Vec ℕ Global) (piece : List ℕ) → kept.items ≡ piece → new ≡ after_write at kept old → PassesIn old new (After (Torn at (length piece)) (PresentIn old))
@@ -140,7 +142,7 @@ module _ (old new : MemoryState) where
       let there : (c : List ℕ) → After (Torn at (length kept.items)) (images_from old.first old.steps) c → P c = λ c has. (has.0, present has.0 has.1, has.2) in
       subst (λ (l : List ℕ). PassesIn old new (After (Torn at (length l)) (PresentIn old))) same (
       subst (λ (s : MemoryState). PassesIn old s P) (sym is)
-      (passes_two old.first old.steps (Wrote at kept) Waited P (λ c has. there c (images_one_to old.first (λ d. d ≡ old.first) old.steps (Wrote at kept) c has)) (λ c has. there c (images_two_to old.first (λ d. d ≡ old.first) old.steps (Wrote at kept) Waited c has)))
+      (passes_two old (Wrote at kept) Waited (overlay at kept.items old.bytes) old.faults P (λ c has. there c (images_one_to old.first (λ d. d ≡ old.first) old.steps (Wrote at kept) c has)) (λ c has. there c (images_two_to old.first (λ d. d ≡ old.first) old.steps (Wrote at kept) Waited c has)))
       )
 
   -- after a sync

@@ -1,11 +1,12 @@
 -- A disk in memory, and what a call leaves of it.
-use Rattle.std.specs.Prelude.{◌≡◌, ◌⊎◌, ◌==◌, ℕ, Bool, true, if◌then◌else◌, List, [], ◌∷◌, ◌++◌, Option, Some, None, Vec}
+use Rattle.std.specs.Prelude.{◌≡◌, ◌⊎◌, ◌==◌, ℕ, Bool, true, if◌then◌else◌, List, [], ◌∷◌, ◌++◌, length, take, Option, Some, None, Vec}
 use Rattle.std.specs.List.{list_any}
 use Rattle.std.specs.declared.alloc.Global.{Global}
+use Rattle.disk_model.specs.Calls.{Seen}
 use Rattle.disk_model.specs.Counts.{next_count}
 use Rattle.disk_model.specs.declared.step.Step.{Step}
 use Rattle.disk_model.specs.declared.step.Step.TheVariants.{Waited, Wrote, Synced}
-use Rattle.disk_model.specs.Steps.{overlay}
+use Rattle.disk_model.specs.Steps.{overlay, images_from}
 
 -- the bytes of the start: those that were kept, or the present ones, where nothing has been written
 abbrev pub first_of : Option (Vec ℕ Global) → List ℕ → List ℕ
@@ -21,6 +22,10 @@ pub record MemoryState : Type 0 where
   pub calls : ℕ
   pub faults : ℕ
   pub refused : ℕ
+
+-- what contracts see of it: a moment for each step, with what a crash may leave after the first so many
+abbrev pub seen_in : MemoryState → Seen
+seen_in s = record { tells = true; reads = s.bytes; moment = length s.steps; image = λ moment. images_from s.first (take moment s.steps); count = s.faults }
 
 abbrev pub new_state : List ℕ → List ℕ → ℕ → MemoryState
 new_state bytes fails faults = record { first = bytes; bytes = bytes; steps = []; fails = fails; calls = 0; faults = faults; refused = 0 }

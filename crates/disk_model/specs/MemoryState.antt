@@ -1,7 +1,7 @@
 -- What contracts see of a disk in memory.
-use Rattle.std.specs.Prelude.{ℕ, List, length, take}
-use Rattle.disk_model.specs.Memory.{MemoryState, first_of}
-use Rattle.disk_model.specs.Steps.{images_from}
+use Rattle.std.specs.Prelude.{ℕ, List, length}
+use Rattle.disk_model.specs.Calls.{Seen}
+use Rattle.disk_model.specs.Memory.{MemoryState, first_of, seen_in}
 use Rattle.disk_model.specs.declared.memory_disk.MemoryDisk.{MemoryDisk}
 
 abbrev pub state_of : MemoryDisk → MemoryState
@@ -15,10 +15,6 @@ state_of d = record {
   refused = d.refused;
 }
 
--- two moments for each call that was kept
-abbrev pub moment_of : MemoryDisk → ℕ
-moment_of d = length d.steps.items
-
--- what a crash may leave after the first so many moments
-abbrev pub image_of : MemoryDisk → ℕ → List ℕ → Type 0
-image_of d moment = images_from (first_of d.first d.bytes.items) (take moment d.steps.items)
+-- It tells its bytes. There are two moments for each call that was kept.
+abbrev pub seen_of : MemoryDisk → Seen
+seen_of d = seen_in (state_of d)

@@ -1,6 +1,6 @@
 -- What a run of calls may leave, from what each call says of its own moments.
 use Rattle.std.specs.Prelude.{◌≡◌, ◌≤◌, ℕ, List, [], ◌∷◌, length, take}
-use Rattle.disk_model.specs.Calls.{Torn, After, Only, Goes, Now}
+use Rattle.disk_model.specs.Calls.{Seen, IsPresent, Torn, After, Only, Passes}
 
 -- What matters of a call: it changed no byte; it wrote so many bytes at an offset, failed or not; or it was a sync that succeeded where the disk read so.
 pub data Call : Type 0 where
@@ -23,22 +23,22 @@ abbrev pub left_within : (List ℕ → Type 0) → List Call → List ℕ → Ty
 left_within images calls c = (k : ℕ) × (k ≤ length calls) × left_after images (take k calls) c
 
 -- what the clauses of a call say of its moments
-abbrev pub IsCall : {D : Type 0} → (D → ℕ) → (D → ℕ → List ℕ → Type 0) → D → Call → D → Type 0
-IsCall moment image old looked new = Goes moment image old new (Now moment image old)
-IsCall moment image old (wrote at n) new = Goes moment image old new (After (Torn at n) (Now moment image old))
-IsCall moment image old (synced file) new = Goes moment image old new (Now moment image old) × Only file (Now moment image new)
+abbrev pub IsCall : Seen → Call → Seen → Type 0
+IsCall old looked new = Passes old new (IsPresent old)
+IsCall old (wrote at n) new = Passes old new (After (Torn at n) (IsPresent old))
+IsCall old (synced file) new = Passes old new (IsPresent old) × Only file (IsPresent new)
 
--- calls one after another, each with the state that it leaves
-abbrev pub IsRun : {D : Type 0} → (D → ℕ) → (D → ℕ → List ℕ → Type 0) → D → List (Call × D) → D → Type 0
-IsRun moment image start [] now = start ≡ now
-IsRun moment image start (step ∷ run) now = IsCall moment image start step.0 step.1 × IsRun moment image step.1 run now
+-- calls one after another, each with the disk that it leaves
+abbrev pub IsRun : {D : Type 0} → (D → Seen) → D → List (Call × D) → D → Type 0
+IsRun seen start [] now = start ≡ now
+IsRun seen start (step ∷ run) now = IsCall (seen start) step.0 (seen step.1) × IsRun seen step.1 run now
 
 abbrev pub calls_of : {D : Type 0} → List (Call × D) → List Call
 calls_of [] = []
 calls_of (step ∷ run) = step.0 ∷ calls_of run
 
 -- A crash at a moment since the start of a run leaves what some of its calls may leave, and one now what all of them may leave. The images of the moments before stay.
-abbrev pub RunLaw : {D : Type 0} → (D → ℕ) → (D → ℕ → List ℕ → Type 0) → Type 0
-RunLaw {D} moment image =
-    (start : D) (run : List (Call × D)) (now : D) → IsRun moment image start run now
-    → Goes moment image start now (left_within (Now moment image start) (calls_of run)) × ((c : List ℕ) → Now moment image now c → left_after (Now moment image start) (calls_of run) c)
+abbrev pub RunLaw : {D : Type 0} → (D → Seen) → Type 0
+RunLaw {D} seen =
+    (start : D) (run : List (Call × D)) (now : D) → IsRun seen start run now
+    → Passes (seen start) (seen now) (left_within (IsPresent (seen start)) (calls_of run)) × ((c : List ℕ) → IsPresent (seen now) c → left_after (IsPresent (seen start)) (calls_of run) c)

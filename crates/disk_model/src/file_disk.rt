@@ -1,7 +1,7 @@
 //! A disk over a file of the operating system.
-ghost use Rattle.std.specs.Prelude.{◌≡◌, ◌≤◌, ℕ, [], false};
+ghost use Rattle.std.specs.Prelude.{◌≡◌, ◌≤◌, ℕ};
 ghost use Rattle.disk_model.specs.Counts.{HasRisen, next_count};
-ghost use Rattle.disk_model.specs.Untold.{still_clock, no_image};
+ghost use Rattle.disk_model.specs.Untold.{untold};
 
 use crate::disk::Disk;
 use crate::disk_failed::DiskFailed;
@@ -50,15 +50,7 @@ impl<'a, R: Files<File = File>> FileDisk<'a, R> {
 impl<R: Files<File = File>> Disk for FileDisk<'_, R> {
     ghost use Rattle.disk_model.specs.Untold.{nothing_told};
 
-    ghost tells = { λ _. false };
-
-    ghost reads = { λ _. [] };
-
-    ghost moment = { still_clock };
-
-    ghost image = { no_image };
-
-    ghost count = { λ faults. faults };
+    ghost seen = { untold };
 
     ghost reads_now = { λ d told. absurd (nothing_told told) };
 

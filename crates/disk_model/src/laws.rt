@@ -11,7 +11,7 @@ use crate::disk::Disk;
 /// may leave: the images of the start, with the ranges of the writes torn, and after a sync that succeeded what a
 /// read gave then. The images of the moments before the run stay.
 pub fn runs_compose<D: Disk>()
-    ensures { RunLaw D.moment D.image }
+    ensures { RunLaw D.seen }
 {}
 
 /// The law of torn writes, byte by byte.

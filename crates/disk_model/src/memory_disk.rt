@@ -1,6 +1,6 @@
 //! A disk in memory that keeps what each call did, so that a crash at each past moment can be shown.
 ghost use Rattle.std.specs.Prelude.{◌≡◌, ◌+◌, ◌^◌, ◌≤◌, ◌<◌, ℕ, List, [], ◌∷◌, ◌++◌, length, take, drop, true, Option, None, Some, IfOk, IsErr, OnOk, OnErr};
-ghost use Rattle.disk_model.specs.Calls.{Holds, Torn, After, Only, Goes, Now};
+ghost use Rattle.disk_model.specs.Calls.{Holds, Torn, After, Only, Passes, IsPresent};
 ghost use Rattle.disk_model.specs.Counts.{Counts, HasRisen};
 ghost use Rattle.disk_model.specs.Steps.{overlay, reads_after, all_within, images_from};
 ghost use Rattle.disk_model.specs.Memory.{first_of, end_step, is_named, after_quiet, after_refused, after_write, HasFailed, new_state};
@@ -29,7 +29,7 @@ pub struct MemoryDisk {
 }
 
 impl MemoryDisk {
-    ghost use Rattle.disk_model.specs.MemoryState.{state_of, moment_of, image_of};
+    ghost use Rattle.disk_model.specs.MemoryState.{state_of, seen_of};
 
     /// A disk that holds these bytes, all of them synced. Its calls with the numbers in `fails` fail: `len`,
     /// `read_at`, `write_at` and `sync` are counted together, from 1. It takes no memory.
@@ -65,7 +65,7 @@ impl MemoryDisk {
     /// The present moment: twice the number of the calls that were kept. All are kept but those for which a growth
     /// was refused. The first moment of such a call lies within it, and the second one at its end.
     pub fn moment(&self) -> u64
-        ensures { result ≡ moment_of self.now }
+        ensures { result ≡ (seen_of self.now).moment }
     {
         self.steps.len() as u64
     }
@@ -82,8 +82,8 @@ impl MemoryDisk {
     /// the image exactly where i is below 64 and bit i of `pick` is 1. The image is as long as with all
     /// candidates, and bytes past the old end that no standing one gave are 0. The error is want of memory.
     pub fn image(&self, alloc: Global, moment: u64, pick: u64) -> Result<Vec<u8>, AllocError>
-        requires { moment ≤ moment_of self.now }
-        ensures { IfOk result (λ image. image_of self.now moment image.items) }
+        requires { moment ≤ (seen_of self.now).moment }
+        ensures { IfOk result (λ image. (seen_of self.now).image moment image.items) }
     {
         let start = first_bytes(&self.first, &self.bytes);
         replayed(alloc, start, &self.steps[..moment as usize], pick)
@@ -202,17 +202,9 @@ fn note(steps: &mut Vec<Step>, within: Step, end: Step) -> Result<(), AllocError
 
 impl Disk for MemoryDisk {
     ghost use Rattle.disk_model.specs.ReadsNow.{memory_reads_now};
-    ghost use Rattle.disk_model.specs.MemoryState.{state_of, moment_of, image_of};
+    ghost use Rattle.disk_model.specs.MemoryState.{state_of, seen_of};
 
-    ghost tells = { λ _. true };
-
-    ghost reads = { λ m. m.bytes.items };
-
-    ghost moment = { moment_of };
-
-    ghost image = { image_of };
-
-    ghost count = { λ m. m.faults };
+    ghost seen = { seen_of };
 
     ghost reads_now = { λ m told. memory_reads_now (first_of m.first m.bytes.items) m.bytes.items m.steps.items m.read m.within };
 
@@ -220,7 +212,7 @@ impl Disk for MemoryDisk {
     fn len(&mut self) -> Result<u64, DiskFailed>
         ensures len { IfOk result (λ n. n ≡ length self.old.bytes.items) }
         ensures reads { self.new.bytes.items ≡ self.old.bytes.items }
-        ensures crash { Goes moment_of image_of self.old self.new (Now moment_of image_of self.old) }
+        ensures crash { Passes (seen_of self.old) (seen_of self.new) (IsPresent (seen_of self.old)) }
         ensures cause { Counts self.old.faults self.new.faults result }
 
         ensures ok { OnOk result (state_of self.new ≡ after_quiet Waited (state_of self.old)) }
@@ -236,7 +228,7 @@ impl Disk for MemoryDisk {
         requires { at + length into.old ≤ length self.old.bytes.items }
         ensures read { OnOk result (into.new ≡ take (length into.old) (drop at self.old.bytes.items)) }
         ensures reads { self.new.bytes.items ≡ self.old.bytes.items }
-        ensures crash { Goes moment_of image_of self.old self.new (Now moment_of image_of self.old) }
+        ensures crash { Passes (seen_of self.old) (seen_of self.new) (IsPresent (seen_of self.old)) }
         ensures cause { Counts self.old.faults self.new.faults result }
 
         ensures ok { OnOk result (state_of self.new ≡ after_quiet Waited (state_of self.old)) }
@@ -255,8 +247,8 @@ impl Disk for MemoryDisk {
         requires end { at + length piece.now < 2 ^ 62 }
         ensures written { OnOk result (Holds self.old.bytes.items at piece.now self.new.bytes.items) }
         ensures torn { Torn at (length piece.now) self.old.bytes.items self.new.bytes.items }
-        ensures passes { OnOk result (moment_of self.old < moment_of self.new) }
-        ensures crash { Goes moment_of image_of self.old self.new (After (Torn at (length piece.now)) (Now moment_of image_of self.old)) }
+        ensures passes { OnOk result ((seen_of self.old).moment < (seen_of self.new).moment) }
+        ensures crash { Passes (seen_of self.old) (seen_of self.new) (After (Torn at (length piece.now)) (IsPresent (seen_of self.old))) }
         ensures cause { Counts self.old.faults self.new.faults result }
 
         ensures ok { OnOk result ((kept : _) × (kept.items ≡ piece.now) × (state_of self.new ≡ after_write at kept (state_of self.old))) }
@@ -274,10 +266,10 @@ impl Disk for MemoryDisk {
 
     /// After it, a crash leaves what a read gives. It fails as `len` does.
     fn sync(&mut self) -> Result<(), DiskFailed>
-        ensures durable { OnOk result (Only self.old.bytes.items (Now moment_of image_of self.new)) }
-        ensures passes { OnOk result (moment_of self.old < moment_of self.new) }
+        ensures durable { OnOk result (Only self.old.bytes.items (IsPresent (seen_of self.new))) }
+        ensures passes { OnOk result ((seen_of self.old).moment < (seen_of self.new).moment) }
         ensures reads { self.new.bytes.items ≡ self.old.bytes.items }
-        ensures crash { Goes moment_of image_of self.old self.new (Now moment_of image_of self.old) }
+        ensures crash { Passes (seen_of self.old) (seen_of self.new) (IsPresent (seen_of self.old)) }
         ensures cause { Counts self.old.faults self.new.faults result }
 
         ensures ok { OnOk result (state_of self.new ≡ after_quiet Synced (state_of self.old)) }
