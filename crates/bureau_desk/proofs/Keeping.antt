@@ -1,6 +1,7 @@
 -- What a desk keeps.
 use Rattle.std.proofs.Common.{◌≡◌, ℕ, Bool, List}
 use Rattle.setoff_model.specs.CutView.{CutView}
+use Rattle.disk_model.specs.Calls.{Seen}
 use Rattle.claim_history.specs.History.{IsLegal, AreValid}
 use Rattle.claim_history.specs.Needs.{IsWithinLimits}
 use Rattle.bureau_desk.specs.Rounds.{cuts_after}
@@ -9,10 +10,10 @@ use Rattle.bureau_desk.specs.Acting.{RecordedView}
 use Rattle.bureau_desk.specs.Desks.{desk_view, KeepsDesk}
 use Rattle.bureau_desk.proofs.Acted.{present_holds}
 
-pub keeps_desk : {D : Type 0} (tells : D → Bool) (moment : D → ℕ) (image : D → ℕ → List ℕ → Type 0) (count : D → ℕ) (kept : RecordedView D) (rounds : List CutView)
-    → Records tells moment image count kept.recorder kept.book.history → rounds ≡ cuts_after kept.recorder.cleared_with kept.book.history → IsLegal kept.book.history → AreValid kept.book.history → IsWithinLimits kept.book.history
-    → KeepsDesk tells moment image count (desk_view kept rounds)
-keeps_desk tells moment image count kept rounds has cuts legal valid within = record {
+pub keeps_desk : {D : Type 0} (seen : D → Seen) (kept : RecordedView D) (rounds : List CutView)
+    → Records seen kept.recorder kept.book.history → rounds ≡ cuts_after kept.recorder.cleared_with kept.book.history → IsLegal kept.book.history → AreValid kept.book.history → IsWithinLimits kept.book.history
+    → KeepsDesk seen (desk_view kept rounds)
+keeps_desk seen kept rounds has cuts legal valid within = record {
   legal = legal;
   valid = valid;
   within = within;
@@ -21,7 +22,7 @@ keeps_desk tells moment image count kept rounds has cuts legal valid within = re
   later = has.later;
   between = has.between;
   rounds_are = cuts;
-  moments = λ told. (has.told told).moments;
-  present = λ told. present_holds tells moment image count kept.recorder kept.book.history has told;
-  since = λ told. (has.told told).since;
+  moments = λ told. (has.recorded told).moments;
+  present = λ told. present_holds seen kept.recorder kept.book.history has told;
+  since = λ told. (has.recorded told).since;
 }

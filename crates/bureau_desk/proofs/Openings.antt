@@ -4,6 +4,7 @@ use Rattle.std.specs.List.{sum_by}
 use Rattle.std.proofs.lemmas.List.{reverse-append, map-append, append-nil, length-map}
 use Rattle.std.proofs.lemmas.List.Elements.{All-head, All-tail, All-weaker}
 use Rattle.std.proofs.lemmas.List.Sums.{sum_by-cons}
+use Rattle.disk_model.specs.Calls.{Seen}
 use Rattle.claim_history.specs.declared.entry.Entry.{Entry}
 use Rattle.claim_history.specs.History.{Call, ask, replay_after, is_accepted, second_count, last_count}
 use Rattle.claim_history.specs.Needs.{record_length_of, used_bytes_of}
@@ -84,14 +85,13 @@ none_between low high entries all = All-weaker (λ (e : Entry). is_accepted e �
 
 -- ---- an opening
 
-pub records_opened : {D : Type 0} (tells : D → Bool) (reads : D → List ℕ) (moment : D → ℕ) (image : D → ℕ → List ℕ → Type 0) (count : D → ℕ) (disk : D) (journal : JournalView D) (records : List Record) (spare : ℕ)
-    → IsOpen tells reads moment image count disk journal records → AreSound records
-    → Records tells moment image count (record { journal = journal; spare = spare; opened = journal.disk; opened_with = length (history_of records); cleared = journal.disk; cleared_with = length (history_of records) }) (history_of records)
-records_opened tells reads moment image count disk journal records spare is sound =
+pub records_opened : {D : Type 0} (seen : D → Seen) (disk : D) (journal : JournalView D) (records : List Record) (spare : ℕ)
+    → IsOpen seen disk journal records → AreSound records
+    → Records seen (record { journal = journal; spare = spare; at_opening_end = journal.disk; opened_with = length (history_of records); at_clearing = journal.disk; cleared_with = length (history_of records) }) (history_of records)
+records_opened seen disk journal records spare is sound =
     let history = history_of records in
-    let here = moment journal.disk in
-    let images = image journal.disk in
-    let turn = moment journal.opened in
+    let here = seen journal.disk in
+    let turn = (seen journal.at_first_sync).moment in
     let many : length (accepted_calls history) ≡ length history = ap length (all_accepted history sound.accepted) ∙ length-map history call_of in
     record {
       place = place_of_records records journal.gate is.found.keepable sound is.place;
@@ -99,12 +99,12 @@ records_opened tells reads moment image count disk journal records spare is soun
       cleared_few = omega arith;
       counted = omega (arith, no_count history sound.accepted);
       later = omega arith;
-      between = none_between (count journal.disk) (count journal.disk) history sound.accepted;
-      told = λ told.
+      between = none_between (seen journal.disk).count (seen journal.disk).count history sound.accepted;
+      recorded = λ told.
           let told_old = subst (λ (b : Bool). IsTrue b) is.same told in
           let turned = is.turned told_old in
           let bodies = bodies_of_history records sound in
-          let moments : HasMoments here images turn (length history) history = record {
+          let moments : HasMoments here turn (length history) history = record {
             at = λ i. turn;
             begins = refl;
             within = omega (arith, many);
@@ -114,47 +114,47 @@ records_opened tells reads moment image count disk journal records spare is soun
             last = λ t c since le there. all_holds history c (subst (λ (bs : List (List ℕ)). Rattle.round_journal.specs.Bytes.Holds c bs) (sym bodies) (turned.late t c since le there (bodies_of records) (is.found.reading told_old).0));
           } in
           record {
-            kept = (None, subst (λ (bs : List (List ℕ)). IsKept tells moment image journal bs None) (sym bodies) (is.kept told_old), tt);
+            kept = (None, subst (λ (bs : List (List ℕ)). IsKept seen journal bs None) (sym bodies) (is.kept told_old), tt);
             moments = moments;
-            since = held_now here images turn (length history) history moments;
+            since = held_now here turn (length history) history moments;
           };
     }
 
 abbrev made : {D : Type 0} → JournalView D → ℕ → D → ℕ → D → ℕ → RecorderView D
-made journal spare opened opened_with cleared cleared_with = record { journal = journal; spare = spare; opened = opened; opened_with = opened_with; cleared = cleared; cleared_with = cleared_with }
+made journal spare opened opened_with cleared cleared_with = record { journal = journal; spare = spare; at_opening_end = opened; opened_with = opened_with; at_clearing = cleared; cleared_with = cleared_with }
 
-pub records_started : {D : Type 0} (tells : D → Bool) (reads : D → List ℕ) (moment : D → ℕ) (image : D → ℕ → List ℕ → Type 0) (count : D → ℕ) (disk : D) (journal : JournalView D) (records : List Record) (r : RecorderView D) (history : List Entry) (n : ℕ)
-    → IsOpen tells reads moment image count disk journal records → AreSound records → history ≡ history_of records → n ≡ length history
-    → r.journal ≡ journal → r.opened ≡ journal.disk → r.opened_with ≡ n → r.cleared ≡ journal.disk → r.cleared_with ≡ n
-    → Records tells moment image count r history
-records_started {D = D} tells reads moment image count disk journal records r history n is sound same long at_journal opened opened_with cleared cleared_with =
+pub records_started : {D : Type 0} (seen : D → Seen) (disk : D) (journal : JournalView D) (records : List Record) (r : RecorderView D) (history : List Entry) (n : ℕ)
+    → IsOpen seen disk journal records → AreSound records → history ≡ history_of records → n ≡ length history
+    → r.journal ≡ journal → r.at_opening_end ≡ journal.disk → r.opened_with ≡ n → r.at_clearing ≡ journal.disk → r.cleared_with ≡ n
+    → Records seen r history
+records_started {D = D} seen disk journal records r history n is sound same long at_journal opened opened_with cleared cleared_with =
     let many : length (history_of records) ≡ n = ap length (sym same) ∙ sym long in
     let view : made journal r.spare journal.disk (length (history_of records)) journal.disk (length (history_of records)) ≡ r =
     ap (λ (j : JournalView D). made j r.spare journal.disk (length (history_of records)) journal.disk (length (history_of records))) (sym at_journal)
     ∙ ap (λ (d : D). made r.journal r.spare d (length (history_of records)) journal.disk (length (history_of records))) (sym opened)
-    ∙ ap (λ (k : ℕ). made r.journal r.spare r.opened k journal.disk (length (history_of records))) (many ∙ sym opened_with)
-    ∙ ap (λ (d : D). made r.journal r.spare r.opened r.opened_with d (length (history_of records))) (sym cleared)
-    ∙ ap (λ (k : ℕ). made r.journal r.spare r.opened r.opened_with r.cleared k) (many ∙ sym cleared_with) in
-    subst (λ (h : List Entry). Records tells moment image count r h) (sym same)
-    (subst (λ (v : RecorderView D). Records tells moment image count v (history_of records)) view (records_opened tells reads moment image count disk journal records r.spare is sound))
+    ∙ ap (λ (k : ℕ). made r.journal r.spare r.at_opening_end k journal.disk (length (history_of records))) (many ∙ sym opened_with)
+    ∙ ap (λ (d : D). made r.journal r.spare r.at_opening_end r.opened_with d (length (history_of records))) (sym cleared)
+    ∙ ap (λ (k : ℕ). made r.journal r.spare r.at_opening_end r.opened_with r.at_clearing k) (many ∙ sym cleared_with) in
+    subst (λ (h : List Entry). Records seen r h) (sym same)
+    (subst (λ (v : RecorderView D). Records seen v (history_of records)) view (records_opened seen disk journal records r.spare is sound))
 
 -- the opening ends at the present
-pub records_begun : {D : Type 0} (tells : D → Bool) (moment : D → ℕ) (image : D → ℕ → List ℕ → Type 0) (count : D → ℕ) (r r' : RecorderView D) (history : List Entry) → Records tells moment image count r history → All (λ e. is_accepted e ≡ true) history
-    → r'.journal ≡ r.journal → r'.opened ≡ r.journal.disk → r'.opened_with ≡ r.opened_with → r'.cleared ≡ r.journal.disk → r'.cleared_with ≡ length history → Records tells moment image count r' history
-records_begun {D = D} tells moment image count r r' history has accepted journal opened opened_with cleared cleared_with =
-    let was : Records tells moment image count (made r.journal r'.spare r.journal.disk r.opened_with r.journal.disk (length history)) history = record {
+pub records_begun : {D : Type 0} (seen : D → Seen) (r r' : RecorderView D) (history : List Entry) → Records seen r history → All (λ e. is_accepted e ≡ true) history
+    → r'.journal ≡ r.journal → r'.at_opening_end ≡ r.journal.disk → r'.opened_with ≡ r.opened_with → r'.at_clearing ≡ r.journal.disk → r'.cleared_with ≡ length history → Records seen r' history
+records_begun {D = D} seen r r' history has accepted journal opened opened_with cleared cleared_with =
+    let was : Records seen (made r.journal r'.spare r.journal.disk r.opened_with r.journal.disk (length history)) history = record {
       place = has.place;
       opened_few = has.opened_few;
       cleared_few = omega arith;
       counted = has.counted;
       later = omega arith;
-      between = none_between (count r.journal.disk) (count r.journal.disk) history accepted;
-      told = λ told. let kept = has.told told in record { kept = kept.kept; moments = kept.moments; since = held_now (moment r.journal.disk) (image r.journal.disk) (moment r.journal.opened) r.opened_with history kept.moments };
+      between = none_between (seen r.journal.disk).count (seen r.journal.disk).count history accepted;
+      recorded = λ told. let kept = has.recorded told in record { kept = kept.kept; moments = kept.moments; since = held_now (seen r.journal.disk) (seen r.journal.at_first_sync).moment r.opened_with history kept.moments };
     } in
     let view : made r.journal r'.spare r.journal.disk r.opened_with r.journal.disk (length history) ≡ r' =
     ap (λ (j : JournalView D). made j r'.spare r.journal.disk r.opened_with r.journal.disk (length history)) (sym journal)
     ∙ ap (λ (d : D). made r'.journal r'.spare d r.opened_with r.journal.disk (length history)) (sym opened)
-    ∙ ap (λ (n : ℕ). made r'.journal r'.spare r'.opened n r.journal.disk (length history)) (sym opened_with)
-    ∙ ap (λ (d : D). made r'.journal r'.spare r'.opened r'.opened_with d (length history)) (sym cleared)
-    ∙ ap (λ (n : ℕ). made r'.journal r'.spare r'.opened r'.opened_with r'.cleared n) (sym cleared_with) in
-    subst (λ (v : RecorderView D). Records tells moment image count v history) view was
+    ∙ ap (λ (n : ℕ). made r'.journal r'.spare r'.at_opening_end n r.journal.disk (length history)) (sym opened_with)
+    ∙ ap (λ (d : D). made r'.journal r'.spare r'.at_opening_end r'.opened_with d (length history)) (sym cleared)
+    ∙ ap (λ (n : ℕ). made r'.journal r'.spare r'.at_opening_end r'.opened_with r'.at_clearing n) (sym cleared_with) in
+    subst (λ (v : RecorderView D). Records seen v history) view was

@@ -2,8 +2,8 @@
 use Rattle.std.proofs.Common.{◌≡◌, inl, inr, ⊎_elim, ℕ, ◌+◌, ◌≤◌, max, Bool, true, false, if◌then◌else◌, List, [], ◌∷◌, ◌++◌, length, reverse, Option, Some, None, IsTrue, refl, sym, ◌∙◌, ap, subst, arith, length-append}
 use Rattle.std.proofs.lemmas.List.{reverse-append}
 use Rattle.std.proofs.lemmas.List.Elements.{All-push}
-use Rattle.disk_model.specs.Calls.{Goes}
-use Rattle.disk_model.proofs.Moments.{still, goes_wide}
+use Rattle.disk_model.specs.Calls.{Seen, Passes}
+use Rattle.disk_model.proofs.Moments.{passes_still, passes_wide}
 use Rattle.claim_history.specs.declared.act.Act.{Act}
 use Rattle.claim_history.specs.declared.entry.Entry.{Entry}
 use Rattle.claim_history.specs.declared.entry.Reply.{Reply}
@@ -90,73 +90,73 @@ between_own low high before after caller a b_is a_is le b counted told =
     let second : after ≡ counted = cc told in
     (omega (arith, first, b_is), omega (arith, first, second, b_is, a_is, le), omega (arith, second, a_is))
 
-module _ {D : Type 0} (tells : D → Bool) (moment : D → ℕ) (image : D → ℕ → List ℕ → Type 0) (count : D → ℕ) where
+module _ {D : Type 0} (seen : D → Seen) where
   abbrev view_at : JournalView D → ℕ → D → ℕ → D → ℕ → RecorderView D
-  view_at journal spare opened opened_with cleared cleared_with = record { journal = journal; spare = spare; opened = opened; opened_with = opened_with; cleared = cleared; cleared_with = cleared_with }
+  view_at journal spare opened opened_with cleared cleared_with = record { journal = journal; spare = spare; at_opening_end = opened; opened_with = opened_with; at_clearing = cleared; cleared_with = cleared_with }
 
   -- an entry that makes no call of the disk: it is refused, and tells of no device
-  pub records_noted : (r : RecorderView D) (history : List Entry) (e : Entry) → is_accepted e ≡ false → is_of_device e.reply ≡ false → Records tells moment image count r history → Records tells moment image count r (history ++ e ∷ [])
+  pub records_noted : (r : RecorderView D) (history : List Entry) (e : Entry) → is_accepted e ≡ false → is_of_device e.reply ≡ false → Records seen r history → Records seen r (history ++ e ∷ [])
   records_noted r history e refused undevice has =
       let uses = use_law history e in
       let long : length (history ++ e ∷ []) ≡ length history + 1 = length-append history (e ∷ []) in
       let empty : List ℕ → Type 0 = λ c. ⊥ in
-      let stays = still moment image r.journal.disk empty in
+      let stays = passes_still (seen r.journal.disk) empty in
       record {
         place = omega (arith, has.place, uses.bytes, own_refused e.act e.reply refused);
         opened_few = omega (arith, has.opened_few, long);
         cleared_few = omega (arith, has.cleared_few, long);
         counted = omega (arith, count_more history e, undevice_count e.reply undevice, has.counted);
         later = has.later;
-        between = between_more (count r.opened) (count r.journal.disk) (count r.journal.disk) history e (omega arith) has.between (no_counts (count r.opened) (count r.journal.disk) e undevice);
-        told = λ told. let was = has.told told in
+        between = between_more (seen r.at_opening_end).count (seen r.journal.disk).count (seen r.journal.disk).count history e (omega arith) has.between (no_counts (seen r.at_opening_end).count (seen r.journal.disk).count e undevice);
+        recorded = λ told. let was = has.recorded told in
             record {
-              kept = (was.kept.0, subst (λ (calls : List Call). IsKept tells moment image r.journal (bodies_of_calls calls) was.kept.0) (sym (accepted_same history e refused)) was.kept.1, tried_noted history e was.kept.0 refused was.kept.2);
-              moments = moments_kept (moment r.journal.disk) (moment r.journal.disk) (image r.journal.disk) (image r.journal.disk) (moment r.journal.opened) r.opened_with history e empty was.moments stays (λ c no. absurd no) refused;
-              since = held_on (moment r.journal.disk) (moment r.journal.disk) (image r.journal.disk) (image r.journal.disk) (moment r.cleared) r.cleared_with history e empty has.cleared_few was.since stays (λ c no. absurd no);
+              kept = (was.kept.0, subst (λ (calls : List Call). IsKept seen r.journal (bodies_of_calls calls) was.kept.0) (sym (accepted_same history e refused)) was.kept.1, tried_noted history e was.kept.0 refused was.kept.2);
+              moments = moments_kept (seen r.journal.disk) (seen r.journal.disk) (seen r.journal.at_first_sync).moment r.opened_with history e empty was.moments stays (λ c no. absurd no) refused;
+              since = held_on (seen r.journal.disk) (seen r.journal.disk) (seen r.at_clearing).moment r.cleared_with history e empty has.cleared_few was.since stays (λ c no. absurd no);
             };
       }
 
   -- a clearing
-  pub records_cleared : (r r' : RecorderView D) (history : List Entry) → Records tells moment image count r history → r'.journal ≡ r.journal → r'.opened ≡ r.opened → r'.opened_with ≡ r.opened_with → r'.cleared ≡ r.journal.disk → r'.cleared_with ≡ length history → Records tells moment image count r' history
+  pub records_cleared : (r r' : RecorderView D) (history : List Entry) → Records seen r history → r'.journal ≡ r.journal → r'.at_opening_end ≡ r.at_opening_end → r'.opened_with ≡ r.opened_with → r'.at_clearing ≡ r.journal.disk → r'.cleared_with ≡ length history → Records seen r' history
   records_cleared r r' history has journal opened opened_with cleared cleared_with =
-      let was : Records tells moment image count (view_at r.journal r'.spare r.opened r.opened_with r.journal.disk (length history)) history = record {
+      let was : Records seen (view_at r.journal r'.spare r.at_opening_end r.opened_with r.journal.disk (length history)) history = record {
         place = has.place;
         opened_few = has.opened_few;
         cleared_few = omega arith;
         counted = has.counted;
         later = has.later;
         between = has.between;
-        told = λ told. let was = has.told told in record { kept = was.kept; moments = was.moments; since = held_now (moment r.journal.disk) (image r.journal.disk) (moment r.journal.opened) r.opened_with history was.moments };
+        recorded = λ told. let was = has.recorded told in record { kept = was.kept; moments = was.moments; since = held_now (seen r.journal.disk) (seen r.journal.at_first_sync).moment r.opened_with history was.moments };
       } in
-      let is : view_at r.journal r'.spare r.opened r.opened_with r.journal.disk (length history) ≡ r' =
-      ap (λ (j : JournalView D). view_at j r'.spare r.opened r.opened_with r.journal.disk (length history)) (sym journal)
+      let is : view_at r.journal r'.spare r.at_opening_end r.opened_with r.journal.disk (length history) ≡ r' =
+      ap (λ (j : JournalView D). view_at j r'.spare r.at_opening_end r.opened_with r.journal.disk (length history)) (sym journal)
       ∙ ap (λ (d : D). view_at r'.journal r'.spare d r.opened_with r.journal.disk (length history)) (sym opened)
-      ∙ ap (λ (n : ℕ). view_at r'.journal r'.spare r'.opened n r.journal.disk (length history)) (sym opened_with)
-      ∙ ap (λ (d : D). view_at r'.journal r'.spare r'.opened r'.opened_with d (length history)) (sym cleared)
-      ∙ ap (λ (n : ℕ). view_at r'.journal r'.spare r'.opened r'.opened_with r'.cleared n) (sym cleared_with) in
-      subst (λ (v : RecorderView D). Records tells moment image count v history) is was
+      ∙ ap (λ (n : ℕ). view_at r'.journal r'.spare r'.at_opening_end n r.journal.disk (length history)) (sym opened_with)
+      ∙ ap (λ (d : D). view_at r'.journal r'.spare r'.at_opening_end r'.opened_with d (length history)) (sym cleared)
+      ∙ ap (λ (n : ℕ). view_at r'.journal r'.spare r'.at_opening_end r'.opened_with r'.at_clearing n) (sym cleared_with) in
+      subst (λ (v : RecorderView D). Records seen v history) is was
 
   -- an append of the call of an entry
   module _ (j j' : JournalView D) (spare spare' : ℕ) (opened : D) (opened_with : ℕ) (cleared : D) (cleared_with : ℕ) (history : List Entry) (e : Entry) (body : List ℕ)
-      (has : Records tells moment image count (view_at j spare opened opened_with cleared cleared_with) history)
+      (has : Records seen (view_at j spare opened opened_with cleared cleared_with) history)
       (body_is : body ≡ body_of e.caller e.act)
-      (same_opened : j'.opened ≡ j.opened)
-      (same_tells : tells j'.disk ≡ tells j.disk)
-      (counts : count j.disk ≤ count j'.disk)
-      (crash : (bodies : List (List ℕ)) (last : Option (List ℕ)) → IsKept tells moment image j bodies last → Goes moment image j.disk j'.disk (HoldsOne bodies last body)) where
-    was_told : IsTrue (tells j'.disk) → IsRecorded tells moment image (view_at j spare opened opened_with cleared cleared_with) history
-    was_told told = has.told (subst (λ (b : Bool). IsTrue b) same_tells told)
+      (same_opened : j'.at_first_sync ≡ j.at_first_sync)
+      (same_tells : (seen j'.disk).tells ≡ (seen j.disk).tells)
+      (counts : (seen j.disk).count ≤ (seen j'.disk).count)
+      (crash : (bodies : List (List ℕ)) (last : Option (List ℕ)) → IsKept seen j bodies last → Passes (seen j.disk) (seen j'.disk) (HoldsOne bodies last body)) where
+    was_told : IsTrue (seen j'.disk).tells → IsRecorded seen (view_at j spare opened opened_with cleared cleared_with) history
+    was_told told = has.recorded (subst (λ (b : Bool). IsTrue b) same_tells told)
 
     -- what a crash leaves while it goes on
-    pub append_goes : IsTrue (tells j.disk) → Goes moment image j.disk j'.disk (HoldsDuring history (call_of e))
+    pub append_goes : IsTrue (seen j.disk).tells → Passes (seen j.disk) (seen j'.disk) (HoldsDuring history (call_of e))
     append_goes told =
-        let kept = (has.told told).kept in
-        goes_wide moment image j.disk j'.disk (HoldsOne (bodies_of_calls (accepted_calls history)) kept.0 body) (HoldsDuring history (call_of e)) (crash (bodies_of_calls (accepted_calls history)) kept.0 kept.1)
+        let kept = (has.recorded told).kept in
+        passes_wide (seen j.disk) (seen j'.disk) (HoldsOne (bodies_of_calls (accepted_calls history)) kept.0 body) (HoldsDuring history (call_of e)) (crash (bodies_of_calls (accepted_calls history)) kept.0 kept.1)
         (λ c one. during_of_one history kept.0 (call_of e) c kept.2 (subst (λ (b : List ℕ). HoldsOne (bodies_of_calls (accepted_calls history)) kept.0 b c) body_is one))
 
     pub records_accepted : is_accepted e ≡ true → j'.gate ≡ j.gate + 5 + length body → length body ≡ body_length_of e.act
-        → ((bodies : List (List ℕ)) (last : Option (List ℕ)) → IsKept tells moment image j bodies last → IsKept tells moment image j' (bodies ++ body ∷ []) None)
-        → Records tells moment image count (view_at j' spare' opened opened_with cleared cleared_with) (history ++ e ∷ [])
+        → ((bodies : List (List ℕ)) (last : Option (List ℕ)) → IsKept seen j bodies last → IsKept seen j' (bodies ++ body ∷ []) None)
+        → Records seen (view_at j' spare' opened opened_with cleared cleared_with) (history ++ e ∷ [])
     records_accepted accepted gate length_is done =
         let uses = use_law history e in
         let long : length (history ++ e ∷ []) ≡ length history + 1 = length-append history (e ∷ []) in
@@ -167,27 +167,27 @@ module _ {D : Type 0} (tells : D → Bool) (moment : D → ℕ) (image : D → �
           cleared_few = omega (arith, has.cleared_few, long);
           counted = omega (arith, count_more history e, accepted_count e.reply accepted, has.counted, counts);
           later = omega (arith, has.later, counts);
-          between = between_more (count opened) (count j.disk) (count j'.disk) history e counts has.between (no_counts (count opened) (count j'.disk) e undevice);
-          told = λ told.
+          between = between_more (seen opened).count (seen j.disk).count (seen j'.disk).count history e counts has.between (no_counts (seen opened).count (seen j'.disk).count e undevice);
+          recorded = λ told.
               let was = was_told told in
               let told_old = subst (λ (b : Bool). IsTrue b) same_tells told in
               let goes = append_goes told_old in
               let same : bodies_of_calls (accepted_calls history) ++ body ∷ [] ≡ bodies_of_calls (accepted_calls (history ++ e ∷ [])) =
               ap (λ (b : List ℕ). bodies_of_calls (accepted_calls history) ++ b ∷ []) body_is ∙ sym (ap bodies_of_calls (accepted_more history e accepted) ∙ bodies_append (accepted_calls history) (call_of e ∷ [])) in
-              let kept : IsKept tells moment image j' (bodies_of_calls (accepted_calls (history ++ e ∷ []))) None = subst (λ (bs : List (List ℕ)). IsKept tells moment image j' bs None) same (done (bodies_of_calls (accepted_calls history)) was.kept.0 was.kept.1) in
+              let kept : IsKept seen j' (bodies_of_calls (accepted_calls (history ++ e ∷ []))) None = subst (λ (bs : List (List ℕ)). IsKept seen j' bs None) same (done (bodies_of_calls (accepted_calls history)) was.kept.0 was.kept.1) in
               let holds : (c : List ℕ) → HoldsDuring history (call_of e) c → HoldsAt (history ++ e ∷ []) (length (accepted_calls history)) c = λ c during. during_accepted history e c accepted during in
               record {
                 kept = (None, kept, tt);
-                moments = subst (λ (d : D). HasMoments (moment j'.disk) (image j'.disk) (moment d) opened_with (history ++ e ∷ [])) (sym same_opened)
-                    (moments_grow (moment j.disk) (moment j'.disk) (image j.disk) (image j'.disk) (moment j.opened) opened_with history e (HoldsDuring history (call_of e)) was.moments goes holds accepted
+                moments = subst (λ (d : D). HasMoments (seen j'.disk) (seen d).moment opened_with (history ++ e ∷ [])) (sym same_opened)
+                    (moments_grow (seen j.disk) (seen j'.disk) (seen j.at_first_sync).moment opened_with history e (HoldsDuring history (call_of e)) was.moments goes holds accepted
                     (λ c now. all_holds (history ++ e ∷ []) c (inl (record { short = kept.short; ends = kept.images c now }))));
-                since = held_on (moment j.disk) (moment j'.disk) (image j.disk) (image j'.disk) (moment cleared) cleared_with history e (HoldsDuring history (call_of e)) has.cleared_few was.since goes holds;
+                since = held_on (seen j.disk) (seen j'.disk) (seen cleared).moment cleared_with history e (HoldsDuring history (call_of e)) has.cleared_few was.since goes holds;
               };
         }
 
-    pub records_failed : is_accepted e ≡ false → is_of_device e.reply ≡ true → j'.gate ≡ j.gate → second_count e.reply ≤ count j'.disk → IsBetween (count j.disk) (count j'.disk) e
-        → ((bodies : List (List ℕ)) (last : Option (List ℕ)) → IsKept tells moment image j bodies last → (after : Option (List ℕ)) × IsLast last body after × IsKept tells moment image j' bodies after)
-        → Records tells moment image count (view_at j' spare' opened opened_with cleared cleared_with) (history ++ e ∷ [])
+    pub records_failed : is_accepted e ≡ false → is_of_device e.reply ≡ true → j'.gate ≡ j.gate → second_count e.reply ≤ (seen j'.disk).count → IsBetween (seen j.disk).count (seen j'.disk).count e
+        → ((bodies : List (List ℕ)) (last : Option (List ℕ)) → IsKept seen j bodies last → (after : Option (List ℕ)) × IsLast last body after × IsKept seen j' bodies after)
+        → Records seen (view_at j' spare' opened opened_with cleared cleared_with) (history ++ e ∷ [])
     records_failed refused device gate second own failed =
         let uses = use_law history e in
         let long : length (history ++ e ∷ []) ≡ length history + 1 = length-append history (e ∷ []) in
@@ -197,9 +197,9 @@ module _ {D : Type 0} (tells : D → Bool) (moment : D → ℕ) (image : D → �
           cleared_few = omega (arith, has.cleared_few, long);
           counted = omega (arith, count_more history e, second, has.counted, counts);
           later = omega (arith, has.later, counts);
-          between = between_more (count opened) (count j.disk) (count j'.disk) history e counts has.between
+          between = between_more (seen opened).count (seen j.disk).count (seen j'.disk).count history e counts has.between
               (λ before counted told. let here = own before counted told in (omega (arith, here.0, has.later), here.1, here.2));
-          told = λ told.
+          recorded = λ told.
               let was = was_told told in
               let told_old = subst (λ (b : Bool). IsTrue b) same_tells told in
               let goes = append_goes told_old in
@@ -207,9 +207,9 @@ module _ {D : Type 0} (tells : D → Bool) (moment : D → ℕ) (image : D → �
               let last_is : IsLast was.kept.0 (body_of e.caller e.act) after.0 = subst (λ (b : List ℕ). IsLast was.kept.0 b after.0) body_is after.1 in
               let holds : (c : List ℕ) → HoldsDuring history (call_of e) c → HoldsAt (history ++ e ∷ []) (length (accepted_calls history)) c = λ c during. during_failed history e c device refused during in
               record {
-                kept = (after.0, subst (λ (calls : List Call). IsKept tells moment image j' (bodies_of_calls calls) after.0) (sym (accepted_same history e refused)) after.2, tried_after history e was.kept.0 after.0 device refused was.kept.2 last_is);
-                moments = subst (λ (d : D). HasMoments (moment j'.disk) (image j'.disk) (moment d) opened_with (history ++ e ∷ [])) (sym same_opened)
-                    (moments_kept (moment j.disk) (moment j'.disk) (image j.disk) (image j'.disk) (moment j.opened) opened_with history e (HoldsDuring history (call_of e)) was.moments goes holds refused);
-                since = held_on (moment j.disk) (moment j'.disk) (image j.disk) (image j'.disk) (moment cleared) cleared_with history e (HoldsDuring history (call_of e)) has.cleared_few was.since goes holds;
+                kept = (after.0, subst (λ (calls : List Call). IsKept seen j' (bodies_of_calls calls) after.0) (sym (accepted_same history e refused)) after.2, tried_after history e was.kept.0 after.0 device refused was.kept.2 last_is);
+                moments = subst (λ (d : D). HasMoments (seen j'.disk) (seen d).moment opened_with (history ++ e ∷ [])) (sym same_opened)
+                    (moments_kept (seen j.disk) (seen j'.disk) (seen j.at_first_sync).moment opened_with history e (HoldsDuring history (call_of e)) was.moments goes holds refused);
+                since = held_on (seen j.disk) (seen j'.disk) (seen cleared).moment cleared_with history e (HoldsDuring history (call_of e)) has.cleared_few was.since goes holds;
               };
         }

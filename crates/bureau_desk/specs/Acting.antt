@@ -1,6 +1,6 @@
 -- What is done of an act that is asked of a desk.
 use Rattle.std.specs.Prelude.{◌≡◌, ◌+◌, ◌*◌, ◌≤◌, ℕ, Bool, true, false, List, [], ◌∷◌, ◌++◌, length, reverse, Some, IsTrue, ◌&&◌, ◌==◌, if◌then◌else◌}
-use Rattle.disk_model.specs.Calls.{Goes, Now}
+use Rattle.disk_model.specs.Calls.{Seen, IsPresent, Passes}
 use Rattle.claim_history.specs.declared.act.Act.{Act}
 use Rattle.claim_history.specs.declared.entry.Entry.{Entry}
 use Rattle.claim_history.specs.declared.entry.Reply.{Reply}
@@ -38,12 +38,12 @@ entry_of caller a got = record { caller = caller; act = a; reply = got }
 -- would be accepted and the disk's count rose. It was within the limits, and its entry is put at the end. Each image since the
 -- start holds what was left by the history, or its accepted calls and this one. Where the reply accepts the act, each present
 -- image has it with those before it. Where the act is refused, the disk is not called.
-pub record HasActed {D : Type 0} (tells : D → Bool) (moment : D → ℕ) (image : D → ℕ → List ℕ → Type 0) (count : D → ℕ) (old new : D) (history later : List Entry) (caller : ℕ) (a : Act) (got : Reply) : Type 0 where
+pub record HasActed {D : Type 0} (seen : D → Seen) (old new : D) (history later : List Entry) (caller : ℕ) (a : Act) (got : Reply) : Type 0 where
   pub entry : later ≡ history ++ entry_of caller a got ∷ []
-  pub replied : IsReplied (count old) (count new) (answer_of history caller a) got
+  pub replied : IsReplied (seen old).count (seen new).count (answer_of history caller a) got
   pub fits : is_full history caller a ≡ false
-  pub during : IsTrue (tells old) → Goes moment image old new (HoldsDuring history (record { caller = caller; act = a }))
-  pub stands : IsTrue (tells old) → is_no_refusal got ≡ true → (c : List ℕ) → Now moment image new c → HoldsFirst (accepted_calls later) c
+  pub during : IsTrue (seen old).tells → Passes (seen old) (seen new) (HoldsDuring history (record { caller = caller; act = a }))
+  pub stands : IsTrue (seen old).tells → is_no_refusal got ≡ true → (c : List ℕ) → IsPresent (seen new) c → HoldsFirst (accepted_calls later) c
   pub quiet : is_no_refusal (answer_of history caller a) ≡ false → new ≡ old
 
 -- why an act has no entry: there was no memory, or it is full as is told
@@ -53,10 +53,10 @@ IsActError history caller a (Full what needed limit) = IsFull history caller a (
 
 -- all but the journal and the memory is as it was
 pub record IsSameBase {D : Type 0} (old new : RecorderView D) : Type 0 where
-  pub opening : new.journal.opened ≡ old.journal.opened
-  pub opened : new.opened ≡ old.opened
+  pub at_first_sync : new.journal.at_first_sync ≡ old.journal.at_first_sync
+  pub at_opening_end : new.at_opening_end ≡ old.at_opening_end
   pub opened_with : new.opened_with ≡ old.opened_with
-  pub cleared : new.cleared ≡ old.cleared
+  pub at_clearing : new.at_clearing ≡ old.at_clearing
   pub cleared_with : new.cleared_with ≡ old.cleared_with
 
 -- the history and the journal are as they were, and no room was lowered
@@ -108,7 +108,7 @@ pub record IsOutcomeDue (history : List Entry) (caller number : ℕ) (outcome : 
   pub proved : Proves (obligations round.cut) outcome.discharges outcome.prices
 
 -- A Close was asked, and this is told of its reply.
-pub record HasClosed {D : Type 0} (tells : D → Bool) (moment : D → ℕ) (image : D → ℕ → List ℕ → Type 0) (count : D → ℕ) (old new : D) (history later : List Entry) (caller : ℕ) (a : Act) (told : CutReply) : Type 0 where
+pub record HasClosed {D : Type 0} (seen : D → Seen) (old new : D) (history later : List Entry) (caller : ℕ) (a : Act) (answer : CutReply) : Type 0 where
   pub got : Reply
-  pub acted : HasActed tells moment image count old new history later caller a got
-  pub told_is : IsCutReply got later told
+  pub acted : HasActed seen old new history later caller a got
+  pub answer_is : IsCutReply got later answer

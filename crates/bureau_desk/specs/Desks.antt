@@ -1,5 +1,5 @@
 -- What a desk shows, and what it keeps.
-use Rattle.std.specs.Prelude.{◌≡◌, ◌<◌, ◌≤◌, ℕ, Bool, List, [], ◌∷◌, ◌++◌, length, Some, IsTrue, true}
+use Rattle.std.specs.Prelude.{◌≡◌, ◌<◌, ◌≤◌, ℕ, Bool, List, [], ◌∷◌, ◌++◌, length, Some, IsTrue, true, if◌then◌else◌}
 use Rattle.setoff_model.specs.CutView.{CutView, OutcomeView}
 use Rattle.setoff_model.specs.Setoff.{total_of}
 use Rattle.claim_history.specs.declared.act.Act.TheVariants as act
@@ -11,7 +11,7 @@ use Rattle.claim_history.specs.declared.entry.Entry.{Entry}
 use Rattle.claim_history.specs.States.{OpenRound, state_of}
 use Rattle.claim_history.specs.History.{answer_of, IsLegal, AreValid}
 use Rattle.claim_history.specs.Needs.{IsWithinLimits}
-use Rattle.disk_model.specs.Calls.{Now}
+use Rattle.disk_model.specs.Calls.{Seen, IsPresent}
 use Rattle.bureau_desk.specs.Calls.{accepted_calls, HoldsFirst}
 use Rattle.bureau_desk.specs.Moments.{HasMoments, HeldSince}
 use Rattle.bureau_desk.specs.Devices.{AreBetween}
@@ -25,21 +25,50 @@ pub record DeskView (D : Type 0) : Type 0 where
   pub disk : D
   pub history : List Entry
   pub rounds : List CutView
-  pub first : D
-  pub opened : D
+  pub at_first_sync : D
+  pub at_opening_end : D
   pub opened_with : ℕ
-  pub cleared : D
+  pub at_clearing : D
   pub cleared_with : ℕ
+
+-- The six numbers of a desk that its calls leave as they are. But a clearing sets the fourth and the fifth.
+pub record DeskBase : Type 0 where
+  -- the moment of the opening's first sync that succeeded; 0 where the disk does not tell its bytes
+  pub moment_of_first_sync : ℕ
+  -- the disk's count of faults at the end of the opening
+  pub faults_at_opening_end : ℕ
+  -- how many entries were opened, without an abandonment
+  pub opened_with : ℕ
+  -- how many entries stood at the last clearing
+  pub cleared_with : ℕ
+  -- the moment of the last clearing; 0 where the disk does not tell its bytes
+  pub moment_of_clearing : ℕ
+  -- 1 where the disk tells its bytes, else 0
+  pub tells : ℕ
+
+abbrev pub base_of : {D : Type 0} → (D → Seen) → DeskView D → DeskBase
+base_of seen d = record {
+  moment_of_first_sync = if (seen d.at_opening_end).tells then (seen d.at_first_sync).moment else 0;
+  faults_at_opening_end = (seen d.at_opening_end).count;
+  opened_with = d.opened_with;
+  cleared_with = d.cleared_with;
+  moment_of_clearing = if (seen d.at_opening_end).tells then (seen d.at_clearing).moment else 0;
+  tells = if (seen d.at_opening_end).tells then 1 else 0;
+}
+
+-- the base as the list that a turn lock wants
+abbrev pub numbers_of : DeskBase → List ℕ
+numbers_of base = base.moment_of_first_sync ∷ base.faults_at_opening_end ∷ base.opened_with ∷ base.cleared_with ∷ base.moment_of_clearing ∷ base.tells ∷ []
 
 abbrev pub desk_view : {D : Type 0} → RecordedView D → List CutView → DeskView D
 desk_view kept rounds = record {
   disk = kept.recorder.journal.disk;
   history = kept.book.history;
   rounds = rounds;
-  first = kept.recorder.journal.opened;
-  opened = kept.recorder.opened;
+  at_first_sync = kept.recorder.journal.at_first_sync;
+  at_opening_end = kept.recorder.at_opening_end;
   opened_with = kept.recorder.opened_with;
-  cleared = kept.recorder.cleared;
+  at_clearing = kept.recorder.at_clearing;
   cleared_with = kept.recorder.cleared_with;
 }
 
@@ -58,28 +87,28 @@ pub record IsDesk {D : Type 0} (kept : RecordedView D) (rounds : List CutView) (
 
 -- all but the disk, the history and the rounds is as it was
 pub record HasSameBase {D : Type 0} (old new : DeskView D) : Type 0 where
-  pub first : new.first ≡ old.first
-  pub opened : new.opened ≡ old.opened
+  pub at_first_sync : new.at_first_sync ≡ old.at_first_sync
+  pub at_opening_end : new.at_opening_end ≡ old.at_opening_end
   pub opened_with : new.opened_with ≡ old.opened_with
-  pub cleared : new.cleared ≡ old.cleared
+  pub at_clearing : new.at_clearing ≡ old.at_clearing
   pub cleared_with : new.cleared_with ≡ old.cleared_with
 
 -- What a desk keeps. Its history is legal and within the limits. Each entry that tells of a device has its counts between the
 -- disk's count at the end of the opening and the present one. The rounds are the cuts of those that were published since the
 -- last clearing. Where the disk tells its bytes, there are the moments of the history, each present image holds all accepted
 -- calls, and each image since the last clearing those that were accepted by then.
-pub record KeepsDesk {D : Type 0} (tells : D → Bool) (moment : D → ℕ) (image : D → ℕ → List ℕ → Type 0) (count : D → ℕ) (d : DeskView D) : Type 0 where
+pub record KeepsDesk {D : Type 0} (seen : D → Seen) (d : DeskView D) : Type 0 where
   pub legal : IsLegal d.history
   pub valid : AreValid d.history
   pub within : IsWithinLimits d.history
   pub opened_few : d.opened_with ≤ length d.history
   pub cleared_few : d.cleared_with ≤ length d.history
-  pub later : count d.opened ≤ count d.disk
-  pub between : AreBetween (count d.opened) (count d.disk) d.history
+  pub later : (seen d.at_opening_end).count ≤ (seen d.disk).count
+  pub between : AreBetween (seen d.at_opening_end).count (seen d.disk).count d.history
   pub rounds_are : d.rounds ≡ cuts_after d.cleared_with d.history
-  pub moments : IsTrue (tells d.disk) → HasMoments (moment d.disk) (image d.disk) (moment d.first) d.opened_with d.history
-  pub present : IsTrue (tells d.disk) → (c : List ℕ) → Now moment image d.disk c → HoldsFirst (accepted_calls d.history) c
-  pub since : IsTrue (tells d.disk) → HeldSince (moment d.cleared) d.cleared_with (moment d.disk) (image d.disk) d.history
+  pub moments : IsTrue (seen d.disk).tells → HasMoments (seen d.disk) (seen d.at_first_sync).moment d.opened_with d.history
+  pub present : IsTrue (seen d.disk).tells → (c : List ℕ) → IsPresent (seen d.disk) c → HoldsFirst (accepted_calls d.history) c
+  pub since : IsTrue (seen d.disk).tells → HeldSince (seen d.at_clearing).moment d.cleared_with (seen d.disk) d.history
 
 -- what a publication adds to the rounds
 abbrev pub cut_told : CutView → PublishReply → List CutView
@@ -88,9 +117,9 @@ cut_told cut (Device before after) = []
 
 -- A publication was asked and got the reply that is told. The reply of the history is that it is published, with the sum of its
 -- discharges. Where it is, the cut is put at the end of the rounds.
-pub record HasPublished {D : Type 0} (tells : D → Bool) (moment : D → ℕ) (image : D → ℕ → List ℕ → Type 0) (count : D → ℕ) (old new : DeskView D) (caller : ℕ) (cut : CutView) (outcome : OutcomeView) (told : PublishReply) : Type 0 where
+pub record HasPublished {D : Type 0} (seen : D → Seen) (old new : DeskView D) (caller : ℕ) (cut : CutView) (outcome : OutcomeView) (answer : PublishReply) : Type 0 where
   pub got : Reply
-  pub acted : HasActed tells moment image count old.disk new.disk old.history new.history caller (act.Publish cut.round outcome) got
+  pub acted : HasActed seen old.disk new.disk old.history new.history caller (act.Publish cut.round outcome) got
   pub due : answer_of old.history caller (act.Publish cut.round outcome) ≡ reply.Published (total_of outcome.discharges)
-  pub told_is : IsPublishReply got told
-  pub rounds : new.rounds ≡ old.rounds ++ cut_told cut told
+  pub answer_is : IsPublishReply got answer
+  pub rounds : new.rounds ≡ old.rounds ++ cut_told cut answer

@@ -1,6 +1,7 @@
 -- What an opening of a desk gives.
 use Rattle.std.specs.Prelude.{◌≡◌, ◌⊎◌, ◌≤◌, ℕ, Bool, List, [], ◌∷◌, ◌++◌, length, None}
-use Rattle.disk_model.specs.Counts.{HasRisen}
+use Rattle.fault_count.specs.Counts.{HasRisen}
+use Rattle.disk_model.specs.Calls.{Seen}
 use Rattle.claim_history.specs.declared.act.Act.TheVariants as act
 use Rattle.claim_history.specs.declared.entry.Entry.{Entry}
 use Rattle.claim_history.specs.declared.entry.Reply.TheVariants as reply
@@ -23,18 +24,18 @@ IsOpenedHistory before history =
     (((state_of before).open_round ≡ None) × (history ≡ before)) ⊎ ((number : ℕ) × (history ≡ before ++ entry_of 0 act.Abandon (reply.Abandoned number) ∷ []))
 
 -- the desk has the history of the records that the disk held, and counts from here on
-pub record IsDeskOpen {D : Type 0} (tells : D → Bool) (reads : D → List ℕ) (count : D → ℕ) (old : D) (d : DeskView D) : Type 0 where
+pub record IsDeskOpen {D : Type 0} (seen : D → Seen) (old : D) (d : DeskView D) : Type 0 where
   pub records : List Record
-  pub found : AreFound (tells old) (reads old) records
+  pub found : AreFound (seen old).tells (seen old).reads records
   pub sound : AreSound records
   pub history : IsOpenedHistory (history_of records) d.history
   pub opened_with : d.opened_with ≡ length (history_of records)
-  pub opened : d.opened ≡ d.disk
-  pub cleared : d.cleared ≡ d.disk
+  pub at_opening_end : d.at_opening_end ≡ d.disk
+  pub at_clearing : d.at_clearing ≡ d.disk
   pub cleared_with : d.cleared_with ≡ length d.history
   pub rounds : d.rounds ≡ []
-  pub same : tells d.disk ≡ tells old
-  pub later : count old ≤ count d.disk
+  pub same : (seen d.disk).tells ≡ (seen old).tells
+  pub later : (seen old).count ≤ (seen d.disk).count
 
 -- the records are those that the disk held, and the replay stops there
 abbrev pub StopsAt : Bool → List ℕ → ReplayStop → Type 0
@@ -50,15 +51,15 @@ HasDeskCause told bytes low high (BadAct offset got) = StopsAt told bytes (stop.
 HasDeskCause told bytes low high (Overfull offset) = StopsAt told bytes (stop.Overfull offset)
 
 -- what a desk has that begins with this book
-pub record IsBegun {D : Type 0} (tells : D → Bool) (count : D → ℕ) (kept : RecordedView D) (d : DeskView D) : Type 0 where
+pub record IsBegun {D : Type 0} (seen : D → Seen) (kept : RecordedView D) (d : DeskView D) : Type 0 where
   pub history : IsOpenedHistory kept.book.history d.history
   pub opened_with : d.opened_with ≡ kept.recorder.opened_with
-  pub opened : d.opened ≡ d.disk
-  pub cleared : d.cleared ≡ d.disk
+  pub at_opening_end : d.at_opening_end ≡ d.disk
+  pub at_clearing : d.at_clearing ≡ d.disk
   pub cleared_with : d.cleared_with ≡ length d.history
   pub rounds : d.rounds ≡ []
-  pub same : tells d.disk ≡ tells kept.recorder.journal.disk
-  pub later : count kept.recorder.journal.disk ≤ count d.disk
+  pub same : (seen d.disk).tells ≡ (seen kept.recorder.journal.disk).tells
+  pub later : (seen kept.recorder.journal.disk).count ≤ (seen d.disk).count
 
 -- why none begins: there was no memory for the abandonment, or the disk failed
 abbrev pub IsNotBegun : ℕ → ℕ → DeskCause → Type 0

@@ -1,5 +1,6 @@
 -- What the record of a desk's calls on its disk keeps of a history.
 use Rattle.std.specs.Prelude.{◌≡◌, ◌≤◌, ◌+◌, ℕ, Bool, List, length, reverse, Option, Some, None, IsTrue}
+use Rattle.disk_model.specs.Calls.{Seen}
 use Rattle.claim_history.specs.declared.entry.Entry.{Entry}
 use Rattle.claim_history.specs.History.{Call, last_count}
 use Rattle.claim_history.specs.Needs.{used_bytes_of}
@@ -14,9 +15,9 @@ use Rattle.bureau_desk.specs.Devices.{AreBetween}
 pub record RecorderView (D : Type 0) : Type 0 where
   pub journal : JournalView D
   pub spare : ℕ
-  pub opened : D
+  pub at_opening_end : D
   pub opened_with : ℕ
-  pub cleared : D
+  pub at_clearing : D
   pub cleared_with : ℕ
 
 -- the body that was tried last is that of an entry that tells of a device, after which none was accepted
@@ -25,22 +26,22 @@ IsTried history None = Unit {0}
 IsTried history (Some body) = (tried : Call) × TriedLast history tried × (body ≡ body_of tried.caller tried.act)
 
 -- the journal keeps the bodies of the accepted calls, and perhaps one that was tried last
-abbrev pub KeepsAccepted : {D : Type 0} → (D → Bool) → (D → ℕ) → (D → ℕ → List ℕ → Type 0) → JournalView D → List Entry → Type 0
-KeepsAccepted tells moment image journal history =
-    (last : Option (List ℕ)) × IsKept tells moment image journal (bodies_of_calls (accepted_calls history)) last × IsTried history last
+abbrev pub KeepsAccepted : {D : Type 0} → (D → Seen) → JournalView D → List Entry → Type 0
+KeepsAccepted seen journal history =
+    (last : Option (List ℕ)) × IsKept seen journal (bodies_of_calls (accepted_calls history)) last × IsTried history last
 
 -- What holds of its bytes: they are kept, and each image of each moment since the opening holds what was accepted by then.
-pub record IsRecorded {D : Type 0} (tells : D → Bool) (moment : D → ℕ) (image : D → ℕ → List ℕ → Type 0) (r : RecorderView D) (history : List Entry) : Type 0 where
-  pub kept : KeepsAccepted tells moment image r.journal history
-  pub moments : HasMoments (moment r.journal.disk) (image r.journal.disk) (moment r.journal.opened) r.opened_with history
-  pub since : HeldSince (moment r.cleared) r.cleared_with (moment r.journal.disk) (image r.journal.disk) history
+pub record IsRecorded {D : Type 0} (seen : D → Seen) (r : RecorderView D) (history : List Entry) : Type 0 where
+  pub kept : KeepsAccepted seen r.journal history
+  pub moments : HasMoments (seen r.journal.disk) (seen r.journal.at_first_sync).moment r.opened_with history
+  pub since : HeldSince (seen r.at_clearing).moment r.cleared_with (seen r.journal.disk) history
 
 -- What a recorder keeps of a history, of whose bytes it speaks where the disk tells them.
-pub record Records {D : Type 0} (tells : D → Bool) (moment : D → ℕ) (image : D → ℕ → List ℕ → Type 0) (count : D → ℕ) (r : RecorderView D) (history : List Entry) : Type 0 where
+pub record Records {D : Type 0} (seen : D → Seen) (r : RecorderView D) (history : List Entry) : Type 0 where
   pub place : r.journal.gate + 1 ≡ used_bytes_of history
   pub opened_few : r.opened_with ≤ length history
   pub cleared_few : r.cleared_with ≤ length history
-  pub counted : last_count (reverse history) ≤ count r.journal.disk
-  pub later : count r.opened ≤ count r.journal.disk
-  pub between : AreBetween (count r.opened) (count r.journal.disk) history
-  pub told : IsTrue (tells r.journal.disk) → IsRecorded tells moment image r history
+  pub counted : last_count (reverse history) ≤ (seen r.journal.disk).count
+  pub later : (seen r.at_opening_end).count ≤ (seen r.journal.disk).count
+  pub between : AreBetween (seen r.at_opening_end).count (seen r.journal.disk).count history
+  pub recorded : IsTrue (seen r.journal.disk).tells → IsRecorded seen r history

@@ -54,8 +54,8 @@ impl<D: Disk> Desk<D> {
     /// BadHeader and BadRecord: as for a journal. BadAct and Overfull: the first record that is refused by those before it, or
     /// is above the limits: BadAct where it is refused, else Overfull.
     pub fn open(alloc: Global, disk: D) -> Result<Desk<D>, DeskRefused<D>>
-        ensures ok { IfOk result (IsDeskOpen D.tells D.reads D.count disk) }
-        ensures err { IfErr result (λ e. HasDeskCause (D.tells disk) (D.reads disk) (D.count disk) (D.count e.disk) e.cause) }
+        ensures ok { IfOk result (IsDeskOpen D.seen disk) }
+        ensures err { IfErr result (λ e. HasDeskCause (D.seen disk).tells (D.seen disk).reads (D.seen disk).count (D.seen e.disk).count e.cause) }
     {
         let (journal, records) = match Journal::open(alloc, disk) {
             Ok(opened) => opened,
@@ -78,9 +78,9 @@ impl<D: Disk> Desk<D> {
     /// The book of the records of a disk's journal, each with its one reply. It writes nothing, and abandons no round. The causes of
     /// an Err are those of `open`.
     pub fn view(alloc: Global, disk: &mut D) -> Result<Book, DeskCause>
-        ensures ok { IfOk result (λ book. HasViewed (D.tells disk.old) (D.reads disk.old) book.history) }
-        ensures err { IfErr result (HasDeskCause (D.tells disk.old) (D.reads disk.old) (D.count disk.old) (D.count disk.new)) }
-        ensures quiet { IsQuiet D.tells D.reads D.moment D.image D.count disk.old disk.new }
+        ensures ok { IfOk result (λ book. HasViewed (D.seen disk.old).tells (D.seen disk.old).reads book.history) }
+        ensures err { IfErr result (HasDeskCause (D.seen disk.old).tells (D.seen disk.old).reads (D.seen disk.old).count (D.seen disk.new).count) }
+        ensures quiet { IsQuiet (D.seen disk.old) (D.seen disk.new) }
     {
         match read_records(alloc, disk) {
             Ok(records) => match replay(alloc, &records) {
@@ -105,7 +105,7 @@ impl<D: Disk> Desk<D> {
         requires valid { is_valid act ≡ true }
         requires apart { is_publication act ≡ false }
         requires other { is_close act ≡ false }
-        ensures acted { IfOk result (λ got. HasActed D.tells D.moment D.image D.count self.old.disk self.new.disk self.old.history self.new.history caller act got) }
+        ensures acted { IfOk result (λ got. HasActed D.seen self.old.disk self.new.disk self.old.history self.new.history caller act got) }
         ensures error { IfErr result (IsActError self.old.history caller act) }
         ensures unchanged { OnErr result (self.new ≡ self.old) }
         ensures rounds { self.new.rounds ≡ self.old.rounds }
@@ -121,7 +121,7 @@ impl<D: Disk> Desk<D> {
     /// is open and its owner's last entry is this Close. The rest is as for `act`.
     pub fn cut(&mut self, caller: u32, kind: Kind, horizon: Day) -> Result<CutReply, ActError>
         requires caller { 1 ≤ caller }
-        ensures closed { IfOk result (HasClosed D.tells D.moment D.image D.count self.old.disk self.new.disk self.old.history self.new.history caller (acts.Close kind horizon)) }
+        ensures closed { IfOk result (HasClosed D.seen self.old.disk self.new.disk self.old.history self.new.history caller (acts.Close kind horizon)) }
         ensures error { IfErr result (IsActError self.old.history caller (acts.Close kind horizon)) }
         ensures unchanged { OnErr result (self.new ≡ self.old) }
         ensures rounds { self.new.rounds ≡ self.old.rounds }
@@ -142,7 +142,7 @@ impl<D: Disk> Desk<D> {
     pub fn publish(&mut self, caller: u32, checked: Checked) -> PublishReply
         requires caller { 1 ≤ caller }
         requires owned { IsPublishable self.old.history caller checked.cut }
-        ensures published { HasPublished D.tells D.moment D.image D.count self.old self.new caller checked.cut checked.outcome result }
+        ensures published { HasPublished D.seen self.old self.new caller checked.cut checked.outcome result }
         ensures base { HasSameBase self.old self.new }
     {
         let (cut, outcome) = checked.parts();
@@ -159,7 +159,7 @@ impl<D: Disk> Desk<D> {
     /// The book. The facts of the desk hold of it. It takes no memory.
     pub fn book(&self) -> &Book
         ensures history { result.now.history ≡ self.now.history }
-        ensures keeps { KeepsDesk D.tells D.moment D.image D.count self.now }
+        ensures keeps { KeepsDesk D.seen self.now }
     {
         let book = self.kept.book().book();
         let _history = book.history();
@@ -176,7 +176,7 @@ impl<D: Disk> Desk<D> {
 
     /// The disk's count of faults. It takes no memory.
     pub fn faults(&self) -> u64
-        ensures { result ≡ D.count self.now.disk }
+        ensures { result ≡ (D.seen self.now.disk).count }
     {
         self.kept.faults()
     }
@@ -193,9 +193,9 @@ impl<D: Disk> Desk<D> {
         ensures disk { self.new.disk ≡ self.old.disk }
         ensures history { self.new.history ≡ self.old.history }
         ensures rounds { self.new.rounds ≡ [] }
-        ensures cleared { self.new.cleared ≡ self.old.disk }
+        ensures cleared { self.new.at_clearing ≡ self.old.disk }
         ensures cleared_with { self.new.cleared_with ≡ length self.old.history }
-        ensures opening { (self.new.first ≡ self.old.first) × (self.new.opened ≡ self.old.opened) × (self.new.opened_with ≡ self.old.opened_with) }
+        ensures opening { (self.new.at_first_sync ≡ self.old.at_first_sync) × (self.new.at_opening_end ≡ self.old.at_opening_end) × (self.new.opened_with ≡ self.old.opened_with) }
     {
         self.kept.clear();
         self.rounds.clear();
@@ -204,7 +204,7 @@ impl<D: Disk> Desk<D> {
     /// Gives the disk back. The facts of the desk hold of it. It takes no memory.
     pub fn close(self) -> D
         ensures disk { result ≡ self.disk }
-        ensures keeps { KeepsDesk D.tells D.moment D.image D.count self }
+        ensures keeps { KeepsDesk D.seen self }
     {
         let _book = self.book();
         let Desk { kept, rounds: _ } = self;
@@ -236,8 +236,8 @@ fn device_of(reply: Reply) -> PublishReply
 fn begun<D: Disk>(kept: RecordedBook<D>, rounds: Vec<Cut>) -> Result<Desk<D>, DeskRefused<D>>
     requires empty { rounds.items ≡ [] }
     requires accepted { All (λ e. is_accepted e ≡ true) kept.book.history }
-    ensures ok { IfOk result (IsBegun D.tells D.count kept) }
-    ensures err { IfErr result (λ e. IsNotBegun (D.count kept.recorder.journal.disk) (D.count e.disk) e.cause) }
+    ensures ok { IfOk result (IsBegun D.seen kept) }
+    ensures err { IfErr result (λ e. IsNotBegun (D.seen kept.recorder.journal.disk).count (D.seen e.disk).count e.cause) }
 {
     let mut kept = kept;
     match kept.abandon() {

@@ -17,7 +17,7 @@ ghost use Rattle.claim_book.specs.Book.{room_for, GivesCut, ledger_of, open_cut_
 ghost use Rattle.journal_replay.specs.Replays.{is_close, history_of, AreSound};
 ghost use Rattle.round_journal.specs.Opened.{IsOpen};
 ghost use Rattle.round_journal.specs.declared.record.Record.{Record};
-ghost use Rattle.disk_model.specs.Counts.{HasRisen};
+ghost use Rattle.fault_count.specs.Counts.{HasRisen};
 ghost use Rattle.bureau_desk.specs.declared.desk_refused.DeskCause.TheVariants as causes;
 ghost use Rattle.bureau_desk.specs.Opening.{IsOpenedHistory};
 ghost use Rattle.bureau_desk.specs.Recorded.{Records};
@@ -54,17 +54,17 @@ impl<D: Disk> Model for RecordedBook<D> {
 
     ghost view = { λ b. record { recorder = b.recorder; book = b.book } };
 
-    ghost invariant = { λ b. Records D.tells D.moment D.image D.count b.recorder b.book.history };
+    ghost invariant = { λ b. Records D.seen b.recorder b.book.history };
 }
 
 impl<D: Disk> RecordedBook<D> {
     /// An opened journal with the book of its records.
     pub fn new(alloc: Global, journal: Journal<D>, book: LimitedBook) -> RecordedBook<D>
-        requires opened { (disk : D) × (records : List Record) × IsOpen D.tells D.reads D.moment D.image D.count disk journal records × AreSound records × (book.history ≡ history_of records) }
+        requires opened { (disk : D) × (records : List Record) × IsOpen D.seen disk journal records × AreSound records × (book.history ≡ history_of records) }
         ensures book { result.book ≡ book }
         ensures journal { result.recorder.journal ≡ journal }
-        ensures opened { (result.recorder.opened ≡ journal.disk) × (result.recorder.opened_with ≡ length book.history) }
-        ensures cleared { (result.recorder.cleared ≡ journal.disk) × (result.recorder.cleared_with ≡ length book.history) }
+        ensures opened { (result.recorder.at_opening_end ≡ journal.disk) × (result.recorder.opened_with ≡ length book.history) }
+        ensures cleared { (result.recorder.at_clearing ≡ journal.disk) × (result.recorder.cleared_with ≡ length book.history) }
     {
         let entries = book.book().history().len() as u64;
         let recorder = Recorder::new(alloc, journal, entries);
@@ -79,9 +79,9 @@ impl<D: Disk> RecordedBook<D> {
     /// failed.
     pub fn abandon(&mut self) -> Result<(), DeskCause>
         ensures done { OnOk result (IsOpenedHistory self.old.book.history self.new.book.history) }
-        ensures cause { IfErr result (λ e. (e ≡ causes.Memory) ⊎ ((before : ℕ) × (after : ℕ) × (e ≡ causes.Device before after) × (before ≡ D.count self.old.recorder.journal.disk) × (after ≡ D.count self.new.recorder.journal.disk) × HasRisen before after)) }
-        ensures tells { D.tells self.new.recorder.journal.disk ≡ D.tells self.old.recorder.journal.disk }
-        ensures counts { D.count self.old.recorder.journal.disk ≤ D.count self.new.recorder.journal.disk }
+        ensures cause { IfErr result (λ e. (e ≡ causes.Memory) ⊎ ((before : ℕ) × (after : ℕ) × (e ≡ causes.Device before after) × (before ≡ (D.seen self.old.recorder.journal.disk).count) × (after ≡ (D.seen self.new.recorder.journal.disk).count) × HasRisen before after)) }
+        ensures tells { (D.seen self.new.recorder.journal.disk).tells ≡ (D.seen self.old.recorder.journal.disk).tells }
+        ensures counts { (D.seen self.old.recorder.journal.disk).count ≤ (D.seen self.new.recorder.journal.disk).count }
         ensures base { IsSameBase self.old.recorder self.new.recorder }
     {
         if !has_open(self.book.book()) {
@@ -106,9 +106,9 @@ impl<D: Disk> RecordedBook<D> {
         requires { All (λ e. is_accepted e ≡ true) self.old.book.history }
         ensures book { self.new.book ≡ self.old.book }
         ensures journal { self.new.recorder.journal ≡ self.old.recorder.journal }
-        ensures opened { self.new.recorder.opened ≡ self.old.recorder.journal.disk }
+        ensures opened { self.new.recorder.at_opening_end ≡ self.old.recorder.journal.disk }
         ensures opened_with { self.new.recorder.opened_with ≡ self.old.recorder.opened_with }
-        ensures cleared { self.new.recorder.cleared ≡ self.old.recorder.journal.disk }
+        ensures cleared { self.new.recorder.at_clearing ≡ self.old.recorder.journal.disk }
         ensures cleared_with { self.new.recorder.cleared_with ≡ length self.old.book.history }
     {
         let entries = self.book.book().history().len() as u64;
@@ -118,7 +118,7 @@ impl<D: Disk> RecordedBook<D> {
     /// The book, of whose history the record is.
     pub fn book(&self) -> &LimitedBook
         ensures book { result.now ≡ self.now.book }
-        ensures records { Records D.tells D.moment D.image D.count self.now.recorder self.now.book.history }
+        ensures records { Records D.seen self.now.recorder self.now.book.history }
     {
         &self.book
     }
@@ -148,11 +148,11 @@ impl<D: Disk> RecordedBook<D> {
         requires fits { is_full self.old.book.history caller act ≡ false }
         requires room { room_for (state_of self.old.book.history) act ≤ self.old.book.room }
         requires spare { body_length_of act ≤ self.old.recorder.spare }
-        ensures acted { HasActed D.tells D.moment D.image D.count self.old.recorder.journal.disk self.new.recorder.journal.disk self.old.book.history self.new.book.history caller act result }
+        ensures acted { HasActed D.seen self.old.recorder.journal.disk self.new.recorder.journal.disk self.old.book.history self.new.book.history caller act result }
         ensures room { self.old.book.room ≤ self.new.book.room + 1 }
         ensures spare { self.old.recorder.spare ≤ self.new.recorder.spare }
-        ensures tells { D.tells self.new.recorder.journal.disk ≡ D.tells self.old.recorder.journal.disk }
-        ensures counts { D.count self.old.recorder.journal.disk ≤ D.count self.new.recorder.journal.disk }
+        ensures tells { (D.seen self.new.recorder.journal.disk).tells ≡ (D.seen self.old.recorder.journal.disk).tells }
+        ensures counts { (D.seen self.old.recorder.journal.disk).count ≤ (D.seen self.new.recorder.journal.disk).count }
         ensures base { IsSameBase self.old.recorder self.new.recorder }
     {
         let reply = self.recorder.keep(caller, &act, due);
@@ -166,7 +166,7 @@ impl<D: Disk> RecordedBook<D> {
         requires valid { is_valid act ≡ true }
         requires apart { is_publication act ≡ false }
         requires other { is_close act ≡ false }
-        ensures acted { IfOk result (λ got. HasActed D.tells D.moment D.image D.count self.old.recorder.journal.disk self.new.recorder.journal.disk self.old.book.history self.new.book.history caller act got) }
+        ensures acted { IfOk result (λ got. HasActed D.seen self.old.recorder.journal.disk self.new.recorder.journal.disk self.old.book.history self.new.book.history caller act got) }
         ensures error { IfErr result (IsActError self.old.book.history caller act) }
         ensures untouched { OnErr result (IsUntouched self.old self.new) }
         ensures room { OnOk result (room_for (state_of self.old.book.history) act ≤ self.new.book.room + 1) }
@@ -193,7 +193,7 @@ impl<D: Disk> RecordedBook<D> {
     ) -> Result<CutReply, ActError>
         requires caller { 1 ≤ caller }
         requires day { is_day horizon ≡ true }
-        ensures closed { IfOk result (HasClosed D.tells D.moment D.image D.count self.old.recorder.journal.disk self.new.recorder.journal.disk self.old.book.history self.new.book.history caller (acts.Close kind horizon)) }
+        ensures closed { IfOk result (HasClosed D.seen self.old.recorder.journal.disk self.new.recorder.journal.disk self.old.book.history self.new.book.history caller (acts.Close kind horizon)) }
         ensures error { IfErr result (IsActError self.old.book.history caller (acts.Close kind horizon)) }
         ensures untouched { OnErr result (IsUntouched self.old self.new) }
         ensures room { OnOk result (1 ≤ self.new.book.room) }
@@ -224,7 +224,7 @@ impl<D: Disk> RecordedBook<D> {
         requires due { replies.Opened round ≡ answer_of self.old.book.history caller (acts.Close kind horizon) }
         requires room { 2 ≤ self.old.book.room }
         requires spare { 10 ≤ self.old.recorder.spare }
-        ensures closed { IfOk result (HasClosed D.tells D.moment D.image D.count self.old.recorder.journal.disk self.new.recorder.journal.disk self.old.book.history self.new.book.history caller (acts.Close kind horizon)) }
+        ensures closed { IfOk result (HasClosed D.seen self.old.recorder.journal.disk self.new.recorder.journal.disk self.old.book.history self.new.book.history caller (acts.Close kind horizon)) }
         ensures error { IfErr result (IsActError self.old.book.history caller (acts.Close kind horizon)) }
         ensures untouched { OnErr result (IsUntouched self.old self.new) }
         ensures room { OnOk result (1 ≤ self.new.book.room) }
@@ -266,7 +266,7 @@ impl<D: Disk> RecordedBook<D> {
         requires room { 2 ≤ self.old.book.room }
         requires spare { 10 ≤ self.old.recorder.spare }
         requires publication { 17 + (8 * length cut.claims + 4 * length cut.parties) ≤ self.old.recorder.spare }
-        ensures closed { HasClosed D.tells D.moment D.image D.count self.old.recorder.journal.disk self.new.recorder.journal.disk self.old.book.history self.new.book.history caller (acts.Close kind horizon) result }
+        ensures closed { HasClosed D.seen self.old.recorder.journal.disk self.new.recorder.journal.disk self.old.book.history self.new.book.history caller (acts.Close kind horizon) result }
         ensures room { 1 ≤ self.new.book.room }
         ensures spared { IsSpared self.old → IsSpared self.new }
         ensures spare { self.old.recorder.spare ≤ self.new.recorder.spare }
@@ -300,7 +300,7 @@ impl<D: Disk> RecordedBook<D> {
         requires due { due ≡ answer_of self.old.book.history caller (acts.Close kind horizon) }
         requires room { 2 ≤ self.old.book.room }
         requires spare { 10 ≤ self.old.recorder.spare }
-        ensures closed { IfOk result (HasClosed D.tells D.moment D.image D.count self.old.recorder.journal.disk self.new.recorder.journal.disk self.old.book.history self.new.book.history caller (acts.Close kind horizon)) }
+        ensures closed { IfOk result (HasClosed D.seen self.old.recorder.journal.disk self.new.recorder.journal.disk self.old.book.history self.new.book.history caller (acts.Close kind horizon)) }
         ensures error { IfErr result (IsActError self.old.book.history caller (acts.Close kind horizon)) }
         ensures untouched { OnErr result (IsUntouched self.old self.new) }
         ensures room { OnOk result (1 ≤ self.new.book.room) }
@@ -326,7 +326,7 @@ impl<D: Disk> RecordedBook<D> {
         requires due { IsOutcomeDue self.old.book.history caller number outcome }
         requires room { 1 ≤ self.old.book.room }
         requires spare { IsSpared self.old }
-        ensures acted { HasActed D.tells D.moment D.image D.count self.old.recorder.journal.disk self.new.recorder.journal.disk self.old.book.history self.new.book.history caller (acts.Publish number outcome) result.0 }
+        ensures acted { HasActed D.seen self.old.recorder.journal.disk self.new.recorder.journal.disk self.old.book.history self.new.book.history caller (acts.Publish number outcome) result.0 }
         ensures due { replies.Published (total_of outcome.discharges) ≡ answer_of self.old.book.history caller (acts.Publish number outcome) }
         ensures cut { GivesCut (state_of self.old.book.history).open_round (entry_of caller (acts.Publish number outcome) result.0) result.1 }
         ensures room { self.old.book.room ≤ self.new.book.room + 1 }
@@ -350,8 +350,8 @@ impl<D: Disk> RecordedBook<D> {
         ensures book { self.new.book ≡ self.old.book }
         ensures journal { self.new.recorder.journal ≡ self.old.recorder.journal }
         ensures room { self.new.recorder.spare ≡ self.old.recorder.spare }
-        ensures opened { (self.new.recorder.opened ≡ self.old.recorder.opened) × (self.new.recorder.opened_with ≡ self.old.recorder.opened_with) }
-        ensures cleared { self.new.recorder.cleared ≡ self.old.recorder.journal.disk }
+        ensures opened { (self.new.recorder.at_opening_end ≡ self.old.recorder.at_opening_end) × (self.new.recorder.opened_with ≡ self.old.recorder.opened_with) }
+        ensures cleared { self.new.recorder.at_clearing ≡ self.old.recorder.journal.disk }
         ensures cleared_with { self.new.recorder.cleared_with ≡ length self.old.book.history }
     {
         let entries = self.book.book().history().len() as u64;
@@ -360,7 +360,7 @@ impl<D: Disk> RecordedBook<D> {
 
     /// The disk's count of faults.
     pub fn faults(&self) -> u64
-        ensures { result ≡ D.count self.now.recorder.journal.disk }
+        ensures { result ≡ (D.seen self.now.recorder.journal.disk).count }
     {
         self.recorder.faults()
     }

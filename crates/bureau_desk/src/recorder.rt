@@ -1,7 +1,7 @@
 //! The record of a desk's calls on its disk.
 ghost use Rattle.std.specs.Prelude.{◌≡◌, ◌+◌, ◌^◌, ◌≤◌, ℕ, List, [], ◌∷◌, ◌++◌, length, true, false, IfErr, IfOk, OnOk, OnErr, IsTrue};
-ghost use Rattle.disk_model.specs.Calls.{Goes};
-ghost use Rattle.disk_model.specs.Counts.{HasRisen};
+ghost use Rattle.disk_model.specs.Calls.{Passes};
+ghost use Rattle.fault_count.specs.Counts.{HasRisen};
 ghost use Rattle.claim_history.specs.declared.entry.Entry.{Entry};
 ghost use Rattle.claim_history.specs.declared.entry.Reply.{Reply};
 ghost use Rattle.claim_history.specs.declared.entry.Reply.TheVariants as reply;
@@ -39,15 +39,15 @@ impl<D: Disk> Model for Recorder<D> {
 
     ghost Value = { RecorderView D };
 
-    ghost view = { λ r. record { journal = r.journal; spare = vec_capacity r.body; opened = r.opened.value; opened_with = r.opened_with; cleared = r.cleared.value; cleared_with = r.cleared_with } };
+    ghost view = { λ r. record { journal = r.journal; spare = vec_capacity r.body; at_opening_end = r.opened.value; opened_with = r.opened_with; at_clearing = r.cleared.value; cleared_with = r.cleared_with } };
 }
 
 impl<D: Disk> Recorder<D> {
     /// The recorder of an opened journal, with the number of its entries. It takes no memory.
     pub fn new(alloc: Global, journal: Journal<D>, entries: u64) -> Recorder<D>
         ensures journal { result.journal ≡ journal }
-        ensures opened { (result.opened ≡ journal.disk) × (result.opened_with ≡ entries) }
-        ensures cleared { (result.cleared ≡ journal.disk) × (result.cleared_with ≡ entries) }
+        ensures opened { (result.at_opening_end ≡ journal.disk) × (result.opened_with ≡ entries) }
+        ensures cleared { (result.at_clearing ≡ journal.disk) × (result.cleared_with ≡ entries) }
     {
         let opened = Snapshot::of(journal.disk());
         let cleared = Snapshot::of(journal.disk());
@@ -66,8 +66,8 @@ impl<D: Disk> Recorder<D> {
         ensures room { OnOk result (bytes ≤ self.new.spare) }
         ensures kept { self.old.spare ≤ self.new.spare }
         ensures journal { self.new.journal ≡ self.old.journal }
-        ensures opened { (self.new.opened ≡ self.old.opened) × (self.new.opened_with ≡ self.old.opened_with) }
-        ensures cleared { (self.new.cleared ≡ self.old.cleared) × (self.new.cleared_with ≡ self.old.cleared_with) }
+        ensures opened { (self.new.at_opening_end ≡ self.old.at_opening_end) × (self.new.opened_with ≡ self.old.opened_with) }
+        ensures cleared { (self.new.at_clearing ≡ self.old.at_clearing) × (self.new.cleared_with ≡ self.old.cleared_with) }
     {
         self.body.reserve(bytes)
     }
@@ -78,19 +78,19 @@ impl<D: Disk> Recorder<D> {
         requires kept { is_keepable caller act.now ≡ true }
         requires room { body_length_of act.now ≤ self.old.spare }
         requires near { self.old.journal.gate + 5 + body_length_of act.now ≤ 2 ^ 30 }
-        ensures done { OnOk result ((history : List Entry) (due : Reply) → is_no_refusal due ≡ true → Records D.tells D.moment D.image D.count self.old history
-            → Records D.tells D.moment D.image D.count self.new (history ++ record { caller = caller; act = act.now; reply = due } ∷ [])) }
-        ensures failed { IfErr result (λ e. (history : List Entry) → Records D.tells D.moment D.image D.count self.old history
-            → Records D.tells D.moment D.image D.count self.new (history ++ record { caller = caller; act = act.now; reply = reply.Refused (why.Device e.before e.after) } ∷ [])) }
-        ensures crash { (history : List Entry) → Records D.tells D.moment D.image D.count self.old history → IsTrue (D.tells self.old.journal.disk)
-            → Goes D.moment D.image self.old.journal.disk self.new.journal.disk (HoldsDuring history (record { caller = caller; act = act.now })) }
-        ensures cause { IfErr result (λ e. (e.before ≡ D.count self.old.journal.disk) × (e.after ≡ D.count self.new.journal.disk) × HasRisen e.before e.after) }
-        ensures counts { D.count self.old.journal.disk ≤ D.count self.new.journal.disk }
-        ensures tells { D.tells self.new.journal.disk ≡ D.tells self.old.journal.disk }
+        ensures done { OnOk result ((history : List Entry) (due : Reply) → is_no_refusal due ≡ true → Records D.seen self.old history
+            → Records D.seen self.new (history ++ record { caller = caller; act = act.now; reply = due } ∷ [])) }
+        ensures failed { IfErr result (λ e. (history : List Entry) → Records D.seen self.old history
+            → Records D.seen self.new (history ++ record { caller = caller; act = act.now; reply = reply.Refused (why.Device e.before e.after) } ∷ [])) }
+        ensures crash { (history : List Entry) → Records D.seen self.old history → IsTrue (D.seen self.old.journal.disk).tells
+            → Passes (D.seen self.old.journal.disk) (D.seen self.new.journal.disk) (HoldsDuring history (record { caller = caller; act = act.now })) }
+        ensures cause { IfErr result (λ e. (e.before ≡ (D.seen self.old.journal.disk).count) × (e.after ≡ (D.seen self.new.journal.disk).count) × HasRisen e.before e.after) }
+        ensures counts { (D.seen self.old.journal.disk).count ≤ (D.seen self.new.journal.disk).count }
+        ensures tells { (D.seen self.new.journal.disk).tells ≡ (D.seen self.old.journal.disk).tells }
         ensures room { self.old.spare ≤ self.new.spare }
-        ensures opening { self.new.journal.opened ≡ self.old.journal.opened }
-        ensures opened { (self.new.opened ≡ self.old.opened) × (self.new.opened_with ≡ self.old.opened_with) }
-        ensures cleared { (self.new.cleared ≡ self.old.cleared) × (self.new.cleared_with ≡ self.old.cleared_with) }
+        ensures opening { self.new.journal.at_first_sync ≡ self.old.journal.at_first_sync }
+        ensures opened { (self.new.at_opening_end ≡ self.old.at_opening_end) × (self.new.opened_with ≡ self.old.opened_with) }
+        ensures cleared { (self.new.at_clearing ≡ self.old.at_clearing) × (self.new.cleared_with ≡ self.old.cleared_with) }
     {
         encode(&mut self.body, caller, act);
         self.journal.append(&self.body)
@@ -105,20 +105,20 @@ impl<D: Disk> Recorder<D> {
         requires room { body_length_of act.now ≤ self.old.spare }
         requires near { is_no_refusal due ≡ true → self.old.journal.gate + 5 + body_length_of act.now ≤ 2 ^ 30 }
         requires undevice { is_of_device due ≡ false }
-        ensures records { (history : List Entry) → Records D.tells D.moment D.image D.count self.old history
-            → Records D.tells D.moment D.image D.count self.new (history ++ record { caller = caller; act = act.now; reply = result } ∷ []) }
-        ensures follows { (history : List Entry) → Records D.tells D.moment D.image D.count self.old history → due ≡ answer_of history caller act.now
+        ensures records { (history : List Entry) → Records D.seen self.old history
+            → Records D.seen self.new (history ++ record { caller = caller; act = act.now; reply = result } ∷ []) }
+        ensures follows { (history : List Entry) → Records D.seen self.old history → due ≡ answer_of history caller act.now
             → MayFollow history (record { caller = caller; act = act.now; reply = result }) }
-        ensures crash { (history : List Entry) → Records D.tells D.moment D.image D.count self.old history → IsTrue (D.tells self.old.journal.disk)
-            → Goes D.moment D.image self.old.journal.disk self.new.journal.disk (HoldsDuring history (record { caller = caller; act = act.now })) }
-        ensures replied { IsReplied (D.count self.old.journal.disk) (D.count self.new.journal.disk) due result }
+        ensures crash { (history : List Entry) → Records D.seen self.old history → IsTrue (D.seen self.old.journal.disk).tells
+            → Passes (D.seen self.old.journal.disk) (D.seen self.new.journal.disk) (HoldsDuring history (record { caller = caller; act = act.now })) }
+        ensures replied { IsReplied (D.seen self.old.journal.disk).count (D.seen self.new.journal.disk).count due result }
         ensures quiet { is_no_refusal due ≡ false → self.new ≡ self.old }
-        ensures counts { D.count self.old.journal.disk ≤ D.count self.new.journal.disk }
-        ensures tells { D.tells self.new.journal.disk ≡ D.tells self.old.journal.disk }
+        ensures counts { (D.seen self.old.journal.disk).count ≤ (D.seen self.new.journal.disk).count }
+        ensures tells { (D.seen self.new.journal.disk).tells ≡ (D.seen self.old.journal.disk).tells }
         ensures room { self.old.spare ≤ self.new.spare }
-        ensures opening { self.new.journal.opened ≡ self.old.journal.opened }
-        ensures opened { (self.new.opened ≡ self.old.opened) × (self.new.opened_with ≡ self.old.opened_with) }
-        ensures cleared { (self.new.cleared ≡ self.old.cleared) × (self.new.cleared_with ≡ self.old.cleared_with) }
+        ensures opening { self.new.journal.at_first_sync ≡ self.old.journal.at_first_sync }
+        ensures opened { (self.new.at_opening_end ≡ self.old.at_opening_end) × (self.new.opened_with ≡ self.old.opened_with) }
+        ensures cleared { (self.new.at_clearing ≡ self.old.at_clearing) × (self.new.cleared_with ≡ self.old.cleared_with) }
     {
         if !accepts(due) {
             return due;
@@ -133,8 +133,8 @@ impl<D: Disk> Recorder<D> {
     pub fn clear(&mut self, entries: u64)
         ensures journal { self.new.journal ≡ self.old.journal }
         ensures room { self.new.spare ≡ self.old.spare }
-        ensures opened { (self.new.opened ≡ self.old.opened) × (self.new.opened_with ≡ self.old.opened_with) }
-        ensures cleared { self.new.cleared ≡ self.old.journal.disk }
+        ensures opened { (self.new.at_opening_end ≡ self.old.at_opening_end) × (self.new.opened_with ≡ self.old.opened_with) }
+        ensures cleared { self.new.at_clearing ≡ self.old.journal.disk }
         ensures cleared_with { self.new.cleared_with ≡ entries }
     {
         self.cleared = Snapshot::of(self.journal.disk());
@@ -145,9 +145,9 @@ impl<D: Disk> Recorder<D> {
     pub fn begin(&mut self, entries: u64)
         ensures journal { self.new.journal ≡ self.old.journal }
         ensures room { self.new.spare ≡ self.old.spare }
-        ensures opened { self.new.opened ≡ self.old.journal.disk }
+        ensures opened { self.new.at_opening_end ≡ self.old.journal.disk }
         ensures opened_with { self.new.opened_with ≡ self.old.opened_with }
-        ensures cleared { self.new.cleared ≡ self.old.journal.disk }
+        ensures cleared { self.new.at_clearing ≡ self.old.journal.disk }
         ensures cleared_with { self.new.cleared_with ≡ entries }
     {
         self.opened = Snapshot::of(self.journal.disk());
@@ -163,7 +163,7 @@ impl<D: Disk> Recorder<D> {
 
     /// The disk's count of faults.
     pub fn faults(&self) -> u64
-        ensures { result ≡ D.count self.now.journal.disk }
+        ensures { result ≡ (D.seen self.now.journal.disk).count }
     {
         self.journal.disk().faults()
     }

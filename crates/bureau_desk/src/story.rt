@@ -7,13 +7,13 @@ use disk_model::Disk;
 use turn_lock::Story;
 
 impl<D: Disk> Story for Desk<D> {
-    ghost use Rattle.std.specs.Prelude.{[], ◌∷◌, if◌then◌else◌};
+    ghost use Rattle.bureau_desk.specs.Desks.{base_of, numbers_of};
 
     type Entry = Entry;
 
     ghost entries = { λ d. d.history };
 
-    ghost base = { λ d. (if D.tells d.opened then D.moment d.first else 0) ∷ D.count d.opened ∷ d.opened_with ∷ d.cleared_with ∷ (if D.tells d.opened then D.moment d.cleared else 0) ∷ (if D.tells d.opened then 1 else 0) ∷ [] };
+    ghost base = { λ d. numbers_of (base_of D.seen d) };
 
     ghost caller = { λ e. e.caller };
 

@@ -6,7 +6,7 @@ use Rattle.std.specs.declared.alloc.Global.{Global}
 use Rattle.disk_model.specs.Calls.{IsPresent, Torn, After, Passes}
 use Rattle.disk_model.specs.declared.step.Step.{Step}
 use Rattle.disk_model.specs.declared.step.Step.TheVariants.{Waited, Wrote, Synced}
-use Rattle.disk_model.specs.Counts.{next_count}
+use Rattle.fault_count.specs.Counts.{next_count}
 use Rattle.disk_model.specs.Memory.{MemoryState, seen_in, end_step, after_quiet, after_write, after_refused, HasFailed}
 use Rattle.disk_model.specs.ReadsNow.{memory_reads_now}
 use Rattle.disk_model.specs.Steps.{reads_then, reads_after, begins_within, all_within, images_then, images_after, images_from, overlay}
@@ -43,26 +43,20 @@ passes_none old P = record { later = omega arith; no_more = λ t c le has. has; 
 
 -- two steps more
 module _ (old : MemoryState) (a b : Step) (bytes : List ℕ) (faults : ℕ) (P : List ℕ → Type 0) where
-  abbrev start : List ℕ
-  start = old.first
+  front : (t : ℕ) → t ≡ length old.steps + 1 → take t (old.steps ++ a ∷ b ∷ []) ≡ old.steps ++ a ∷ []
+  front t is = ap (λ (l : List Step). take t l) (sym (append_assoc old.steps (a ∷ []) (b ∷ []))) ∙ take_at (old.steps ++ a ∷ []) (b ∷ []) t (omega (arith, is, length-append old.steps (a ∷ [])))
 
-  abbrev steps : List Step
-  steps = old.steps
-
-  front : (t : ℕ) → t ≡ length steps + 1 → take t (steps ++ a ∷ b ∷ []) ≡ steps ++ a ∷ []
-  front t is = ap (λ (l : List Step). take t l) (sym (append_assoc steps (a ∷ []) (b ∷ []))) ∙ take_at (steps ++ a ∷ []) (b ∷ []) t (omega (arith, is, length-append steps (a ∷ [])))
-
-  passes_two : ((c : List ℕ) → images_from start (steps ++ a ∷ []) c → P c) → ((c : List ℕ) → images_from start (steps ++ a ∷ b ∷ []) c → P c)
-      → Passes (seen_in old) (seen_in (record old { bytes = bytes; steps = steps ++ a ∷ b ∷ []; faults = faults })) P
+  passes_two : ((c : List ℕ) → images_from old.first (old.steps ++ a ∷ []) c → P c) → ((c : List ℕ) → images_from old.first (old.steps ++ a ∷ b ∷ []) c → P c)
+      → Passes (seen_in old) (seen_in (record old { bytes = bytes; steps = old.steps ++ a ∷ b ∷ []; faults = faults })) P
   passes_two during ended = record {
-    later = omega (arith, length-append steps (a ∷ b ∷ []));
-    no_more = λ t c le has. subst (λ (s : List Step). images_from start s c) (take-append-le t steps (a ∷ b ∷ []) le) has;
-    no_fewer = λ t c le has. subst (λ (s : List Step). images_from start s c) (sym (take-append-le t steps (a ∷ b ∷ []) le)) has;
+    later = omega (arith, length-append old.steps (a ∷ b ∷ []));
+    no_more = λ t c le has. subst (λ (s : List Step). images_from old.first s c) (take-append-le t old.steps (a ∷ b ∷ []) le) has;
+    no_fewer = λ t c le has. subst (λ (s : List Step). images_from old.first s c) (sym (take-append-le t old.steps (a ∷ b ∷ []) le)) has;
     since = λ t c lt le has. ⊎_elim
-        (λ last. ended c (subst (λ (s : List Step). images_from start s c) (take_all t (steps ++ a ∷ b ∷ []) (omega (arith, last, length-append steps (a ∷ b ∷ [])))) has))
-        (λ first. let is : t ≡ length steps + 1 = omega (arith, lt, first) in
-        during c (subst (λ (s : List Step). images_from start s c) (front t is) has))
-        (cases_lt (length steps + 1) t);
+        (λ last. ended c (subst (λ (s : List Step). images_from old.first s c) (take_all t (old.steps ++ a ∷ b ∷ []) (omega (arith, last, length-append old.steps (a ∷ b ∷ [])))) has))
+        (λ first. let is : t ≡ length old.steps + 1 = omega (arith, lt, first) in
+        during c (subst (λ (s : List Step). images_from old.first s c) (front t is) has))
+        (cases_lt (length old.steps + 1) t);
   }
 
 module _ (start bytes : List ℕ) (steps new : List Step) where

@@ -1,5 +1,4 @@
 pub mod Calls
-pub mod Counts
 pub mod Steps
 pub mod Memory
 pub mod MemoryState

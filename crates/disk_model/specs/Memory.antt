@@ -3,7 +3,7 @@ use Rattle.std.specs.Prelude.{◌≡◌, ◌⊎◌, ◌==◌, ℕ, Bool, true, i
 use Rattle.std.specs.List.{list_any}
 use Rattle.std.specs.declared.alloc.Global.{Global}
 use Rattle.disk_model.specs.Calls.{Seen}
-use Rattle.disk_model.specs.Counts.{next_count}
+use Rattle.fault_count.specs.Counts.{next_count}
 use Rattle.disk_model.specs.declared.step.Step.{Step}
 use Rattle.disk_model.specs.declared.step.Step.TheVariants.{Waited, Wrote, Synced}
 use Rattle.disk_model.specs.Steps.{overlay, images_from}

@@ -1,7 +1,7 @@
 //! What is asked of a disk.
 ghost use Rattle.std.specs.Prelude.{◌≡◌, ◌+◌, ◌^◌, ◌<◌, ◌≤◌, length, take, drop, IsTrue, IfOk, OnOk};
 ghost use Rattle.disk_model.specs.Calls.{Seen, IsPresent, Holds, Torn, After, Only, Passes};
-ghost use Rattle.disk_model.specs.Counts.{Counts};
+ghost use Rattle.fault_count.specs.Counts.{IsCounted};
 
 use crate::disk_failed::DiskFailed;
 
@@ -18,7 +18,7 @@ pub trait Disk {
         ensures tells { (seen self.new).tells ≡ (seen self.old).tells }
         ensures reads { (seen self.new).reads ≡ (seen self.old).reads }
         ensures crash { Passes (seen self.old) (seen self.new) (IsPresent (seen self.old)) }
-        ensures cause { Counts (seen self.old).count (seen self.new).count result };
+        ensures cause { IsCounted (seen self.old).count (seen self.new).count result };
 
     /// Fills `into` with the bytes from `at` on. No byte of the disk changes, and a crash during the call leaves
     /// what one before it may have left.
@@ -28,7 +28,7 @@ pub trait Disk {
         ensures tells { (seen self.new).tells ≡ (seen self.old).tells }
         ensures reads { (seen self.new).reads ≡ (seen self.old).reads }
         ensures crash { Passes (seen self.old) (seen self.new) (IsPresent (seen self.old)) }
-        ensures cause { Counts (seen self.old).count (seen self.new).count result };
+        ensures cause { IsCounted (seen self.old).count (seen self.new).count result };
 
     /// Writes a piece at an offset, over what is there and past the end. Until a sync has succeeded, a crash may
     /// leave any bytes in its range and past the old end, and any length from the old one to the new one. A write
@@ -41,7 +41,7 @@ pub trait Disk {
         ensures passes { OnOk result (IsTrue (seen self.old).tells → (seen self.old).moment < (seen self.new).moment) }
         ensures tells { (seen self.new).tells ≡ (seen self.old).tells }
         ensures crash { Passes (seen self.old) (seen self.new) (After (Torn at (length piece.now)) (IsPresent (seen self.old))) }
-        ensures cause { Counts (seen self.old).count (seen self.new).count result };
+        ensures cause { IsCounted (seen self.old).count (seen self.new).count result };
 
     /// Brings all writes to the medium. After it, a crash leaves what a read gives and nothing else. No byte
     /// changes, and a crash during the call leaves what one before it may have left.
@@ -51,7 +51,7 @@ pub trait Disk {
         ensures tells { (seen self.new).tells ≡ (seen self.old).tells }
         ensures reads { (seen self.new).reads ≡ (seen self.old).reads }
         ensures crash { Passes (seen self.old) (seen self.new) (IsPresent (seen self.old)) }
-        ensures cause { Counts (seen self.old).count (seen self.new).count result };
+        ensures cause { IsCounted (seen self.old).count (seen self.new).count result };
 
     /// How often the disk has failed. The count stops at the last `u64`.
     fn faults(&self) -> u64

@@ -1,11 +1,12 @@
 //! A disk over a file of the operating system.
 ghost use Rattle.std.specs.Prelude.{◌≡◌, ◌≤◌, ℕ};
-ghost use Rattle.disk_model.specs.Counts.{HasRisen, next_count};
+ghost use Rattle.fault_count.specs.Counts.{HasRisen, next_count};
 ghost use Rattle.disk_model.specs.Untold.{untold};
 
 use crate::disk::Disk;
 use crate::disk_failed::DiskFailed;
 use crate::system_file::SystemFile;
+use fault_count::next_count;
 use std::fs::File;
 use std::marker::Model;
 use std::rt::Files;
@@ -42,7 +43,7 @@ impl<'a, R: Files<File = File>> FileDisk<'a, R> {
         ensures later { self.old ≤ self.new }
         ensures rose { HasRisen self.old self.new }
     {
-        self.faults = self.faults.saturating_add(1);
+        self.faults = next_count(self.faults);
         DiskFailed
     }
 }

@@ -1,7 +1,7 @@
 //! A disk in memory that keeps what each call did, so that a crash at each past moment can be shown.
 ghost use Rattle.std.specs.Prelude.{◌≡◌, ◌+◌, ◌^◌, ◌≤◌, ◌<◌, ℕ, List, [], ◌∷◌, ◌++◌, length, take, drop, true, Option, None, Some, IfOk, IsErr, OnOk, OnErr};
 ghost use Rattle.disk_model.specs.Calls.{Holds, Torn, After, Only, Passes, IsPresent};
-ghost use Rattle.disk_model.specs.Counts.{Counts, HasRisen};
+ghost use Rattle.fault_count.specs.Counts.{IsCounted, HasRisen};
 ghost use Rattle.disk_model.specs.Steps.{overlay, reads_after, all_within, images_from};
 ghost use Rattle.disk_model.specs.Memory.{first_of, end_step, is_named, after_quiet, after_refused, after_write, HasFailed, new_state};
 ghost use Rattle.disk_model.specs.declared.step.Step.TheVariants.{Waited, Synced};
@@ -11,6 +11,7 @@ use crate::disk_failed::DiskFailed;
 use crate::overlay::overlay_with;
 use crate::replay::replayed;
 use crate::step::Step;
+use fault_count::next_count;
 use std::alloc::{AllocError, Global};
 
 /// A file in memory, with faults at chosen calls. It tells its bytes, and keeps what each call did.
@@ -94,14 +95,14 @@ impl MemoryDisk {
         ensures ok { OnOk result (state_of self.new ≡ after_quiet (end_step syncs) (state_of self.old)) }
         ensures named { is_named (state_of self.old) ≡ true → IsErr result }
         ensures err { OnErr result (HasFailed (state_of self.old) (state_of self.new)) }
-        ensures cause { Counts self.old.faults self.new.faults result }
+        ensures cause { IsCounted self.old.faults self.new.faults result }
     {
         if self.is_named() {
             return Err(self.fail_named());
         }
         match note(&mut self.steps, Step::Waited, end_of(syncs)) {
             Ok(()) => {
-                self.calls = self.calls.saturating_add(1);
+                self.calls = next_count(self.calls);
                 Ok(())
             }
             Err(_) => Err(self.refuse()),
@@ -112,7 +113,7 @@ impl MemoryDisk {
     fn is_named(&self) -> bool
         ensures { result ≡ is_named (state_of self.now) }
     {
-        self.fails.contains(&self.calls.saturating_add(1))
+        self.fails.contains(&next_count(self.calls))
     }
 
     // A call that was named: it does nothing.
@@ -124,8 +125,8 @@ impl MemoryDisk {
     {
         match note(&mut self.steps, Step::Waited, Step::Waited) {
             Ok(()) => {
-                self.calls = self.calls.saturating_add(1);
-                self.faults = self.faults.saturating_add(1);
+                self.calls = next_count(self.calls);
+                self.faults = next_count(self.faults);
                 DiskFailed
             }
             Err(_) => self.refuse(),
@@ -138,9 +139,9 @@ impl MemoryDisk {
         ensures later { self.old.faults ≤ self.new.faults }
         ensures rose { HasRisen self.old.faults self.new.faults }
     {
-        self.calls = self.calls.saturating_add(1);
-        self.faults = self.faults.saturating_add(1);
-        self.refused = self.refused.saturating_add(1);
+        self.calls = next_count(self.calls);
+        self.faults = next_count(self.faults);
+        self.refused = next_count(self.refused);
         DiskFailed
     }
 
@@ -157,7 +158,7 @@ impl MemoryDisk {
         let at = at as u64;
         self.steps.push_reserved(Step::Wrote { at, piece: kept });
         self.steps.push_reserved(Step::Waited);
-        self.calls = self.calls.saturating_add(1);
+        self.calls = next_count(self.calls);
         Ok(())
     }
 
@@ -213,7 +214,7 @@ impl Disk for MemoryDisk {
         ensures len { IfOk result (λ n. n ≡ length self.old.bytes.items) }
         ensures reads { self.new.bytes.items ≡ self.old.bytes.items }
         ensures crash { Passes (seen_of self.old) (seen_of self.new) (IsPresent (seen_of self.old)) }
-        ensures cause { Counts self.old.faults self.new.faults result }
+        ensures cause { IsCounted self.old.faults self.new.faults result }
 
         ensures ok { OnOk result (state_of self.new ≡ after_quiet Waited (state_of self.old)) }
         ensures named { is_named (state_of self.old) ≡ true → IsErr result }
@@ -229,7 +230,7 @@ impl Disk for MemoryDisk {
         ensures read { OnOk result (into.new ≡ take (length into.old) (drop at self.old.bytes.items)) }
         ensures reads { self.new.bytes.items ≡ self.old.bytes.items }
         ensures crash { Passes (seen_of self.old) (seen_of self.new) (IsPresent (seen_of self.old)) }
-        ensures cause { Counts self.old.faults self.new.faults result }
+        ensures cause { IsCounted self.old.faults self.new.faults result }
 
         ensures ok { OnOk result (state_of self.new ≡ after_quiet Waited (state_of self.old)) }
         ensures named { is_named (state_of self.old) ≡ true → IsErr result }
@@ -249,7 +250,7 @@ impl Disk for MemoryDisk {
         ensures torn { Torn at (length piece.now) self.old.bytes.items self.new.bytes.items }
         ensures passes { OnOk result ((seen_of self.old).moment < (seen_of self.new).moment) }
         ensures crash { Passes (seen_of self.old) (seen_of self.new) (After (Torn at (length piece.now)) (IsPresent (seen_of self.old))) }
-        ensures cause { Counts self.old.faults self.new.faults result }
+        ensures cause { IsCounted self.old.faults self.new.faults result }
 
         ensures ok { OnOk result ((kept : _) × (kept.items ≡ piece.now) × (state_of self.new ≡ after_write at kept (state_of self.old))) }
         ensures named { is_named (state_of self.old) ≡ true → IsErr result }
@@ -270,7 +271,7 @@ impl Disk for MemoryDisk {
         ensures passes { OnOk result ((seen_of self.old).moment < (seen_of self.new).moment) }
         ensures reads { self.new.bytes.items ≡ self.old.bytes.items }
         ensures crash { Passes (seen_of self.old) (seen_of self.new) (IsPresent (seen_of self.old)) }
-        ensures cause { Counts self.old.faults self.new.faults result }
+        ensures cause { IsCounted self.old.faults self.new.faults result }
 
         ensures ok { OnOk result (state_of self.new ≡ after_quiet Synced (state_of self.old)) }
         ensures named { is_named (state_of self.old) ≡ true → IsErr result }

@@ -1,6 +1,6 @@
 -- What an open journal keeps of its disk.
 use Rattle.std.specs.Prelude.{◌≡◌, ◌⊎◌, ◌<◌, ◌^◌, ℕ, Bool, List, [], ◌∷◌, ◌++◌, length, Option, Some, None, is_some, IfSome, IsTrue}
-use Rattle.disk_model.specs.Calls.{Now}
+use Rattle.disk_model.specs.Calls.{Seen, IsPresent}
 use Rattle.round_journal.specs.Bytes.{measured, front, AreShort, StandsFor, EndsClosed}
 
 -- What contracts see of a journal: its disk, the place of the gate for the next record, whether an append that failed may
@@ -9,7 +9,7 @@ pub record JournalView (D : Type 0) : Type 0 where
   pub disk : D
   pub gate : ℕ
   pub unsettled : Bool
-  pub opened : D
+  pub at_first_sync : D
 
 -- these bytes, then some gate, then this piece, then anything
 pub record HasStaged (whole piece bytes : List ℕ) : Type 0 where
@@ -28,25 +28,25 @@ HasBodies bodies (Some body) bytes = HasStaged (front bodies) (staged body) byte
 
 -- The disk tells its bytes, and each present image has the bodies. Where a last one was tried and its gate is not settled,
 -- each image has that one behind the gate.
-pub record IsKeptAt {D : Type 0} (tells : D → Bool) (moment : D → ℕ) (image : D → ℕ → List ℕ → Type 0) (disk : D) (gate : ℕ) (unsettled : Bool) (bodies : List (List ℕ)) (last : Option (List ℕ)) : Type 0 where
-  pub told : IsTrue (tells disk)
+pub record IsKeptAt (disk : Seen) (gate : ℕ) (unsettled : Bool) (bodies : List (List ℕ)) (last : Option (List ℕ)) : Type 0 where
+  pub told : IsTrue disk.tells
   pub short : AreShort bodies
   pub fits : IfSome last (λ body. length body < 2 ^ 32)
   pub place : gate ≡ length (front bodies)
   pub flag : unsettled ≡ is_some last
-  pub images : (c : List ℕ) → Now moment image disk c → HasBodies bodies last c
+  pub images : (c : List ℕ) → IsPresent disk c → HasBodies bodies last c
 
 -- a journal keeps these bodies, and perhaps a last one that was tried
-abbrev pub IsKept : {D : Type 0} → (D → Bool) → (D → ℕ) → (D → ℕ → List ℕ → Type 0) → JournalView D → List (List ℕ) → Option (List ℕ) → Type 0
-IsKept tells moment image journal bodies last = IsKeptAt tells moment image journal.disk journal.gate journal.unsettled bodies last
+abbrev pub IsKept : {D : Type 0} → (D → Seen) → JournalView D → List (List ℕ) → Option (List ℕ) → Type 0
+IsKept seen journal bodies last = IsKeptAt (seen journal.disk) journal.gate journal.unsettled bodies last
 
 -- the bodies are kept, with this one behind a gate that is not open, in each present image
-pub record IsStaged {D : Type 0} (tells : D → Bool) (moment : D → ℕ) (image : D → ℕ → List ℕ → Type 0) (disk : D) (gate : ℕ) (bodies : List (List ℕ)) (body : List ℕ) : Type 0 where
-  pub told : IsTrue (tells disk)
+pub record IsStaged (disk : Seen) (gate : ℕ) (bodies : List (List ℕ)) (body : List ℕ) : Type 0 where
+  pub told : IsTrue disk.tells
   pub short : AreShort bodies
   pub fits : length body < 2 ^ 32
   pub place : gate ≡ length (front bodies)
-  pub images : (c : List ℕ) → Now moment image disk c → HasStaged (front bodies) (staged body) c
+  pub images : (c : List ℕ) → IsPresent disk c → HasStaged (front bodies) (staged body) c
 
 -- what an append that failed may leave as the last one tried: what was, nothing, or its own
 abbrev pub IsLast : Option (List ℕ) → List ℕ → Option (List ℕ) → Type 0

@@ -1,6 +1,6 @@
 -- The laws of the bytes of journals, and of what a journal keeps.
-use Rattle.std.specs.Prelude.{◌≡◌, ◌≤◌, ◌⊎◌, ◌↔◌, ℕ, Bool, List, [], ◌∷◌, ◌++◌, length, Option, Some}
-use Rattle.disk_model.specs.Calls.{Now}
+use Rattle.std.specs.Prelude.{◌≡◌, ◌≤◌, ◌⊎◌, ◌↔◌, ℕ, List, [], ◌∷◌, ◌++◌, length, Option, Some}
+use Rattle.disk_model.specs.Calls.{Seen, IsPresent}
 use Rattle.round_journal.specs.Bytes.{StandsFor, Holds}
 use Rattle.round_journal.specs.Kept.{JournalView, IsKept}
 
@@ -13,7 +13,7 @@ abbrev pub ShortFiles : Type 0
 ShortFiles = (bytes : List ℕ) (bodies : List (List ℕ)) → Holds bytes bodies ↔ (StandsFor bytes bodies ⊎ ((length bytes ≤ 9) × (bodies ≡ [])))
 
 -- what a crash leaves now of a journal stands for the bodies that it keeps, or for these and the last one that was tried
-abbrev pub KeptStand : {D : Type 0} → (D → Bool) → (D → ℕ) → (D → ℕ → List ℕ → Type 0) → Type 0
-KeptStand {D} tells moment image =
-    (journal : JournalView D) (bodies : List (List ℕ)) (last : Option (List ℕ)) → IsKept tells moment image journal bodies last → (c : List ℕ) → Now moment image journal.disk c
+abbrev pub KeptStand : {D : Type 0} → (D → Seen) → Type 0
+KeptStand {D} seen =
+    (journal : JournalView D) (bodies : List (List ℕ)) (last : Option (List ℕ)) → IsKept seen journal bodies last → (c : List ℕ) → IsPresent (seen journal.disk) c
     → StandsFor c bodies ⊎ ((tried : List ℕ) × (last ≡ Some tried) × StandsFor c (bodies ++ tried ∷ []))

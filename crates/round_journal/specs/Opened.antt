@@ -1,6 +1,6 @@
 -- What an opening and a reading leave.
 use Rattle.std.specs.Prelude.{◌≡◌, ◌⊎◌, ◌<◌, ◌≤◌, ℕ, Bool, true, List, length, None, IsTrue}
-use Rattle.disk_model.specs.Calls.{Only, Goes, Now}
+use Rattle.disk_model.specs.Calls.{Seen, IsPresent, Only, Passes}
 use Rattle.round_journal.specs.Bytes.{front, StandsForNone, Holds}
 use Rattle.round_journal.specs.Kept.{JournalView, IsKept}
 use Rattle.round_journal.specs.Reading.{gates_from, IsReading}
@@ -11,14 +11,14 @@ use Rattle.round_journal.specs.declared.cause.JournalCause.{JournalCause}
 use Rattle.round_journal.specs.declared.cause.JournalCause.TheVariants.{Memory, Device, BadHeader, BadRecord}
 use Rattle.round_journal.specs.declared.record.Record.{Record}
 
--- Images of earlier moments stay. Before the turn each later image has P, and from the turn on Q.
-pub record Turns (before : ℕ) (past : ℕ → List ℕ → Type 0) (turn now : ℕ) (image : ℕ → List ℕ → Type 0) (P Q : List ℕ → Type 0) : Type 0 where
-  pub begins : before ≤ turn
-  pub ended : turn ≤ now
-  pub no_more : (t : ℕ) (c : List ℕ) → t ≤ before → image t c → past t c
-  pub no_fewer : (t : ℕ) (c : List ℕ) → t ≤ before → past t c → image t c
-  pub early : (t : ℕ) (c : List ℕ) → before < t → t < turn → image t c → P c
-  pub late : (t : ℕ) (c : List ℕ) → turn ≤ t → t ≤ now → image t c → Q c
+-- Images of the moments up to that of the old disk stay. Before the turn each later image has P, and from the turn on Q.
+pub record Turns (old : Seen) (turn : ℕ) (new : Seen) (P Q : List ℕ → Type 0) : Type 0 where
+  pub begins : old.moment ≤ turn
+  pub ended : turn ≤ new.moment
+  pub no_more : (t : ℕ) (c : List ℕ) → t ≤ old.moment → new.image t c → old.image t c
+  pub no_fewer : (t : ℕ) (c : List ℕ) → t ≤ old.moment → old.image t c → new.image t c
+  pub early : (t : ℕ) (c : List ℕ) → old.moment < t → t < turn → new.image t c → P c
+  pub late : (t : ℕ) (c : List ℕ) → turn ≤ t → t ≤ new.moment → new.image t c → Q c
 
 -- what one file holds, the other bytes hold
 abbrev pub HoldsAs : List ℕ → List ℕ → Type 0
@@ -26,13 +26,12 @@ HoldsAs file bytes = (bodies : List (List ℕ)) → Holds file bodies → Holds 
 
 -- Until the turn, at which the first sync had succeeded, each image is one that a crash could have left at the start. From
 -- then on each holds what the disk read.
-abbrev pub HasTurned : {D : Type 0} → (D → List ℕ) → (D → ℕ) → (D → ℕ → List ℕ → Type 0) → D → ℕ → D → Type 0
-HasTurned reads moment image old turn new = Turns (moment old) (image old) turn (moment new) (image new) (Now moment image old) (HoldsAs (reads old))
+abbrev pub HasTurned : Seen → ℕ → Seen → Type 0
+HasTurned old turn new = Turns old turn new (IsPresent old) (HoldsAs old.reads)
 
 -- no sync succeeded, so the disk reads as it did and no image is new; or one did
-abbrev pub HasOpened : {D : Type 0} → (D → List ℕ) → (D → ℕ) → (D → ℕ → List ℕ → Type 0) → D → D → Type 0
-HasOpened reads moment image old new =
-    ((reads new ≡ reads old) × Goes moment image old new (Now moment image old)) ⊎ ((turn : ℕ) × HasTurned reads moment image old turn new)
+abbrev pub HasOpened : Seen → Seen → Type 0
+HasOpened old new = ((new.reads ≡ old.reads) × Passes old new (IsPresent old)) ⊎ ((turn : ℕ) × HasTurned old turn new)
 
 -- the bytes are as before, but at most nine that stand for no list
 abbrev pub IsSpared : List ℕ → List ℕ → Type 0
@@ -47,17 +46,17 @@ Leaves old new BadHeader = new ≡ old
 Leaves old new (BadRecord offset why) = new ≡ old
 
 -- the disk tells that it has these bytes, and a crash leaves them and nothing else
-pub record IsSynced {D : Type 0} (tells : D → Bool) (reads : D → List ℕ) (moment : D → ℕ) (image : D → ℕ → List ℕ → Type 0) (disk : D) (bytes : List ℕ) : Type 0 where
-  pub told : IsTrue (tells disk)
-  pub read : bytes ≡ reads disk
-  pub only : Only bytes (Now moment image disk)
+pub record IsSynced (disk : Seen) (bytes : List ℕ) : Type 0 where
+  pub told : IsTrue disk.tells
+  pub read : bytes ≡ disk.reads
+  pub only : Only bytes (IsPresent disk)
 
 -- nothing was written: the disk reads as it did, no image is new, and its count does not fall
-pub record IsQuiet {D : Type 0} (tells : D → Bool) (reads : D → List ℕ) (moment : D → ℕ) (image : D → ℕ → List ℕ → Type 0) (count : D → ℕ) (old new : D) : Type 0 where
-  pub same : tells new ≡ tells old
-  pub read : reads new ≡ reads old
-  pub crash : Goes moment image old new (Now moment image old)
-  pub later : count old ≤ count new
+pub record IsQuiet (old new : Seen) : Type 0 where
+  pub same : new.tells ≡ old.tells
+  pub read : new.reads ≡ old.reads
+  pub crash : Passes old new (IsPresent old)
+  pub later : old.count ≤ new.count
 
 -- these records, with their places, are those that the bytes hold, where the disk tells them
 pub record AreFound (told : Bool) (bytes : List ℕ) (records : List Record) : Type 0 where
@@ -66,22 +65,22 @@ pub record AreFound (told : Bool) (bytes : List ℕ) (records : List Record) : T
   pub places : offsets_of records ≡ gates_from 8 (bodies_of records)
 
 -- What an opening that succeeded says of its disk, of the journal and of the records.
-pub record IsOpen {D : Type 0} (tells : D → Bool) (reads : D → List ℕ) (moment : D → ℕ) (image : D → ℕ → List ℕ → Type 0) (count : D → ℕ) (old : D) (journal : JournalView D) (records : List Record) : Type 0 where
-  pub found : AreFound (tells old) (reads old) records
+pub record IsOpen {D : Type 0} (seen : D → Seen) (old : D) (journal : JournalView D) (records : List Record) : Type 0 where
+  pub found : AreFound (seen old).tells (seen old).reads records
   pub place : journal.gate ≡ length (front (bodies_of records))
-  pub kept : IsTrue (tells old) → IsKept tells moment image journal (bodies_of records) None
-  pub turned : IsTrue (tells old) → HasTurned reads moment image old (moment journal.opened) journal.disk
-  pub spared : IsTrue (tells old) → IsSpared (reads old) (reads journal.disk)
-  pub same : tells journal.disk ≡ tells old
-  pub later : count old ≤ count journal.disk
+  pub kept : IsTrue (seen old).tells → IsKept seen journal (bodies_of records) None
+  pub turned : IsTrue (seen old).tells → HasTurned (seen old) (seen journal.at_first_sync).moment (seen journal.disk)
+  pub spared : IsTrue (seen old).tells → IsSpared (seen old).reads (seen journal.disk).reads
+  pub same : (seen journal.disk).tells ≡ (seen old).tells
+  pub later : (seen old).count ≤ (seen journal.disk).count
 
 -- What one that was refused says of the disk that it gives back, and of its cause.
-pub record IsRefused {D : Type 0} (tells : D → Bool) (reads : D → List ℕ) (moment : D → ℕ) (image : D → ℕ → List ℕ → Type 0) (count : D → ℕ) (old new : D) (cause : JournalCause) : Type 0 where
-  pub has : HasCause (tells old) (reads old) (count old) (count new) cause
-  pub opened : IsTrue (tells old) → HasOpened reads moment image old new
-  pub left : IsTrue (tells old) → Leaves (reads old) (reads new) cause
-  pub same : tells new ≡ tells old
-  pub later : count old ≤ count new
+pub record IsRefused (old new : Seen) (cause : JournalCause) : Type 0 where
+  pub has : HasCause old.tells old.reads old.count new.count cause
+  pub opened : IsTrue old.tells → HasOpened old new
+  pub left : IsTrue old.tells → Leaves old.reads new.reads cause
+  pub same : new.tells ≡ old.tells
+  pub later : old.count ≤ new.count
 
 -- bytes hold one list of records at most
 abbrev pub OneRecords : Type 0

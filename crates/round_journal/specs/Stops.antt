@@ -1,6 +1,6 @@
 -- Why an opening or a reading stops.
 use Rattle.std.specs.Prelude.{◌≡◌, ℕ, Bool, List, IsTrue}
-use Rattle.disk_model.specs.Counts.{HasRisen}
+use Rattle.fault_count.specs.Counts.{HasRisen}
 use Rattle.act_bodies.specs.Bodies.{IsNoBody}
 use Rattle.round_journal.specs.Reading.{IsReading}
 use Rattle.round_journal.specs.Reading.Reading.{no_header, short_at, bad_at}

@@ -1,7 +1,7 @@
 //! An open journal.
 ghost use Rattle.std.specs.Prelude.{◌≡◌, ◌+◌, ◌^◌, ◌≤◌, ℕ, List, [], ◌∷◌, ◌++◌, length, Option, None, IfErr, IfOk, OnOk, OnErr};
-ghost use Rattle.disk_model.specs.Calls.{Goes};
-ghost use Rattle.disk_model.specs.Counts.{HasRisen};
+ghost use Rattle.disk_model.specs.Calls.{Passes};
+ghost use Rattle.fault_count.specs.Counts.{HasRisen};
 ghost use Rattle.round_journal.specs.Kept.{IsKept, IsLast, HoldsOne};
 ghost use Rattle.round_journal.specs.Opened.{IsOpen, IsRefused};
 
@@ -28,7 +28,7 @@ impl<D: Disk> Model for Journal<D> {
 
     ghost Value = { JournalView D };
 
-    ghost view = { λ j. record { disk = j.log.disk; gate = j.log.gate; unsettled = j.log.unsettled; opened = j.opened.value } };
+    ghost view = { λ j. record { disk = j.log.disk; gate = j.log.gate; unsettled = j.log.unsettled; at_first_sync = j.opened.value } };
 }
 
 impl<D: Disk> Journal<D> {
@@ -41,8 +41,8 @@ impl<D: Disk> Journal<D> {
     /// and they do not begin with the header. BadRecord: the record behind the first faulty open gate runs past the end
     /// or lacks the next gate (Short), or its body is no act (Body).
     pub fn open(alloc: Global, mut disk: D) -> Result<(Journal<D>, Vec<Record>), OpenRefused<D>>
-        ensures ok { IfOk result (λ r. IsOpen D.tells D.reads D.moment D.image D.count disk r.0 r.1.items) }
-        ensures err { IfErr result (λ e. IsRefused D.tells D.reads D.moment D.image D.count disk e.disk e.cause) }
+        ensures ok { IfOk result (λ r. IsOpen D.seen disk r.0 r.1.items) }
+        ensures err { IfErr result (λ e. IsRefused (D.seen disk) (D.seen e.disk) e.cause) }
     {
         let before = disk.faults();
         let Ok(staging) = Vec::with_capacity(alloc, 2_162_710) else {
@@ -78,17 +78,17 @@ impl<D: Disk> Journal<D> {
     pub fn append(&mut self, body: &[u8]) -> Result<(), Device>
         requires short { length body.now ≤ 2162705 }
         requires near { self.old.gate + 5 + length body.now ≤ 2 ^ 30 }
-        ensures done { OnOk result ((bodies : List (List ℕ)) (last : Option (List ℕ)) → IsKept D.tells D.moment D.image self.old bodies last → IsKept D.tells D.moment D.image self.new (bodies ++ body.now ∷ []) None) }
-        ensures failed { OnErr result ((bodies : List (List ℕ)) (last : Option (List ℕ)) → IsKept D.tells D.moment D.image self.old bodies last
-            → (after : Option (List ℕ)) × IsLast last body.now after × IsKept D.tells D.moment D.image self.new bodies after) }
-        ensures crash { (bodies : List (List ℕ)) (last : Option (List ℕ)) → IsKept D.tells D.moment D.image self.old bodies last
-            → Goes D.moment D.image self.old.disk self.new.disk (HoldsOne bodies last body.now) }
+        ensures done { OnOk result ((bodies : List (List ℕ)) (last : Option (List ℕ)) → IsKept D.seen self.old bodies last → IsKept D.seen self.new (bodies ++ body.now ∷ []) None) }
+        ensures failed { OnErr result ((bodies : List (List ℕ)) (last : Option (List ℕ)) → IsKept D.seen self.old bodies last
+            → (after : Option (List ℕ)) × IsLast last body.now after × IsKept D.seen self.new bodies after) }
+        ensures crash { (bodies : List (List ℕ)) (last : Option (List ℕ)) → IsKept D.seen self.old bodies last
+            → Passes (D.seen self.old.disk) (D.seen self.new.disk) (HoldsOne bodies last body.now) }
         ensures gate { OnOk result (self.new.gate ≡ self.old.gate + 5 + length body.now) }
         ensures gate_err { OnErr result (self.new.gate ≡ self.old.gate) }
-        ensures opened { self.new.opened ≡ self.old.opened }
-        ensures tells { D.tells self.new.disk ≡ D.tells self.old.disk }
-        ensures counts { D.count self.old.disk ≤ D.count self.new.disk }
-        ensures cause { IfErr result (λ e. (e.before ≡ D.count self.old.disk) × (e.after ≡ D.count self.new.disk) × HasRisen e.before e.after) }
+        ensures opened { self.new.at_first_sync ≡ self.old.at_first_sync }
+        ensures tells { (D.seen self.new.disk).tells ≡ (D.seen self.old.disk).tells }
+        ensures counts { (D.seen self.old.disk).count ≤ (D.seen self.new.disk).count }
+        ensures cause { IfErr result (λ e. (e.before ≡ (D.seen self.old.disk).count) × (e.after ≡ (D.seen self.new.disk).count) × HasRisen e.before e.after) }
     {
         let before = self.log.disk.faults();
         let Err(_) = self.log.append(body) else {

@@ -1,7 +1,7 @@
 //! The bytes of a journal on its disk, and the writes of an append.
 ghost use Rattle.std.specs.Prelude.{◌≡◌, ◌+◌, ◌^◌, ◌<◌, ◌≤◌, ℕ, false, List, [], ◌∷◌, ◌++◌, length, Option, Some, None, IsTrue, OnOk, OnErr, vec_capacity};
-ghost use Rattle.disk_model.specs.Calls.{Goes};
-ghost use Rattle.disk_model.specs.Counts.{Counts};
+ghost use Rattle.disk_model.specs.Calls.{Passes};
+ghost use Rattle.fault_count.specs.Counts.{IsCounted};
 ghost use Rattle.round_journal.specs.Bytes.{front};
 ghost use Rattle.round_journal.specs.Kept.{staged, HasBodies, HasStaged, IsKeptAt, IsStaged, IsLast, HoldsOne};
 
@@ -17,7 +17,7 @@ pub(crate) struct Log<D: Disk> {
     pub(crate) unsettled: bool,
     pub(crate) staging: Vec<u8>,
     ghost room: { 2162710 ≤ vec_capacity staging },
-    ghost safe: { IsTrue (D.tells disk) → gate < length (D.reads disk) },
+    ghost safe: { IsTrue (D.seen disk).tells → gate < length (D.seen disk).reads },
 }
 
 impl<D: Disk> Log<D> {
@@ -25,16 +25,16 @@ impl<D: Disk> Log<D> {
     pub(crate) fn append(&mut self, body: &[u8]) -> Result<(), DiskFailed>
         requires short { length body.now ≤ 2162705 }
         requires near { self.old.gate + 5 + length body.now ≤ 2 ^ 30 }
-        ensures done { OnOk result ((bodies : List (List ℕ)) (last : Option (List ℕ)) → IsKeptAt D.tells D.moment D.image self.old.disk self.old.gate self.old.unsettled bodies last
-            → IsKeptAt D.tells D.moment D.image self.new.disk self.new.gate self.new.unsettled (bodies ++ body.now ∷ []) None) }
-        ensures failed { OnErr result ((bodies : List (List ℕ)) (last : Option (List ℕ)) → IsKeptAt D.tells D.moment D.image self.old.disk self.old.gate self.old.unsettled bodies last
-            → (after : Option (List ℕ)) × IsLast last body.now after × IsKeptAt D.tells D.moment D.image self.new.disk self.new.gate self.new.unsettled bodies after) }
-        ensures crash { (bodies : List (List ℕ)) (last : Option (List ℕ)) → IsKeptAt D.tells D.moment D.image self.old.disk self.old.gate self.old.unsettled bodies last
-            → Goes D.moment D.image self.old.disk self.new.disk (HoldsOne bodies last body.now) }
+        ensures done { OnOk result ((bodies : List (List ℕ)) (last : Option (List ℕ)) → IsKeptAt (D.seen self.old.disk) self.old.gate self.old.unsettled bodies last
+            → IsKeptAt (D.seen self.new.disk) self.new.gate self.new.unsettled (bodies ++ body.now ∷ []) None) }
+        ensures failed { OnErr result ((bodies : List (List ℕ)) (last : Option (List ℕ)) → IsKeptAt (D.seen self.old.disk) self.old.gate self.old.unsettled bodies last
+            → (after : Option (List ℕ)) × IsLast last body.now after × IsKeptAt (D.seen self.new.disk) self.new.gate self.new.unsettled bodies after) }
+        ensures crash { (bodies : List (List ℕ)) (last : Option (List ℕ)) → IsKeptAt (D.seen self.old.disk) self.old.gate self.old.unsettled bodies last
+            → Passes (D.seen self.old.disk) (D.seen self.new.disk) (HoldsOne bodies last body.now) }
         ensures gate { OnOk result (self.new.gate ≡ self.old.gate + 5 + length body.now) }
         ensures gate_err { OnErr result (self.new.gate ≡ self.old.gate) }
-        ensures tells { D.tells self.new.disk ≡ D.tells self.old.disk }
-        ensures cause { Counts (D.count self.old.disk) (D.count self.new.disk) result }
+        ensures tells { (D.seen self.new.disk).tells ≡ (D.seen self.old.disk).tells }
+        ensures cause { IsCounted (D.seen self.old.disk).count (D.seen self.new.disk).count result }
     {
         self.settle()?;
         self.stage(body)?;
@@ -45,16 +45,16 @@ impl<D: Disk> Log<D> {
     // Closes a gate that an append has begun to open and may not have opened.
     fn settle(&mut self) -> Result<(), DiskFailed>
         requires { self.old.gate ≤ 2 ^ 30 }
-        ensures done { OnOk result ((bodies : List (List ℕ)) (last : Option (List ℕ)) → IsKeptAt D.tells D.moment D.image self.old.disk self.old.gate self.old.unsettled bodies last
-            → IsKeptAt D.tells D.moment D.image self.new.disk self.new.gate self.new.unsettled bodies None) }
-        ensures failed { OnErr result ((bodies : List (List ℕ)) (last : Option (List ℕ)) → IsKeptAt D.tells D.moment D.image self.old.disk self.old.gate self.old.unsettled bodies last
-            → IsKeptAt D.tells D.moment D.image self.new.disk self.new.gate self.new.unsettled bodies last) }
-        ensures crash { (bodies : List (List ℕ)) (last : Option (List ℕ)) → IsKeptAt D.tells D.moment D.image self.old.disk self.old.gate self.old.unsettled bodies last
-            → Goes D.moment D.image self.old.disk self.new.disk (HasBodies bodies last) }
+        ensures done { OnOk result ((bodies : List (List ℕ)) (last : Option (List ℕ)) → IsKeptAt (D.seen self.old.disk) self.old.gate self.old.unsettled bodies last
+            → IsKeptAt (D.seen self.new.disk) self.new.gate self.new.unsettled bodies None) }
+        ensures failed { OnErr result ((bodies : List (List ℕ)) (last : Option (List ℕ)) → IsKeptAt (D.seen self.old.disk) self.old.gate self.old.unsettled bodies last
+            → IsKeptAt (D.seen self.new.disk) self.new.gate self.new.unsettled bodies last) }
+        ensures crash { (bodies : List (List ℕ)) (last : Option (List ℕ)) → IsKeptAt (D.seen self.old.disk) self.old.gate self.old.unsettled bodies last
+            → Passes (D.seen self.old.disk) (D.seen self.new.disk) (HasBodies bodies last) }
         ensures settled { OnOk result (self.new.unsettled ≡ false) }
         ensures gate { self.new.gate ≡ self.old.gate }
-        ensures tells { D.tells self.new.disk ≡ D.tells self.old.disk }
-        ensures cause { Counts (D.count self.old.disk) (D.count self.new.disk) result }
+        ensures tells { (D.seen self.new.disk).tells ≡ (D.seen self.old.disk).tells }
+        ensures cause { IsCounted (D.seen self.old.disk).count (D.seen self.new.disk).count result }
     {
         if !self.unsettled {
             return Ok(());
@@ -69,17 +69,17 @@ impl<D: Disk> Log<D> {
         requires short { length body.now ≤ 2162705 }
         requires near { self.old.gate ≤ 2 ^ 30 }
         requires settled { self.old.unsettled ≡ false }
-        ensures done { OnOk result ((bodies : List (List ℕ)) → IsKeptAt D.tells D.moment D.image self.old.disk self.old.gate false bodies None
-            → IsStaged D.tells D.moment D.image self.new.disk self.new.gate bodies body.now) }
-        ensures failed { OnErr result ((bodies : List (List ℕ)) → IsKeptAt D.tells D.moment D.image self.old.disk self.old.gate false bodies None
-            → IsKeptAt D.tells D.moment D.image self.new.disk self.new.gate false bodies None) }
-        ensures crash { (bodies : List (List ℕ)) → IsKeptAt D.tells D.moment D.image self.old.disk self.old.gate false bodies None
-            → Goes D.moment D.image self.old.disk self.new.disk (HasBodies bodies None) }
-        ensures long { OnOk result (IsTrue (D.tells self.new.disk) → self.old.gate + 5 + length body.now < length (D.reads self.new.disk)) }
+        ensures done { OnOk result ((bodies : List (List ℕ)) → IsKeptAt (D.seen self.old.disk) self.old.gate false bodies None
+            → IsStaged (D.seen self.new.disk) self.new.gate bodies body.now) }
+        ensures failed { OnErr result ((bodies : List (List ℕ)) → IsKeptAt (D.seen self.old.disk) self.old.gate false bodies None
+            → IsKeptAt (D.seen self.new.disk) self.new.gate false bodies None) }
+        ensures crash { (bodies : List (List ℕ)) → IsKeptAt (D.seen self.old.disk) self.old.gate false bodies None
+            → Passes (D.seen self.old.disk) (D.seen self.new.disk) (HasBodies bodies None) }
+        ensures long { OnOk result (IsTrue (D.seen self.new.disk).tells → self.old.gate + 5 + length body.now < length (D.seen self.new.disk).reads) }
         ensures settled { self.new.unsettled ≡ false }
         ensures gate { self.new.gate ≡ self.old.gate }
-        ensures tells { D.tells self.new.disk ≡ D.tells self.old.disk }
-        ensures cause { Counts (D.count self.old.disk) (D.count self.new.disk) result }
+        ensures tells { (D.seen self.new.disk).tells ≡ (D.seen self.old.disk).tells }
+        ensures cause { IsCounted (D.seen self.old.disk).count (D.seen self.new.disk).count result }
     {
         fill(&mut self.staging, body);
         write_and_sync(&mut self.disk, self.gate + 1, &self.staging)?;
@@ -89,17 +89,17 @@ impl<D: Disk> Log<D> {
     // Opens the gate before the record that stands behind it.
     fn open_gate(&mut self, len: u64) -> Result<(), DiskFailed>
         requires near { self.old.gate + 5 + len ≤ 2 ^ 30 }
-        requires long { IsTrue (D.tells self.old.disk) → self.old.gate + 5 + len < length (D.reads self.old.disk) }
-        ensures done { OnOk result ((bodies : List (List ℕ)) (body : List ℕ) → length body ≡ len → IsStaged D.tells D.moment D.image self.old.disk self.old.gate bodies body
-            → IsKeptAt D.tells D.moment D.image self.new.disk self.new.gate self.new.unsettled (bodies ++ body ∷ []) None) }
-        ensures failed { OnErr result ((bodies : List (List ℕ)) (body : List ℕ) → length body ≡ len → IsStaged D.tells D.moment D.image self.old.disk self.old.gate bodies body
-            → IsKeptAt D.tells D.moment D.image self.new.disk self.new.gate self.new.unsettled bodies (Some body)) }
-        ensures crash { (bodies : List (List ℕ)) (body : List ℕ) → length body ≡ len → IsStaged D.tells D.moment D.image self.old.disk self.old.gate bodies body
-            → Goes D.moment D.image self.old.disk self.new.disk (HasStaged (front bodies) (staged body)) }
+        requires long { IsTrue (D.seen self.old.disk).tells → self.old.gate + 5 + len < length (D.seen self.old.disk).reads }
+        ensures done { OnOk result ((bodies : List (List ℕ)) (body : List ℕ) → length body ≡ len → IsStaged (D.seen self.old.disk) self.old.gate bodies body
+            → IsKeptAt (D.seen self.new.disk) self.new.gate self.new.unsettled (bodies ++ body ∷ []) None) }
+        ensures failed { OnErr result ((bodies : List (List ℕ)) (body : List ℕ) → length body ≡ len → IsStaged (D.seen self.old.disk) self.old.gate bodies body
+            → IsKeptAt (D.seen self.new.disk) self.new.gate self.new.unsettled bodies (Some body)) }
+        ensures crash { (bodies : List (List ℕ)) (body : List ℕ) → length body ≡ len → IsStaged (D.seen self.old.disk) self.old.gate bodies body
+            → Passes (D.seen self.old.disk) (D.seen self.new.disk) (HasStaged (front bodies) (staged body)) }
         ensures gate { OnOk result (self.new.gate ≡ self.old.gate + 5 + len) }
         ensures gate_err { OnErr result (self.new.gate ≡ self.old.gate) }
-        ensures tells { D.tells self.new.disk ≡ D.tells self.old.disk }
-        ensures cause { Counts (D.count self.old.disk) (D.count self.new.disk) result }
+        ensures tells { (D.seen self.new.disk).tells ≡ (D.seen self.old.disk).tells }
+        ensures cause { IsCounted (D.seen self.old.disk).count (D.seen self.new.disk).count result }
     {
         self.unsettled = true;
         write_and_sync(&mut self.disk, self.gate, &[1])?;

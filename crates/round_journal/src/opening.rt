@@ -1,6 +1,6 @@
 //! Brings a disk to a journal.
 ghost use Rattle.std.specs.Prelude.{◌≡◌, ◌≤◌, true, false, length, None, IfErr, IfOk, IsTrue};
-ghost use Rattle.disk_model.specs.Calls.{Goes};
+ghost use Rattle.disk_model.specs.Calls.{Passes};
 ghost use Rattle.round_journal.specs.Bytes.{front};
 ghost use Rattle.round_journal.specs.Kept.{IsKeptAt};
 ghost use Rattle.round_journal.specs.Opened.{AreFound, HasOpened, HasTurned, HoldsAs, IsSpared, IsSynced, Leaves};
@@ -24,16 +24,16 @@ pub(crate) struct Opening<D> {
 
 /// Syncs, reads the records, and makes a journal of at most nine bytes that stand for no list.
 pub(crate) fn open_disk<D: Disk>(alloc: Global, disk: &mut D) -> Result<Opening<D>, Stop>
-    ensures found { IfOk result (λ o. AreFound (D.tells disk.old) (D.reads disk.old) o.scan.records.items) }
+    ensures found { IfOk result (λ o. AreFound (D.seen disk.old).tells (D.seen disk.old).reads o.scan.records.items) }
     ensures place { IfOk result (λ o. o.scan.gate ≡ length (front (bodies_of o.scan.records.items))) }
-    ensures kept { IfOk result (λ o. IsTrue (D.tells disk.old) → IsKeptAt D.tells D.moment D.image disk.new o.scan.gate false (bodies_of o.scan.records.items) None) }
-    ensures turned { IfOk result (λ o. IsTrue (D.tells disk.old) → HasTurned D.reads D.moment D.image disk.old (D.moment o.opened.value) disk.new) }
-    ensures opened { IfErr result (λ _. IsTrue (D.tells disk.old) → HasOpened D.reads D.moment D.image disk.old disk.new) }
-    ensures spared { IfOk result (λ _. IsTrue (D.tells disk.old) → IsSpared (D.reads disk.old) (D.reads disk.new)) }
-    ensures left { IfErr result (λ stop. IsTrue (D.tells disk.old) → Leaves (D.reads disk.old) (D.reads disk.new) (cause_of stop 0 0)) }
-    ensures tells { D.tells disk.new ≡ D.tells disk.old }
-    ensures later { D.count disk.old ≤ D.count disk.new }
-    ensures stop { IfErr result (HasStop (D.tells disk.old) (D.reads disk.old) (D.count disk.old) (D.count disk.new)) }
+    ensures kept { IfOk result (λ o. IsTrue (D.seen disk.old).tells → IsKeptAt (D.seen disk.new) o.scan.gate false (bodies_of o.scan.records.items) None) }
+    ensures turned { IfOk result (λ o. IsTrue (D.seen disk.old).tells → HasTurned (D.seen disk.old) (D.seen o.opened.value).moment (D.seen disk.new)) }
+    ensures opened { IfErr result (λ _. IsTrue (D.seen disk.old).tells → HasOpened (D.seen disk.old) (D.seen disk.new)) }
+    ensures spared { IfOk result (λ _. IsTrue (D.seen disk.old).tells → IsSpared (D.seen disk.old).reads (D.seen disk.new).reads) }
+    ensures left { IfErr result (λ stop. IsTrue (D.seen disk.old).tells → Leaves (D.seen disk.old).reads (D.seen disk.new).reads (cause_of stop 0 0)) }
+    ensures tells { (D.seen disk.new).tells ≡ (D.seen disk.old).tells }
+    ensures later { (D.seen disk.old).count ≤ (D.seen disk.new).count }
+    ensures stop { IfErr result (HasStop (D.seen disk.old).tells (D.seen disk.old).reads (D.seen disk.old).count (D.seen disk.new).count) }
 {
     let (bytes, opened) = read_synced(alloc, disk)?;
     let scan = found_or_made(alloc, disk, &bytes)?;
@@ -42,13 +42,13 @@ pub(crate) fn open_disk<D: Disk>(alloc: Global, disk: &mut D) -> Result<Opening<
 
 // The bytes after a sync, and the disk as it was when the sync had succeeded.
 fn read_synced<D: Disk>(alloc: Global, disk: &mut D) -> Result<(Vec<u8>, Snapshot<D>), Stop>
-    ensures synced { IfOk result (λ r. IsTrue (D.tells disk.old) → IsSynced D.tells D.reads D.moment D.image disk.new r.0.items) }
-    ensures turned { IfOk result (λ r. IsTrue (D.tells disk.old) → HasTurned D.reads D.moment D.image disk.old (D.moment r.1.value) disk.new) }
-    ensures opened { IfErr result (λ _. IsTrue (D.tells disk.old) → HasOpened D.reads D.moment D.image disk.old disk.new) }
-    ensures reads { D.reads disk.new ≡ D.reads disk.old }
-    ensures tells { D.tells disk.new ≡ D.tells disk.old }
-    ensures later { D.count disk.old ≤ D.count disk.new }
-    ensures halt { IfErr result (IsHalt (D.count disk.old) (D.count disk.new)) }
+    ensures synced { IfOk result (λ r. IsTrue (D.seen disk.old).tells → IsSynced (D.seen disk.new) r.0.items) }
+    ensures turned { IfOk result (λ r. IsTrue (D.seen disk.old).tells → HasTurned (D.seen disk.old) (D.seen r.1.value).moment (D.seen disk.new)) }
+    ensures opened { IfErr result (λ _. IsTrue (D.seen disk.old).tells → HasOpened (D.seen disk.old) (D.seen disk.new)) }
+    ensures reads { (D.seen disk.new).reads ≡ (D.seen disk.old).reads }
+    ensures tells { (D.seen disk.new).tells ≡ (D.seen disk.old).tells }
+    ensures later { (D.seen disk.old).count ≤ (D.seen disk.new).count }
+    ensures halt { IfErr result (IsHalt (D.seen disk.old).count (D.seen disk.new).count) }
 {
     disk.sync()?;
     let opened = Snapshot::of(&*disk);
@@ -60,13 +60,13 @@ fn read_synced<D: Disk>(alloc: Global, disk: &mut D) -> Result<(Vec<u8>, Snapsho
 fn found_or_made<D: Disk>(alloc: Global, disk: &mut D, bytes: &[u8]) -> Result<Scan, Stop>
     ensures found { IfOk result (λ s. AreFound true bytes.now s.records.items) }
     ensures place { IfOk result (λ s. s.gate ≡ length (front (bodies_of s.records.items))) }
-    ensures kept { IfOk result (λ s. IsSynced D.tells D.reads D.moment D.image disk.old bytes.now → IsKeptAt D.tells D.moment D.image disk.new s.gate false (bodies_of s.records.items) None) }
-    ensures crash { IsSynced D.tells D.reads D.moment D.image disk.old bytes.now → Goes D.moment D.image disk.old disk.new (HoldsAs bytes.now) }
-    ensures spared { IfOk result (λ _. IsSynced D.tells D.reads D.moment D.image disk.old bytes.now → IsSpared bytes.now (D.reads disk.new)) }
-    ensures left { IfErr result (λ stop. IsSynced D.tells D.reads D.moment D.image disk.old bytes.now → Leaves bytes.now (D.reads disk.new) (cause_of stop 0 0)) }
-    ensures tells { D.tells disk.new ≡ D.tells disk.old }
-    ensures later { D.count disk.old ≤ D.count disk.new }
-    ensures stop { IfErr result (HasStop true bytes.now (D.count disk.old) (D.count disk.new)) }
+    ensures kept { IfOk result (λ s. IsSynced (D.seen disk.old) bytes.now → IsKeptAt (D.seen disk.new) s.gate false (bodies_of s.records.items) None) }
+    ensures crash { IsSynced (D.seen disk.old) bytes.now → Passes (D.seen disk.old) (D.seen disk.new) (HoldsAs bytes.now) }
+    ensures spared { IfOk result (λ _. IsSynced (D.seen disk.old) bytes.now → IsSpared bytes.now (D.seen disk.new).reads) }
+    ensures left { IfErr result (λ stop. IsSynced (D.seen disk.old) bytes.now → Leaves bytes.now (D.seen disk.new).reads (cause_of stop 0 0)) }
+    ensures tells { (D.seen disk.new).tells ≡ (D.seen disk.old).tells }
+    ensures later { (D.seen disk.old).count ≤ (D.seen disk.new).count }
+    ensures stop { IfErr result (HasStop true bytes.now (D.seen disk.old).count (D.seen disk.new).count) }
 {
     if let Some(scan) = records_in(alloc, bytes)? {
         return Ok(scan);

@@ -14,9 +14,9 @@ use std::alloc::Global;
 /// The records of a journal, in order, without any write or sync. A file of at most nine bytes that stands for no
 /// journal has none. The causes of an error are those of `Journal::open`.
 pub fn read_records<D: Disk>(alloc: Global, disk: &mut D) -> Result<Vec<Record>, JournalCause>
-    ensures found { IfOk result (λ records. AreFound (D.tells disk.old) (D.reads disk.old) records.items) }
-    ensures cause { IfErr result (HasCause (D.tells disk.old) (D.reads disk.old) (D.count disk.old) (D.count disk.new)) }
-    ensures quiet { IsQuiet D.tells D.reads D.moment D.image D.count disk.old disk.new }
+    ensures found { IfOk result (λ records. AreFound (D.seen disk.old).tells (D.seen disk.old).reads records.items) }
+    ensures cause { IfErr result (HasCause (D.seen disk.old).tells (D.seen disk.old).reads (D.seen disk.old).count (D.seen disk.new).count) }
+    ensures quiet { IsQuiet (D.seen disk.old) (D.seen disk.new) }
 {
     let before = disk.faults();
     match read_disk(alloc, disk) {
@@ -26,9 +26,9 @@ pub fn read_records<D: Disk>(alloc: Global, disk: &mut D) -> Result<Vec<Record>,
 }
 
 fn read_disk<D: Disk>(alloc: Global, disk: &mut D) -> Result<Vec<Record>, Stop>
-    ensures found { IfOk result (λ records. AreFound (D.tells disk.old) (D.reads disk.old) records.items) }
-    ensures stop { IfErr result (HasStop (D.tells disk.old) (D.reads disk.old) (D.count disk.old) (D.count disk.new)) }
-    ensures quiet { IsQuiet D.tells D.reads D.moment D.image D.count disk.old disk.new }
+    ensures found { IfOk result (λ records. AreFound (D.seen disk.old).tells (D.seen disk.old).reads records.items) }
+    ensures stop { IfErr result (HasStop (D.seen disk.old).tells (D.seen disk.old).reads (D.seen disk.old).count (D.seen disk.new).count) }
+    ensures quiet { IsQuiet (D.seen disk.old) (D.seen disk.new) }
 {
     let bytes = read_whole(alloc, disk)?;
     match records_in(alloc, &bytes)? {

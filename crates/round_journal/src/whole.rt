@@ -9,9 +9,9 @@ use std::alloc::Global;
 
 /// All bytes of a disk. It stops for want of memory and where the disk fails.
 pub(crate) fn read_whole<D: Disk>(alloc: Global, disk: &mut D) -> Result<Vec<u8>, Stop>
-    ensures bytes { IfOk result (λ bytes. IsTrue (D.tells disk.old) → bytes.items ≡ D.reads disk.old) }
-    ensures quiet { IsQuiet D.tells D.reads D.moment D.image D.count disk.old disk.new }
-    ensures halt { IfErr result (IsHalt (D.count disk.old) (D.count disk.new)) }
+    ensures bytes { IfOk result (λ bytes. IsTrue (D.seen disk.old).tells → bytes.items ≡ (D.seen disk.old).reads) }
+    ensures quiet { IsQuiet (D.seen disk.old) (D.seen disk.new) }
+    ensures halt { IfErr result (IsHalt (D.seen disk.old).count (D.seen disk.new).count) }
 {
     let len = disk.len()?;
     let mut bytes = vec![in alloc; 0; len as usize]?;

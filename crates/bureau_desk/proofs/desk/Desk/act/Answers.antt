@@ -9,8 +9,8 @@ pub invariant_of-self : goal.invariant_of-self
 invariant_of-self g c =
     let history = c.self.inside.kept.book.history in
     let due = answer_of history c.args.caller c.args.act in
-    let before = g.D.Disk.count c.self.inside.kept.recorder.journal.disk in
-    let counted = g.D.Disk.count c.act.new.self.recorder.journal.disk in
+    let before = (g.D.Disk.seen c.self.inside.kept.recorder.journal.disk).count in
+    let counted = (g.D.Disk.seen c.act.new.self.recorder.journal.disk).count in
     either c.act.result c.act.ensures.acted c.act.ensures.room c.act.ensures.untouched
     (λ got acted room. desk_acted c.self.inside.kept c.act.new.self c.self.inside.rounds.items (vec_len c.self.inside.rounds) (vec_capacity c.self.inside.rounds) c.self.invariant c.args.caller c.args.act got
     (got_publishes before counted due got (answer_publishes (state_of history) c.args.caller c.args.act c.requires.apart) acted.replied)

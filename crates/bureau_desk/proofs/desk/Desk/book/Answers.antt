@@ -13,5 +13,5 @@ returns-clause-keeps g c =
     let within = subst (λ (b : BookView). IsWithinLimits b.history) one c.book-book.ensures.within in
     let legal = subst (λ (b : BookView). IsLegal b.history) two c.history-history.ensures.legal in
     let valid = subst (λ (b : BookView). AreValid b.history) two c.history-history.ensures.valid in
-    subst (λ (d : DeskView g.row.D.Denot). KeepsDesk g.D.Disk.tells g.D.Disk.moment g.D.Disk.image g.D.Disk.count d) c.self.view_is
-    (keeps_desk g.D.Disk.tells g.D.Disk.moment g.D.Disk.image g.D.Disk.count c.self.inside.kept c.self.inside.rounds.items c.book.ensures.records c.self.invariant.cuts legal valid within)
+    subst (λ (d : DeskView g.row.D.Denot). KeepsDesk g.D.Disk.seen d) c.self.view_is
+    (keeps_desk g.D.Disk.seen c.self.inside.kept c.self.inside.rounds.items c.book.ensures.records c.self.invariant.cuts legal valid within)

@@ -16,8 +16,8 @@ pub invariant_of-self-in-None : goal.invariant_of-self-in-None
 invariant_of-self-in-None g c =
     let kept = c.self.inside.kept in
     let history = kept.book.history in
-    let before = g.D.Disk.count kept.recorder.journal.disk in
-    let counted = g.D.Disk.count c.publish-reply.new.self.recorder.journal.disk in
+    let before = (g.D.Disk.seen kept.recorder.journal.disk).count in
+    let counted = (g.D.Disk.seen c.publish-reply.new.self.recorder.journal.disk).count in
     let owned = subst (λ (s : DeskView g.row.D.Denot). IsPublishable s.history c.args.caller c.args.checked.cut) (sym c.self.view_is) c.requires.owned in
     let a = act.Publish c.round.result c.parts-cut.result.1 in
     let got = c.publish-reply.result.0 in

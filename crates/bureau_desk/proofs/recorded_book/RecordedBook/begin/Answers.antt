@@ -9,6 +9,6 @@ use Rattle.bureau_desk.proofs.recorded_book.RecordedBook.begin.Goals as goal
 pub invariant_of-self : goal.invariant_of-self
 invariant_of-self g c =
     let accepted = subst (λ (s : RecordedView g.row.D.Denot). All (λ e. is_accepted e ≡ true) s.book.history) (sym c.self.view_is) c.requires in
-    records_begun g.D.Disk.tells g.D.Disk.moment g.D.Disk.image g.D.Disk.count c.self.inside.recorder c.begin.new.self c.self.inside.book.history c.self.invariant accepted
+    records_begun g.D.Disk.seen c.self.inside.recorder c.begin.new.self c.self.inside.book.history c.self.invariant accepted
     c.begin.ensures.journal c.begin.ensures.opened c.begin.ensures.opened_with c.begin.ensures.cleared
     (c.begin.ensures.cleared_with ∙ ap (λ (h : List Entry). length h) c.history.ensures.entries ∙ ap (λ (b : BookView). length b.history) c.book.ensures.book)

@@ -8,5 +8,5 @@ pub invariant_of-result : goal.invariant_of-result
 invariant_of-result g c =
     let o = c.requires.opened in
     let long = ap (λ (h : List Entry). length h) (c.history.ensures.entries ∙ ap (λ (b : BookView). b.history) c.book.ensures.book) in
-    records_started g.D.Disk.tells g.D.Disk.reads g.D.Disk.moment g.D.Disk.image g.D.Disk.count o.0 c.args.journal o.1 c.new-recorder.result c.args.book.history (length c.history.result.now) o.2 o.3 o.4 long
+    records_started g.D.Disk.seen o.0 c.args.journal o.1 c.new-recorder.result c.args.book.history (length c.history.result.now) o.2 o.3 o.4 long
     c.new-recorder.ensures.journal c.new-recorder.ensures.opened.0 c.new-recorder.ensures.opened.1 c.new-recorder.ensures.cleared.0 c.new-recorder.ensures.cleared.1

@@ -40,8 +40,8 @@ returns-clause-acted g c =
     let history = c.self.inside.book.history in
     let due = subst (λ (s : RecordedView g.row.D.Denot). IsOutcomeDue s.book.history c.args.caller c.args.number c.args.outcome) (sym c.self.view_is) c.requires.due in
     let legal = subst (λ (b : BookView). IsLegal b.history) c.book-book.ensures.book c.history-history.ensures.legal in
-    subst (λ (s : RecordedView g.row.D.Denot). HasActed g.D.Disk.tells g.D.Disk.moment g.D.Disk.image g.D.Disk.count s.recorder.journal.disk c.keep-reply.new.self.journal.disk s.book.history c.apply_publish-published.new.self.history c.args.caller (act.Publish c.args.number c.args.outcome) c.keep-reply.result) c.self.view_is
-    (acted g.D.Disk.tells g.D.Disk.moment g.D.Disk.image g.D.Disk.count c.self.inside.recorder c.keep-reply.new.self history c.apply_publish-published.new.self.history c.args.caller (act.Publish c.args.number c.args.outcome) (reply.Published c.total-total.result) c.keep-reply.result
+    subst (λ (s : RecordedView g.row.D.Denot). HasActed g.D.Disk.seen s.recorder.journal.disk c.keep-reply.new.self.journal.disk s.book.history c.apply_publish-published.new.self.history c.args.caller (act.Publish c.args.number c.args.outcome) c.keep-reply.result) c.self.view_is
+    (acted g.D.Disk.seen c.self.inside.recorder c.keep-reply.new.self history c.apply_publish-published.new.self.history c.args.caller (act.Publish c.args.number c.args.outcome) (reply.Published c.total-total.result) c.keep-reply.result
     c.self.invariant (ap reply.Published c.total-total.ensures ∙ publication_due history c.args.caller c.args.number c.args.outcome due) (publication_not_full history c.args.caller c.args.number c.args.outcome due legal c.book-book.ensures.within)
     (c.keep-reply.ensures.records history c.self.invariant) (c.keep-reply.ensures.crash history c.self.invariant) c.keep-reply.ensures.replied c.keep-reply.ensures.quiet c.keep-reply.ensures.tells c.apply_publish-published.ensures.history)
 

@@ -19,6 +19,6 @@ returns-clause-acted g c =
     let history = c.self.inside.book.history in
     let due : c.args.due ≡ answer_of history c.args.caller c.args.act = subst (λ (s : RecordedView g.row.D.Denot). c.args.due ≡ answer_of s.book.history c.args.caller c.args.act) (sym c.self.view_is) c.requires.due in
     let fits : is_full history c.args.caller c.args.act ≡ false = subst (λ (s : RecordedView g.row.D.Denot). is_full s.book.history c.args.caller c.args.act ≡ false) (sym c.self.view_is) c.requires.fits in
-    subst (λ (s : RecordedView g.row.D.Denot). HasActed g.D.Disk.tells g.D.Disk.moment g.D.Disk.image g.D.Disk.count s.recorder.journal.disk c.keep-reply.new.self.journal.disk s.book.history c.apply.new.self.history c.args.caller c.args.act c.keep-reply.result) c.self.view_is
-    (acted g.D.Disk.tells g.D.Disk.moment g.D.Disk.image g.D.Disk.count c.self.inside.recorder c.keep-reply.new.self history c.apply.new.self.history c.args.caller c.args.act c.args.due c.keep-reply.result
+    subst (λ (s : RecordedView g.row.D.Denot). HasActed g.D.Disk.seen s.recorder.journal.disk c.keep-reply.new.self.journal.disk s.book.history c.apply.new.self.history c.args.caller c.args.act c.keep-reply.result) c.self.view_is
+    (acted g.D.Disk.seen c.self.inside.recorder c.keep-reply.new.self history c.apply.new.self.history c.args.caller c.args.act c.args.due c.keep-reply.result
     c.self.invariant due fits (c.keep-reply.ensures.records history c.self.invariant) (c.keep-reply.ensures.crash history c.self.invariant) c.keep-reply.ensures.replied c.keep-reply.ensures.quiet c.keep-reply.ensures.tells c.apply.ensures.history)

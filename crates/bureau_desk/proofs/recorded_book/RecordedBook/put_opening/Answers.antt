@@ -25,18 +25,18 @@ returns-in_default g c =
     let fits : is_full history c.args.caller a ≡ false = subst (λ (s : RecordedView g.row.D.Denot). is_full s.book.history c.args.caller a ≡ false) (sym c.self.view_is) c.requires.fits in
     let cut_is : c.args.cut ≡ cut_of ((state_of history).openings + 1) (state_of history).ledger c.args.kind c.args.horizon =
     subst (λ (s : RecordedView g.row.D.Denot). c.args.cut ≡ cut_of ((state_of s.book.history).openings + 1) (state_of s.book.history).ledger c.args.kind c.args.horizon) (sym c.self.view_is) c.requires.cut in
-    let is : got ≡ reply.Opened c.args.round = got_due (g.D.Disk.count old) (g.D.Disk.count new) (reply.Opened c.args.round) got c.keep-reply.ensures.replied c.in_default.not-Refused in
-    let has : HasActed g.D.Disk.tells g.D.Disk.moment g.D.Disk.image g.D.Disk.count old new history later c.args.caller a got =
-    acted g.D.Disk.tells g.D.Disk.moment g.D.Disk.image g.D.Disk.count c.self.inside.recorder c.keep-reply.new.self history later c.args.caller a (reply.Opened c.args.round) got
+    let is : got ≡ reply.Opened c.args.round = got_due (g.D.Disk.seen old).count (g.D.Disk.seen new).count (reply.Opened c.args.round) got c.keep-reply.ensures.replied c.in_default.not-Refused in
+    let has : HasActed g.D.Disk.seen old new history later c.args.caller a got =
+    acted g.D.Disk.seen c.self.inside.recorder c.keep-reply.new.self history later c.args.caller a (reply.Opened c.args.round) got
     c.self.invariant due fits (c.keep-reply.ensures.records history c.self.invariant) (c.keep-reply.ensures.crash history c.self.invariant) c.keep-reply.ensures.replied c.keep-reply.ensures.quiet c.keep-reply.ensures.tells c.apply_close.ensures.history in
     let room = subst (λ (s : RecordedView g.row.D.Denot). 2 ≤ s.book.room) (sym c.self.view_is) c.requires.room in
     let bytes = 17 + (8 * length c.args.cut.claims + 4 * length c.args.cut.parties) in
     let publication : bytes ≤ c.self.inside.recorder.spare = subst (λ (s : RecordedView g.row.D.Denot). bytes ≤ s.recorder.spare) (sym c.self.view_is) c.requires.publication in
     record {
-      closed = subst (λ (s : RecordedView g.row.D.Denot). HasClosed g.D.Disk.tells g.D.Disk.moment g.D.Disk.image g.D.Disk.count s.recorder.journal.disk new s.book.history later c.args.caller a (Rattle.bureau_desk.specs.declared.cut_reply.CutReply.TheVariants.Frozen c.args.copy)) c.self.view_is
-          (record { got = got; acted = has; told_is = (ap is_no_refusal is, opened_is history later c.args.caller c.args.kind c.args.horizon got c.apply_close.ensures.history c.args.round c.args.copy is (c.requires.copy ∙ cut_is)) });
+      closed = subst (λ (s : RecordedView g.row.D.Denot). HasClosed g.D.Disk.seen s.recorder.journal.disk new s.book.history later c.args.caller a (Rattle.bureau_desk.specs.declared.cut_reply.CutReply.TheVariants.Frozen c.args.copy)) c.self.view_is
+          (record { got = got; acted = has; answer_is = (ap is_no_refusal is, opened_is history later c.args.caller c.args.kind c.args.horizon got c.apply_close.ensures.history c.args.round c.args.copy is (c.requires.copy ∙ cut_is)) });
       room = omega (arith, room, c.apply_close.ensures.room);
       spared = λ was round now. omega (arith, opened_bytes history later c.args.caller c.args.kind c.args.horizon got c.apply_close.ensures.history c.args.round c.args.cut round is cut_is now, publication, c.keep-reply.ensures.room);
       spare = subst (λ (s : RecordedView g.row.D.Denot). s.recorder.spare ≤ c.keep-reply.new.self.spare) c.self.view_is c.keep-reply.ensures.room;
-      base = subst (λ (s : RecordedView g.row.D.Denot). IsSameBase s.recorder c.keep-reply.new.self) c.self.view_is (record { opening = c.keep-reply.ensures.opening; opened = c.keep-reply.ensures.opened.0; opened_with = c.keep-reply.ensures.opened.1; cleared = c.keep-reply.ensures.cleared.0; cleared_with = c.keep-reply.ensures.cleared.1 });
+      base = subst (λ (s : RecordedView g.row.D.Denot). IsSameBase s.recorder c.keep-reply.new.self) c.self.view_is (record { at_first_sync = c.keep-reply.ensures.opening; at_opening_end = c.keep-reply.ensures.opened.0; opened_with = c.keep-reply.ensures.opened.1; at_clearing = c.keep-reply.ensures.cleared.0; cleared_with = c.keep-reply.ensures.cleared.1 });
     }

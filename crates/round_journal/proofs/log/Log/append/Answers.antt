@@ -5,45 +5,45 @@ use Rattle.round_journal.proofs.log.Log.append.Goals as goal
 
 pub returns-in_err-settle-clause-crash : goal.returns-in_err-settle-clause-crash
 returns-in_err-settle-clause-crash g c bodies last kept =
-    run_settle g.D.Disk.tells g.D.Disk.reads g.D.Disk.moment g.D.Disk.image bodies last c.args.body.now c.args.self.now.disk c.settle.new.self.disk c.args.self.now.gate c.args.self.now.unsettled kept (c.settle.ensures.crash bodies last kept)
+    run_settle bodies last c.args.body.now (g.D.Disk.seen c.args.self.now.disk) (g.D.Disk.seen c.settle.new.self.disk) c.args.self.now.gate c.args.self.now.unsettled kept (c.settle.ensures.crash bodies last kept)
 
 pub returns-in_err-stage-clause-failed : goal.returns-in_err-stage-clause-failed
 returns-in_err-stage-clause-failed g c =
     on_err_all c.from_residual-in_err-stage.result
     (λ bodies last kept.
-    let settled = kept_off g.D.Disk.tells g.D.Disk.reads g.D.Disk.moment g.D.Disk.image c.settle.new.self.disk c.settle.new.self.gate c.settle.new.self.unsettled bodies c.in_ok-settle.ensures.settled (c.in_ok-settle.ensures.done bodies last kept) in
-    (None, inr (inl refl), kept_on g.D.Disk.tells g.D.Disk.reads g.D.Disk.moment g.D.Disk.image c.stage.new.self.disk c.stage.new.self.gate c.stage.new.self.unsettled bodies c.stage.ensures.settled (c.in_err-stage.ensures.failed bodies settled)))
+    let settled = kept_off (g.D.Disk.seen c.settle.new.self.disk) c.settle.new.self.gate c.settle.new.self.unsettled bodies c.in_ok-settle.ensures.settled (c.in_ok-settle.ensures.done bodies last kept) in
+    (None, inr (inl refl), kept_on (g.D.Disk.seen c.stage.new.self.disk) c.stage.new.self.gate c.stage.new.self.unsettled bodies c.stage.ensures.settled (c.in_err-stage.ensures.failed bodies settled)))
 
 pub returns-in_err-stage-clause-crash : goal.returns-in_err-stage-clause-crash
 returns-in_err-stage-clause-crash g c bodies last kept =
-    let first = run_settle g.D.Disk.tells g.D.Disk.reads g.D.Disk.moment g.D.Disk.image bodies last c.args.body.now c.args.self.now.disk c.settle.new.self.disk c.args.self.now.gate c.args.self.now.unsettled kept (c.settle.ensures.crash bodies last kept) in
-    let settled = kept_off g.D.Disk.tells g.D.Disk.reads g.D.Disk.moment g.D.Disk.image c.settle.new.self.disk c.settle.new.self.gate c.settle.new.self.unsettled bodies c.in_ok-settle.ensures.settled (c.in_ok-settle.ensures.done bodies last kept) in
-    run_stage g.D.Disk.tells g.D.Disk.reads g.D.Disk.moment g.D.Disk.image bodies last c.args.body.now c.args.self.now.disk c.settle.new.self.disk c.stage.new.self.disk c.settle.new.self.gate first settled (c.stage.ensures.crash bodies settled)
+    let first = run_settle bodies last c.args.body.now (g.D.Disk.seen c.args.self.now.disk) (g.D.Disk.seen c.settle.new.self.disk) c.args.self.now.gate c.args.self.now.unsettled kept (c.settle.ensures.crash bodies last kept) in
+    let settled = kept_off (g.D.Disk.seen c.settle.new.self.disk) c.settle.new.self.gate c.settle.new.self.unsettled bodies c.in_ok-settle.ensures.settled (c.in_ok-settle.ensures.done bodies last kept) in
+    run_stage bodies last c.args.body.now (g.D.Disk.seen c.args.self.now.disk) (g.D.Disk.seen c.settle.new.self.disk) (g.D.Disk.seen c.stage.new.self.disk) c.settle.new.self.gate first settled (c.stage.ensures.crash bodies settled)
 
 pub returns-in_err-open_gate-clause-failed : goal.returns-in_err-open_gate-clause-failed
 returns-in_err-open_gate-clause-failed g c =
     on_err_all c.from_residual-in_err-open_gate.result
     (λ bodies last kept.
-    let settled = kept_off g.D.Disk.tells g.D.Disk.reads g.D.Disk.moment g.D.Disk.image c.settle.new.self.disk c.settle.new.self.gate c.settle.new.self.unsettled bodies c.in_ok-settle.ensures.settled (c.in_ok-settle.ensures.done bodies last kept) in
+    let settled = kept_off (g.D.Disk.seen c.settle.new.self.disk) c.settle.new.self.gate c.settle.new.self.unsettled bodies c.in_ok-settle.ensures.settled (c.in_ok-settle.ensures.done bodies last kept) in
     (Some c.args.body.now, inr (inr refl), c.in_err-open_gate.ensures.failed bodies c.args.body.now refl (c.in_ok-stage.ensures.done bodies settled)))
 
 pub returns-in_err-open_gate-clause-crash : goal.returns-in_err-open_gate-clause-crash
 returns-in_err-open_gate-clause-crash g c bodies last kept =
-    let first = run_settle g.D.Disk.tells g.D.Disk.reads g.D.Disk.moment g.D.Disk.image bodies last c.args.body.now c.args.self.now.disk c.settle.new.self.disk c.args.self.now.gate c.args.self.now.unsettled kept (c.settle.ensures.crash bodies last kept) in
-    let settled = kept_off g.D.Disk.tells g.D.Disk.reads g.D.Disk.moment g.D.Disk.image c.settle.new.self.disk c.settle.new.self.gate c.settle.new.self.unsettled bodies c.in_ok-settle.ensures.settled (c.in_ok-settle.ensures.done bodies last kept) in
-    let second = run_stage g.D.Disk.tells g.D.Disk.reads g.D.Disk.moment g.D.Disk.image bodies last c.args.body.now c.args.self.now.disk c.settle.new.self.disk c.stage.new.self.disk c.settle.new.self.gate first settled (c.stage.ensures.crash bodies settled) in
+    let first = run_settle bodies last c.args.body.now (g.D.Disk.seen c.args.self.now.disk) (g.D.Disk.seen c.settle.new.self.disk) c.args.self.now.gate c.args.self.now.unsettled kept (c.settle.ensures.crash bodies last kept) in
+    let settled = kept_off (g.D.Disk.seen c.settle.new.self.disk) c.settle.new.self.gate c.settle.new.self.unsettled bodies c.in_ok-settle.ensures.settled (c.in_ok-settle.ensures.done bodies last kept) in
+    let second = run_stage bodies last c.args.body.now (g.D.Disk.seen c.args.self.now.disk) (g.D.Disk.seen c.settle.new.self.disk) (g.D.Disk.seen c.stage.new.self.disk) c.settle.new.self.gate first settled (c.stage.ensures.crash bodies settled) in
     let is = c.in_ok-stage.ensures.done bodies settled in
-    run_gate g.D.Disk.tells g.D.Disk.reads g.D.Disk.moment g.D.Disk.image bodies last c.args.body.now c.args.self.now.disk c.stage.new.self.disk c.open_gate.new.self.disk c.stage.new.self.gate second is (c.open_gate.ensures.crash bodies c.args.body.now refl is)
+    run_gate bodies last c.args.body.now (g.D.Disk.seen c.args.self.now.disk) (g.D.Disk.seen c.stage.new.self.disk) (g.D.Disk.seen c.open_gate.new.self.disk) c.stage.new.self.gate second is (c.open_gate.ensures.crash bodies c.args.body.now refl is)
 
 pub returns-clause-crash : goal.returns-clause-crash
 returns-clause-crash g c bodies last kept =
-    let first = run_settle g.D.Disk.tells g.D.Disk.reads g.D.Disk.moment g.D.Disk.image bodies last c.args.body.now c.args.self.now.disk c.settle.new.self.disk c.args.self.now.gate c.args.self.now.unsettled kept (c.settle.ensures.crash bodies last kept) in
-    let settled = kept_off g.D.Disk.tells g.D.Disk.reads g.D.Disk.moment g.D.Disk.image c.settle.new.self.disk c.settle.new.self.gate c.settle.new.self.unsettled bodies c.in_ok-settle.ensures.settled (c.in_ok-settle.ensures.done bodies last kept) in
-    let second = run_stage g.D.Disk.tells g.D.Disk.reads g.D.Disk.moment g.D.Disk.image bodies last c.args.body.now c.args.self.now.disk c.settle.new.self.disk c.stage.new.self.disk c.settle.new.self.gate first settled (c.stage.ensures.crash bodies settled) in
+    let first = run_settle bodies last c.args.body.now (g.D.Disk.seen c.args.self.now.disk) (g.D.Disk.seen c.settle.new.self.disk) c.args.self.now.gate c.args.self.now.unsettled kept (c.settle.ensures.crash bodies last kept) in
+    let settled = kept_off (g.D.Disk.seen c.settle.new.self.disk) c.settle.new.self.gate c.settle.new.self.unsettled bodies c.in_ok-settle.ensures.settled (c.in_ok-settle.ensures.done bodies last kept) in
+    let second = run_stage bodies last c.args.body.now (g.D.Disk.seen c.args.self.now.disk) (g.D.Disk.seen c.settle.new.self.disk) (g.D.Disk.seen c.stage.new.self.disk) c.settle.new.self.gate first settled (c.stage.ensures.crash bodies settled) in
     let is = c.in_ok-stage.ensures.done bodies settled in
-    run_gate g.D.Disk.tells g.D.Disk.reads g.D.Disk.moment g.D.Disk.image bodies last c.args.body.now c.args.self.now.disk c.stage.new.self.disk c.open_gate.new.self.disk c.stage.new.self.gate second is (c.open_gate.ensures.crash bodies c.args.body.now refl is)
+    run_gate bodies last c.args.body.now (g.D.Disk.seen c.args.self.now.disk) (g.D.Disk.seen c.stage.new.self.disk) (g.D.Disk.seen c.open_gate.new.self.disk) c.stage.new.self.gate second is (c.open_gate.ensures.crash bodies c.args.body.now refl is)
 
 pub returns-clause-done : goal.returns-clause-done
 returns-clause-done g c bodies last kept =
-    let settled = kept_off g.D.Disk.tells g.D.Disk.reads g.D.Disk.moment g.D.Disk.image c.settle.new.self.disk c.settle.new.self.gate c.settle.new.self.unsettled bodies c.in_ok-settle.ensures.settled (c.in_ok-settle.ensures.done bodies last kept) in
+    let settled = kept_off (g.D.Disk.seen c.settle.new.self.disk) c.settle.new.self.gate c.settle.new.self.unsettled bodies c.in_ok-settle.ensures.settled (c.in_ok-settle.ensures.done bodies last kept) in
     c.in_ok-open_gate.ensures.done bodies c.args.body.now refl (c.in_ok-stage.ensures.done bodies settled)

@@ -7,20 +7,20 @@ pub returns-in_err-write_and_sync-clause-failed : goal.returns-in_err-write_and_
 returns-in_err-write_and_sync-clause-failed g c =
     let on : c.args.self.now.unsettled ≡ true = search rules in
     on_err_all c.from_residual.result
-    (λ bodies last kept. settle_failed_on g.D.Disk.tells g.D.Disk.reads g.D.Disk.moment g.D.Disk.image c.args.self.now.disk c.write_and_sync.new.disk c.write_and_sync.ensures.tells c.args.self.now.gate c.args.self.now.unsettled bodies last on kept c.write_and_sync.ensures.crash)
+    (λ bodies last kept. settle_failed_on (g.D.Disk.seen c.args.self.now.disk) (g.D.Disk.seen c.write_and_sync.new.disk) c.write_and_sync.ensures.tells c.args.self.now.gate c.args.self.now.unsettled bodies last on kept c.write_and_sync.ensures.crash)
 
 pub returns-in_err-write_and_sync-clause-crash : goal.returns-in_err-write_and_sync-clause-crash
 returns-in_err-write_and_sync-clause-crash g c bodies last kept =
     let on : c.args.self.now.unsettled ≡ true = search rules in
-    settle_crash_on g.D.Disk.tells g.D.Disk.reads g.D.Disk.moment g.D.Disk.image c.args.self.now.disk c.write_and_sync.new.disk c.write_and_sync.ensures.tells c.args.self.now.gate c.args.self.now.unsettled bodies last on kept c.write_and_sync.ensures.crash
+    settle_crash_on (g.D.Disk.seen c.args.self.now.disk) (g.D.Disk.seen c.write_and_sync.new.disk) c.write_and_sync.ensures.tells c.args.self.now.gate c.args.self.now.unsettled bodies last on kept c.write_and_sync.ensures.crash
 
 pub returns-clause-done : goal.returns-clause-done
 returns-clause-done g c bodies last kept =
     let on : c.args.self.now.unsettled ≡ true = search rules in
-    settle_done_on g.D.Disk.tells g.D.Disk.reads g.D.Disk.moment g.D.Disk.image c.args.self.now.disk c.write_and_sync.new.disk c.write_and_sync.ensures.tells c.args.self.now.gate c.args.self.now.unsettled bodies last on kept
+    settle_done_on (g.D.Disk.seen c.args.self.now.disk) (g.D.Disk.seen c.write_and_sync.new.disk) c.write_and_sync.ensures.tells c.args.self.now.gate c.args.self.now.unsettled bodies last on kept
     (g.met.D.Disk.reads_now c.args.self.now.disk kept.told) (c.in_ok-write_and_sync.ensures.written kept.told) (c.in_ok-write_and_sync.ensures.durable kept.told)
 
 pub returns-clause-crash : goal.returns-clause-crash
 returns-clause-crash g c bodies last kept =
     let on : c.args.self.now.unsettled ≡ true = search rules in
-    settle_crash_on g.D.Disk.tells g.D.Disk.reads g.D.Disk.moment g.D.Disk.image c.args.self.now.disk c.write_and_sync.new.disk c.write_and_sync.ensures.tells c.args.self.now.gate c.args.self.now.unsettled bodies last on kept c.write_and_sync.ensures.crash
+    settle_crash_on (g.D.Disk.seen c.args.self.now.disk) (g.D.Disk.seen c.write_and_sync.new.disk) c.write_and_sync.ensures.tells c.args.self.now.gate c.args.self.now.unsettled bodies last on kept c.write_and_sync.ensures.crash
