@@ -1,9 +1,10 @@
 """Compares the names of the crates with the documents: python3 bench/names.py [CRATE..]
 
 Prints each name that stands on one side alone. In docs/DEFINITIONS.md each public word of a crate's specs/ has its place in the index at
-the end, and the words of the glossary are among these. In docs/PROVED.md each public function, law and trait has a row. In
-docs/LAYERS.md each crate has a row with what it stands on, as crates.txt says, and each module of lemmas that another crate imports.
-Status 1: something is missing. With --write it writes the index, what each crate stands on and the modules of lemmas anew.
+the end, and the words of the glossary are among these. In docs/PROVED.md each public function, law and trait has a row, and each clause
+that is named there is one. In docs/LAYERS.md each crate has a row with what it stands on, as crates.txt says, and each module of lemmas
+that another crate imports. Status 1: something is missing. With --write it writes the index, what each crate stands on and the modules
+of lemmas anew.
 """
 
 import re
@@ -114,6 +115,11 @@ def calls(crate):
     return found
 
 
+def clauses(crate):
+    """The names of the clauses of a crate's contracts, and of the ghost members of its traits."""
+    return {name for file in sources(crate) for name in re.findall(r"\b(?:ensures\*?|ghost) (\w+)\b", file.read_text())}
+
+
 def lent_lemmas():
     """Of each crate, the modules of its proofs/ that other crates import."""
     found = {}
@@ -167,6 +173,7 @@ def main():
         known = calls(crate)
         bad |= tell(f"PROVED.md, {crate}", {it for it in known if it not in told and it.split("::")[0] not in told}, "has no row")
         bad |= tell(f"PROVED.md, {crate}", {it for it in told - known if it.split("::")[0] not in exported(crate)}, "is no public call")
+        bad |= tell(f"PROVED.md, {crate}", column(proved.get(crate, ""), 2) - clauses(crate), "is no clause")
         row = re.search(rf"^\| `{crate}` \| ([^|]*)\|", layers, re.M)
         stands = set(re.findall(r"`(\w+)`", row[1])) if row else set()
         bad |= tell("LAYERS.md", set() if row else {crate}, "has no row")
