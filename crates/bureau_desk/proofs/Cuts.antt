@@ -15,7 +15,7 @@ use Rattle.claim_history.specs.declared.entry.Reply.TheVariants as reply
 use Rattle.claim_history.specs.declared.entry.Why.{Why}
 use Rattle.claim_history.specs.declared.entry.Why.TheVariants as why
 use Rattle.claim_history.specs.declared.fact.Position.{Position}
-use Rattle.claim_history.specs.Acts.{is_publication}
+use Rattle.claim_history.specs.Acts.{is_publication, is_close}
 use Rattle.claim_history.specs.States.{OpenRound, State, state, state_of, after}
 use Rattle.claim_history.specs.History.{answer, close_answer, abandon_answer, close_refusals, abandon_refusals, is_opening, is_no_refusal, is_accepted}
 use Rattle.claim_history.specs.History.IsReply.{replied}
@@ -24,7 +24,6 @@ use Rattle.claim_history.proofs.Rows.{by_rows}
 use Rattle.claim_history.proofs.Replies.{opens}
 use Rattle.claim_history.specs.Laws.{IsOwned}
 use Rattle.claim_book.specs.Book.{room_for, GivesCut}
-use Rattle.journal_replay.specs.Replays.{is_close}
 use Rattle.bureau_desk.specs.Devices.{IsReplied}
 use Rattle.bureau_desk.specs.Rounds.{cut_published, cuts_past, cuts_after}
 use Rattle.bureau_desk.specs.Acting.{RecordedView, entry_of, has_closed, closed_last, IsSpared}

@@ -14,7 +14,7 @@ use Rattle.claim_history.specs.Needs.{is_full}
 use Rattle.claim_history.specs.Laws.{IsOwned}
 use Rattle.claim_book.specs.Book.{BookView, open_cut_of}
 use Rattle.limited_book.specs.Limited.{IsFull}
-use Rattle.journal_replay.specs.Replays.{is_close}
+use Rattle.claim_history.specs.Acts.{is_close}
 use Rattle.bureau_desk.specs.declared.act_error.ActError.{ActError}
 use Rattle.bureau_desk.specs.declared.act_error.ActError.TheVariants.{Memory, Full}
 use Rattle.bureau_desk.specs.declared.cut_reply.CutReply.{CutReply}

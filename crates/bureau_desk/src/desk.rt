@@ -3,8 +3,7 @@ ghost use Rattle.std.specs.Prelude.{◌≡◌, ◌≤◌, ◌+◌, [], length, t
 ghost use Rattle.claim_history.specs.declared.act.Act.TheVariants as acts;
 ghost use Rattle.claim_history.specs.declared.entry.Reply.TheVariants as replies;
 ghost use Rattle.claim_history.specs.declared.entry.Why.TheVariants as whys;
-ghost use Rattle.claim_history.specs.Acts.{is_valid, is_publication};
-ghost use Rattle.journal_replay.specs.Replays.{is_close};
+ghost use Rattle.claim_history.specs.Acts.{is_valid, is_publication, is_close};
 ghost use Rattle.bureau_desk.specs.Acting.{HasActed, HasClosed, IsActError, IsPublishable, IsPublishReply};
 ghost use Rattle.claim_history.specs.History.{is_accepted};
 ghost use Rattle.round_journal.specs.Stops.{HasCause};

@@ -8,13 +8,13 @@ ghost use Rattle.claim_history.specs.declared.act.Act.{Act};
 ghost use Rattle.limited_book.specs.Limited.{IsFull};
 ghost use Rattle.claim_history.specs.declared.act.Act.TheVariants as acts;
 ghost use Rattle.claim_history.specs.declared.entry.Reply.TheVariants as replies;
-ghost use Rattle.claim_history.specs.Acts.{is_valid, is_publication, is_day};
+ghost use Rattle.claim_history.specs.Acts.{is_valid, is_publication, is_close, is_day};
 ghost use Rattle.claim_history.specs.States.{state_of};
 ghost use Rattle.claim_history.specs.History.{answer_of, is_opening, is_accepted};
 ghost use Rattle.claim_history.specs.Needs.{body_length_of, is_full};
 ghost use Rattle.act_bodies.specs.Bodies.{is_keepable};
 ghost use Rattle.claim_book.specs.Book.{room_for, GivesCut, ledger_of, open_cut_of};
-ghost use Rattle.journal_replay.specs.Replays.{is_close, history_of, AreSound};
+ghost use Rattle.journal_replay.specs.Replays.{history_of, AreSound};
 ghost use Rattle.round_journal.specs.Opened.{IsOpen};
 ghost use Rattle.round_journal.specs.declared.record.Record.{Record};
 ghost use Rattle.fault_count.specs.Counts.{HasRisen};
@@ -32,7 +32,6 @@ use claim_book::Book;
 use claim_history::{Act, Day, Entry, Reply, Why};
 use disk_model::Disk;
 use limited_book::{Full, LimitedBook};
-use round_cut::{build_cut, cut_of_a_history_is_of_its_facts};
 use round_journal::Journal;
 use setoff_model::{Cut, Kind, Outcome, total};
 use std::alloc::{AllocError, Global};
@@ -232,7 +231,7 @@ impl<D: Disk> RecordedBook<D> {
         ensures spare { self.old.recorder.spare ≤ self.new.recorder.spare }
         ensures base { IsSameBase self.old.recorder self.new.recorder }
     {
-        let Ok(cut) = make_cut(self.alloc, self.book.book(), caller, kind, horizon, round) else {
+        let Ok(cut) = self.book.next_cut(self.alloc, kind, horizon) else {
             return Err(ActError::Memory);
         };
         let Ok(copy) = cut.clone() else {
@@ -383,24 +382,6 @@ impl<D: Disk> RecordedBook<D> {
         } = self;
         recorder.close()
     }
-}
-
-// The cut of the next round, of this number.
-fn make_cut(
-    alloc: Global,
-    book: &Book,
-    caller: u32,
-    kind: Kind,
-    horizon: Day,
-    round: u32,
-) -> Result<Cut, AllocError>
-    requires due { replies.Opened round ≡ answer_of book.now.history caller (acts.Close kind horizon) }
-    ensures cut { IfOk result (λ cut. cut ≡ cut_of ((state_of book.now.history).openings + 1) (ledger_of book.now.history) kind horizon) }
-    ensures formed { IfOk result WellFormed }
-{
-    let _ = caller;
-    cut_of_a_history_is_of_its_facts();
-    build_cut(alloc, book.claims(), book.accounts(), kind, horizon, round)
 }
 
 // The bytes of the body of a publication for a cut.

@@ -21,7 +21,7 @@ use Rattle.claim_history.specs.declared.fact.AccountFact.{AccountFact}
 use Rattle.claim_history.specs.Acts.{is_valid, is_publication}
 use Rattle.claim_history.specs.Facts.{Ledger, Filing, firms, filings, claim_fact, claim_facts, account_fact, account_facts, filing_of, amount_of, received, discharged, left_of, Settled}
 use Rattle.claim_history.specs.Cut.{cut_of}
-use Rattle.claim_history.specs.States.{OpenRound, State, state, state_of, after, with_act, open_as}
+use Rattle.claim_history.specs.States.{OpenRound, State, state, state_of, after, open_as}
 use Rattle.claim_history.specs.History.{answer, is_accepted, is_no_refusal, is_opening, last_count, IsReply, MayFollow, IsLegal, AreValid}
 use Rattle.claim_history.specs.Laws.{IsWithin}
 use Rattle.claim_history.proofs.Growth.{growth_law}
@@ -34,10 +34,10 @@ use Rattle.claim_history.proofs.Greatest.{reply_published}
 use Rattle.claim_history.proofs.Agreement.{openings_law}
 use Rattle.std.proofs.lemmas.List.Sums.{count_by-le-length}
 use Rattle.claim_book.specs.declared.round.KeptRound.{KeptRound}
-use Rattle.claim_book.specs.Book.{ledger_of, round_kept, is_abandoned, IsClose, IsBook}
+use Rattle.claim_book.specs.Book.{BookParts, ledger_of, round_kept, is_abandoned, IsClose, IsBook}
 use Rattle.fact_tables.specs.Settling.{settled_claim, settled_account}
-use Rattle.fact_tables.specs.Tables.{accounts_after, claims_after, FirmsOnce, KeysOnce, AreSmall}
-use Rattle.claim_book.proofs.Names.{key_same}
+use Rattle.fact_tables.specs.Tables.{accounts_after, accounts_with, claims_after, claims_with, FirmsOnce, KeysOnce, AreSmall, AreAccounts}
+use Rattle.claim_history.proofs.Rows.{key_same}
 use Rattle.fact_tables.proofs.Places.{find_once, sum_by-map}
 use Rattle.claim_book.proofs.Sound.{IsSound, sound}
 use Rattle.claim_book.proofs.Tables.{tables, settled_with, settled_tables}
@@ -116,38 +116,64 @@ after_leaves caller a (reply.Abandoned round) s counted inv apart closed legal =
 one_more : (entries : List Entry) (e : Entry) → reverse (entries ++ e ∷ []) ≡ e ∷ reverse entries
 one_more entries e = reverse-append entries (e ∷ [])
 
--- what a book comes to, by the state after the entry
-pub grown : (entries : List Entry) (e : Entry) (claims : List ClaimFact) (accounts : List AccountFact) (openings : ℕ) (kept : Option KeptRound) → IsLegal entries → AreValid entries → is_valid e.act ≡ true → MayFollow entries e
-    → claims ≡ claim_facts (after e.caller e.act e.reply (state_of entries)).ledger
-    → accounts ≡ account_facts (after e.caller e.act e.reply (state_of entries)).ledger
-    → openings ≡ (after e.caller e.act e.reply (state_of entries)).openings
-    → round_kept kept ≡ (after e.caller e.act e.reply (state_of entries)).open_round
-    → IsBook (entries ++ e ∷ []) claims accounts openings kept
-grown entries e claims accounts openings kept legal valid is_valid_act next cs as' n r =
-    let past = sym (one_more entries e) in
+-- the parts are what a state comes to
+record Comes (parts : BookParts) (s : State) : Type 0 where
+  pub claims : parts.claims ≡ claim_facts s.ledger
+  pub accounts : parts.accounts ≡ account_facts s.ledger
+  pub openings : parts.openings ≡ s.openings
+  pub round : round_kept parts.round ≡ s.open_round
+
+comes : (book : BookParts) → IsBook book → Comes book (state_of book.entries)
+comes book is = record { claims = is.claims_are; accounts = is.accounts_are; openings = is.openings_are; round = is.round_is }
+
+-- a book with one more entry and these tables and round
+abbrev with_parts : List Entry → Entry → BookParts → BookParts
+with_parts entries e parts = record parts { entries = entries ++ e ∷ [] }
+
+-- a book after an entry, by the state after it
+grown : (book parts : BookParts) (e : Entry) → IsBook book → is_valid e.act ≡ true → MayFollow book.entries e → Comes parts (after e.caller e.act e.reply (state_of book.entries)) → IsBook (with_parts book.entries e parts)
+grown book parts e is valid next new =
+    let past = sym (one_more book.entries e) in
     record {
-      legal = growth_law entries e legal next;
-      valid = All-push (λ (x : Entry). is_valid x.act ≡ true) entries e valid is_valid_act;
-      claims_are = cs ∙ ap (λ (es : List Entry). claim_facts (state es).ledger) past;
-      accounts_are = as' ∙ ap (λ (es : List Entry). account_facts (state es).ledger) past;
-      openings_are = n ∙ ap (λ (es : List Entry). (state es).openings) past;
-      round_is = r ∙ ap (λ (es : List Entry). (state es).open_round) past;
+      legal = growth_law book.entries e is.legal next;
+      valid = All-push (λ (x : Entry). is_valid x.act ≡ true) book.entries e is.valid valid;
+      claims_are = new.claims ∙ ap (λ (es : List Entry). claim_facts (state es).ledger) past;
+      accounts_are = new.accounts ∙ ap (λ (es : List Entry). account_facts (state es).ledger) past;
+      openings_are = new.openings ∙ ap (λ (es : List Entry). (state es).openings) past;
+      round_is = new.round ∙ ap (λ (es : List Entry). (state es).open_round) past;
     }
+
+-- what the tables of a book keep
+pub keys_once : (book : BookParts) → IsBook book → KeysOnce book.claims
+keys_once book is = subst KeysOnce (sym is.claims_are) (claims_once book.entries is.legal)
+
+pub are_accounts : (book : BookParts) → IsBook book → AreAccounts book.accounts
+are_accounts book is = subst AreAccounts (sym is.accounts_are) (record { once = accounts_once book.entries is.legal; small = accounts_small book.entries is.legal is.valid })
 
 kept_or_none : (b : Bool) (kept : Option KeptRound) (o : Option OpenRound) → round_kept kept ≡ o → round_kept (if b then None else kept) ≡ (if b then None else o)
 kept_or_none true kept o e = refl
 kept_or_none false kept o e = e
 
-pub book_grows : (entries : List Entry) (claims : List ClaimFact) (accounts : List AccountFact) (openings : ℕ) (kept : Option KeptRound) (e : Entry) → IsBook entries claims accounts openings kept
-    → is_valid e.act ≡ true → is_publication e.act ≡ false → is_opening e.reply ≡ false → MayFollow entries e
-    → IsBook (entries ++ e ∷ []) (if is_accepted e then claims_after e.act claims else claims) (if is_accepted e then accounts_after e.act accounts else accounts) openings (if is_abandoned e.reply then None else kept)
-book_grows entries claims accounts openings kept e book valid apart closed next =
-    let left = after_leaves e.caller e.act e.reply (state_of entries) (last_count (reverse entries)) (sound (reverse entries) book.legal) apart closed next in
-    grown entries e _ _ openings _ book.legal book.valid valid next
-    (ap (λ (cs : List ClaimFact). if is_accepted e then claims_after e.act cs else cs) book.claims_are ∙ left.0)
-    (ap (λ (as' : List AccountFact). if is_accepted e then accounts_after e.act as' else as') book.accounts_are ∙ left.1)
-    (book.openings_are ∙ left.3)
-    (kept_or_none (is_abandoned e.reply) kept (state_of entries).open_round book.round_is ∙ left.2)
+-- a book after an entry that publishes nothing and opens no round
+abbrev pub with_entry : Entry → BookParts → BookParts
+with_entry e book = record {
+  entries = book.entries ++ e ∷ [];
+  claims = claims_with e book.claims;
+  accounts = accounts_with e book.accounts;
+  openings = book.openings;
+  round = if is_abandoned e.reply then None else book.round;
+}
+
+pub book_grows : (book : BookParts) (e : Entry) → IsBook book → is_valid e.act ≡ true → is_publication e.act ≡ false → is_opening e.reply ≡ false → MayFollow book.entries e → IsBook (with_entry e book)
+book_grows book e is valid apart closed next =
+    let s = state_of book.entries in
+    let left = after_leaves e.caller e.act e.reply s (last_count (reverse book.entries)) (sound (reverse book.entries) is.legal) apart closed next in
+    grown book (with_entry e book) e is valid next (record {
+      claims = ap (claims_with e) is.claims_are ∙ left.0;
+      accounts = ap (accounts_with e) is.accounts_are ∙ left.1;
+      openings = is.openings_are ∙ left.3;
+      round = kept_or_none (is_abandoned e.reply) book.round s.open_round is.round_is ∙ left.2;
+    })
 
 -- ---- an opening
 
@@ -157,19 +183,29 @@ kept_round owner horizon cut = Some (record { owner = owner; horizon = horizon; 
 opened_state : (caller : ℕ) (a : Act) (r : Reply) (s : State) (kind : Kind) (horizon : ℕ) → a ≡ act.Close kind horizon → r ≡ reply.Opened (s.openings + 1) → after caller a r s ≡ open_as caller (act.Close kind horizon) s
 opened_state caller a r s kind horizon ea er = ap₂ (λ (x : Act) (y : Reply). after caller x y s) ea er
 
-pub close_grows : (entries : List Entry) (claims : List ClaimFact) (accounts : List AccountFact) (openings : ℕ) (kept : Option KeptRound) (e : Entry) (cut : CutView) (kind : Kind) (horizon : ℕ) → IsBook entries claims accounts openings kept
-    → is_valid e.act ≡ true → is_opening e.reply ≡ true → MayFollow entries e → e.act ≡ act.Close kind horizon
-    → ((kind : Kind) (horizon : ℕ) → e.act ≡ act.Close kind horizon → cut ≡ cut_of ((state_of entries).openings + 1) (ledger_of entries) kind horizon)
-    → IsBook (entries ++ e ∷ []) claims accounts (openings + 1) (kept_round e.caller horizon cut)
-close_grows entries claims accounts openings kept e cut kind horizon book valid opening next asks cut_is =
-    let s = state_of entries in
-    let o = opens s (last_count (reverse entries)) e.caller e.act e.reply next opening in
-    let is = opened_state e.caller e.act e.reply s kind horizon asks o.reply_is in
-    grown entries e claims accounts (openings + 1) (kept_round e.caller horizon cut) book.legal book.valid valid next
-    (book.claims_are ∙ ap (λ (t : State). claim_facts t.ledger) (sym is))
-    (book.accounts_are ∙ ap (λ (t : State). account_facts t.ledger) (sym is))
-    (ap (λ n. n + 1) book.openings_are ∙ ap (λ (t : State). t.openings) (sym is))
-    (ap (λ (c : CutView). round_kept (kept_round e.caller horizon c)) (cut_is kind horizon asks) ∙ ap (λ (t : State). t.open_round) (sym is))
+-- a book after an entry that opens a round with this horizon and cut
+abbrev pub with_opening : Entry → ℕ → CutView → BookParts → BookParts
+with_opening e horizon cut book = record {
+  entries = book.entries ++ e ∷ [];
+  claims = book.claims;
+  accounts = book.accounts;
+  openings = book.openings + 1;
+  round = kept_round e.caller horizon cut;
+}
+
+pub close_grows : (book : BookParts) (e : Entry) (cut : CutView) (kind : Kind) (horizon : ℕ) → IsBook book → is_valid e.act ≡ true → is_opening e.reply ≡ true → MayFollow book.entries e → e.act ≡ act.Close kind horizon
+    → ((kind : Kind) (horizon : ℕ) → e.act ≡ act.Close kind horizon → cut ≡ cut_of ((state_of book.entries).openings + 1) (ledger_of book.entries) kind horizon)
+    → IsBook (with_opening e horizon cut book)
+close_grows book e cut kind horizon is valid opening next asks cut_is =
+    let s = state_of book.entries in
+    let o = opens s (last_count (reverse book.entries)) e.caller e.act e.reply next opening in
+    let opened = opened_state e.caller e.act e.reply s kind horizon asks o.reply_is in
+    grown book (with_opening e horizon cut book) e is valid next (record {
+      claims = is.claims_are ∙ ap (λ (t : State). claim_facts t.ledger) (sym opened);
+      accounts = is.accounts_are ∙ ap (λ (t : State). account_facts t.ledger) (sym opened);
+      openings = ap (λ n. n + 1) is.openings_are ∙ ap (λ (t : State). t.openings) (sym opened);
+      round = ap (λ (c : CutView). round_kept (kept_round e.caller horizon c)) (cut_is kind horizon asks) ∙ ap (λ (t : State). t.open_round) (sym opened);
+    })
 
 -- an entry that opens a round is a Close
 pub is_close : (entries : List Entry) (e : Entry) → is_opening e.reply ≡ true → MayFollow entries e → IsClose e.act
@@ -183,13 +219,10 @@ refused_state : (caller : ℕ) (a : Act) (r : Reply) (s : State) → is_no_refus
 refused_state caller a (reply.Refused w) s refused = refl
 refused_state caller a r s refused = absurd (true≢false refused)
 
-pub refused_grows : (entries : List Entry) (claims : List ClaimFact) (accounts : List AccountFact) (openings : ℕ) (kept : Option KeptRound) (e : Entry) → IsBook entries claims accounts openings kept
-    → is_valid e.act ≡ true → is_accepted e ≡ false → MayFollow entries e → IsBook (entries ++ e ∷ []) claims accounts openings kept
-refused_grows entries claims accounts openings kept e book valid refused next =
-    let is = refused_state e.caller e.act e.reply (state_of entries) refused in
-    grown entries e claims accounts openings kept book.legal book.valid valid next
-    (book.claims_are ∙ ap (λ (t : State). claim_facts t.ledger) (sym is)) (book.accounts_are ∙ ap (λ (t : State). account_facts t.ledger) (sym is))
-    (book.openings_are ∙ ap (λ (t : State). t.openings) (sym is)) (book.round_is ∙ ap (λ (t : State). t.open_round) (sym is))
+pub refused_grows : (book : BookParts) (e : Entry) → IsBook book → is_valid e.act ≡ true → is_accepted e ≡ false → MayFollow book.entries e → IsBook (with_parts book.entries e book)
+refused_grows book e is valid refused next =
+    let same = refused_state e.caller e.act e.reply (state_of book.entries) refused in
+    grown book book e is valid next (subst (Comes book) (sym same) (comes book is))
 
 -- what an accepted publication says of the open round
 pub record IsSettling (entries : List Entry) (e : Entry) (number : ℕ) (outcome : OutcomeView) : Type 0 where
@@ -229,21 +262,35 @@ published_state caller number outcome a r l n o round ea er eo =
 same_kept : (kept : KeptRound) (o : Option OpenRound) (round : OpenRound) → round_kept (Some kept) ≡ o → o ≡ Some round → kept.cut ≡ round.cut
 same_kept kept o round e f = ap (λ (r : OpenRound). r.cut) (same_open _ round (e ∙ f))
 
-pub publish_grows : (entries : List Entry) (claims : List ClaimFact) (accounts : List AccountFact) (openings : ℕ) (kept : KeptRound) (e : Entry) (number : ℕ) (outcome : OutcomeView) → IsBook entries claims accounts openings (Some kept)
-    → is_valid e.act ≡ true → is_accepted e ≡ true → e.act ≡ act.Publish number outcome → MayFollow entries e
-    → IsBook (entries ++ e ∷ []) (map (settled_claim (record { cut = kept.cut; discharges = outcome.discharges })) claims) (map (settled_account (record { cut = kept.cut; discharges = outcome.discharges })) accounts) openings None
-publish_grows entries claims accounts openings kept e number outcome book valid accepted asks next =
-    let s = state_of entries in
-    let p = settling entries e number outcome accepted asks next in
-    let new : Settled = record { cut = p.round.cut; discharges = outcome.discharges } in
-    let is = published_state e.caller number outcome e.act e.reply s.ledger s.openings s.open_round p.round asks p.reply_is p.was_open in
-    let cut : kept.cut ≡ p.round.cut = same_kept kept s.open_round p.round book.round_is p.was_open in
+-- a book after the round of a cut was published
+abbrev pub with_published : Entry → Settled → BookParts → BookParts
+with_published e round book = record {
+  entries = book.entries ++ e ∷ [];
+  claims = map (settled_claim round) book.claims;
+  accounts = map (settled_account round) book.accounts;
+  openings = book.openings;
+  round = None;
+}
+
+-- its cut is that of the round that the book keeps
+abbrev settled_of : CutView → OutcomeView → Settled
+settled_of cut outcome = record { cut = cut; discharges = outcome.discharges }
+
+publish_grows : (book : BookParts) (kept : KeptRound) (e : Entry) (number : ℕ) (outcome : OutcomeView) → IsBook book → round_kept (Some kept) ≡ (state_of book.entries).open_round
+    → is_valid e.act ≡ true → is_accepted e ≡ true → e.act ≡ act.Publish number outcome → MayFollow book.entries e → IsBook (with_published e (settled_of kept.cut outcome) book)
+publish_grows book kept e number outcome is round_is valid accepted asks next =
+    let s = state_of book.entries in
+    let p = settling book.entries e number outcome accepted asks next in
+    let new : Settled = settled_of p.round.cut outcome in
+    let published = published_state e.caller number outcome e.act e.reply s.ledger s.openings s.open_round p.round asks p.reply_is p.was_open in
+    let cut : kept.cut ≡ p.round.cut = same_kept kept s.open_round p.round round_is p.was_open in
     let both = settled_tables s.ledger number outcome new in
-    grown entries e _ _ openings None book.legal book.valid valid next
-    (ap₂ (λ (c : CutView) (cs : List ClaimFact). map (settled_claim (record { cut = c; discharges = outcome.discharges })) cs) cut book.claims_are ∙ sym both.1 ∙ ap (λ (t : State). claim_facts t.ledger) (sym is))
-    (ap₂ (λ (c : CutView) (as' : List AccountFact). map (settled_account (record { cut = c; discharges = outcome.discharges })) as') cut book.accounts_are ∙ sym both.0 ∙ ap (λ (t : State). account_facts t.ledger) (sym is))
-    (book.openings_are ∙ ap (λ (t : State). t.openings) (sym is))
-    (ap (λ (t : State). t.open_round) (sym is))
+    grown book (with_published e (settled_of kept.cut outcome) book) e is valid next (record {
+      claims = ap₂ (λ (c : CutView) (cs : List ClaimFact). map (settled_claim (settled_of c outcome)) cs) cut is.claims_are ∙ sym both.1 ∙ ap (λ (t : State). claim_facts t.ledger) (sym published);
+      accounts = ap₂ (λ (c : CutView) (as' : List AccountFact). map (settled_account (settled_of c outcome)) as') cut is.accounts_are ∙ sym both.0 ∙ ap (λ (t : State). account_facts t.ledger) (sym published);
+      openings = is.openings_are ∙ ap (λ (t : State). t.openings) (sym published);
+      round = ap (λ (t : State). t.open_round) (sym published);
+    })
 
 -- what the round discharges is below 10^18 cents, one discharge for each claim
 pub settling_fits : (entries : List Entry) (e : Entry) (kept : KeptRound) (number : ℕ) (outcome : OutcomeView) → IsLegal entries → AreValid entries → round_kept (Some kept) ≡ (state_of entries).open_round
@@ -261,40 +308,48 @@ none_kept entries e number outcome is accepted asks next =
     let p = settling entries e number outcome accepted asks next in none_open p.round (is ∙ p.was_open)
 
 -- what becomes of a book by an accepted publication, whose round has the cut
-pub record IsSettled (entries : List Entry) (claims : List ClaimFact) (accounts : List AccountFact) (openings : ℕ) (e : Entry) (d : List ℕ) (cut : CutView) : Type 0 where
+pub record IsSettled (book : BookParts) (e : Entry) (d : List ℕ) (cut : CutView) : Type 0 where
   pub one_each : length d ≡ length cut.claims
   pub total : total_of d < 10 ^ 18
-  pub grows : IsBook (entries ++ e ∷ []) (map (settled_claim (record { cut = cut; discharges = d })) claims) (map (settled_account (record { cut = cut; discharges = d })) accounts) openings None
+  pub grows : IsBook (with_published e (record { cut = cut; discharges = d }) book)
   pub round : OpenRound
-  pub was_open : (state_of entries).open_round ≡ Some round
+  pub was_open : (state_of book.entries).open_round ≡ Some round
   pub cut_is : cut ≡ round.cut
 
-settled_by : (entries : List Entry) (claims : List ClaimFact) (accounts : List AccountFact) (openings : ℕ) (kept : KeptRound) (e : Entry) (number : ℕ) (outcome : OutcomeView) → IsBook entries claims accounts openings (Some kept)
-    → is_valid e.act ≡ true → is_accepted e ≡ true → e.act ≡ act.Publish number outcome → MayFollow entries e → IsSettled entries claims accounts openings e outcome.discharges kept.cut
-settled_by entries claims accounts openings kept e number outcome book valid accepted asks next =
-    let fits = settling_fits entries e kept number outcome book.legal book.valid book.round_is accepted asks next in
-    let p = settling entries e number outcome accepted asks next in
+settled_by : (book : BookParts) (kept : KeptRound) (e : Entry) (number : ℕ) (outcome : OutcomeView) → IsBook book → round_kept (Some kept) ≡ (state_of book.entries).open_round
+    → is_valid e.act ≡ true → is_accepted e ≡ true → e.act ≡ act.Publish number outcome → MayFollow book.entries e → IsSettled book e outcome.discharges kept.cut
+settled_by book kept e number outcome is round_is valid accepted asks next =
+    let fits = settling_fits book.entries e kept number outcome is.legal is.valid round_is accepted asks next in
+    let p = settling book.entries e number outcome accepted asks next in
     record {
       one_each = fits.0;
       total = fits.1;
-      grows = publish_grows entries claims accounts openings kept e number outcome book valid accepted asks next;
+      grows = publish_grows book kept e number outcome is round_is valid accepted asks next;
       round = p.round;
       was_open = p.was_open;
-      cut_is = same_kept kept (state_of entries).open_round p.round book.round_is p.was_open;
+      cut_is = same_kept kept (state_of book.entries).open_round p.round round_is p.was_open;
     }
 
-pub settles : (entries : List Entry) (claims : List ClaimFact) (accounts : List AccountFact) (openings : ℕ) (kept : Option KeptRound) (e : Entry) (number : ℕ) (outcome : OutcomeView) (cut : CutView) → IsBook entries claims accounts openings kept
-    → is_valid e.act ≡ true → is_accepted e ≡ true → e.act ≡ act.Publish number outcome → MayFollow entries e → IfSome kept (λ round. cut ≡ round.cut) → IsSettled entries claims accounts openings e outcome.discharges cut
-settles entries claims accounts openings None e number outcome cut book valid accepted asks next is = absurd (none_kept entries e number outcome book.round_is accepted asks next)
-settles entries claims accounts openings (Some kept) e number outcome cut book valid accepted asks next is =
-    subst (IsSettled entries claims accounts openings e outcome.discharges) (sym is) (settled_by entries claims accounts openings kept e number outcome book valid accepted asks next)
+settles_kept : (book : BookParts) (o : Option KeptRound) (e : Entry) (number : ℕ) (outcome : OutcomeView) (cut : CutView) → IsBook book → round_kept o ≡ (state_of book.entries).open_round
+    → is_valid e.act ≡ true → is_accepted e ≡ true → e.act ≡ act.Publish number outcome → MayFollow book.entries e → IfSome o (λ round. cut ≡ round.cut) → IsSettled book e outcome.discharges cut
+settles_kept book None e number outcome cut is round_is valid accepted asks next cut_is = absurd (none_kept book.entries e number outcome round_is accepted asks next)
+settles_kept book (Some kept) e number outcome cut is round_is valid accepted asks next cut_is =
+    subst (IsSettled book e outcome.discharges) (sym cut_is) (settled_by book kept e number outcome is round_is valid accepted asks next)
+
+pub settles : (book : BookParts) (e : Entry) (number : ℕ) (outcome : OutcomeView) (cut : CutView) → IsBook book
+    → is_valid e.act ≡ true → is_accepted e ≡ true → e.act ≡ act.Publish number outcome → MayFollow book.entries e → IfSome book.round (λ round. cut ≡ round.cut) → IsSettled book e outcome.discharges cut
+settles book e number outcome cut is valid accepted asks next cut_is =
+    settles_kept book book.round e number outcome cut is is.round_is valid accepted asks next cut_is
 
 publication_of : (a : Act) → is_publication a ≡ true → (number : ℕ) × ((outcome : OutcomeView) × (a ≡ act.Publish number outcome))
 publication_of (act.Publish number outcome) e = (number, (outcome, refl))
 publication_of a e = absurd (true≢false (sym e))
 
+kept_there : (entries : List Entry) (o : Option KeptRound) (e : Entry) → round_kept o ≡ (state_of entries).open_round → is_publication e.act ≡ true → is_accepted e ≡ true → MayFollow entries e → IsSome o
+kept_there entries None e round_is publishing accepted next =
+    let p = publication_of e.act publishing in absurd (none_kept entries e p.0 p.1.0 round_is accepted p.1.1 next)
+kept_there entries (Some kept) e round_is publishing accepted next = refl
+
 -- there is a round to end
-pub round_there : (entries : List Entry) (claims : List ClaimFact) (accounts : List AccountFact) (openings : ℕ) (kept : Option KeptRound) (e : Entry) → IsBook entries claims accounts openings kept → is_publication e.act ≡ true → is_accepted e ≡ true → MayFollow entries e → IsSome kept
-round_there entries claims accounts openings None e book publishing accepted next =
-    let p = publication_of e.act publishing in absurd (none_kept entries e p.0 p.1.0 book.round_is accepted p.1.1 next)
-round_there entries claims accounts openings (Some kept) e book publishing accepted next = refl
+pub round_there : (book : BookParts) (e : Entry) → IsBook book → is_publication e.act ≡ true → is_accepted e ≡ true → MayFollow book.entries e → IsSome book.round
+round_there book e is publishing accepted next = kept_there book.entries book.round e is.round_is publishing accepted next

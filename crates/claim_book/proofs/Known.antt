@@ -1,9 +1,9 @@
 -- What every legal history knows: the firms of its claims are registered, and the claims and firms of its open cut are there.
-use Rattle.std.specs.Prelude.{Option, Some, None, is_some, find, filter, flat_map, map, position, reverse, if◌then◌else◌}
-use Rattle.std.specs.List.{list_any, position_or_len}
-use Rattle.std.proofs.Common.{◌≡◌, ℕ, ◌<◌, ◌+◌, Bool, true, false, not, ◌||◌, cond, List, [], ◌∷◌, ◌++◌, length, nat_lt, All, slice_index_or, refl, sym, ◌∙◌, ap, subst, true≢false, arith}
-use Rattle.std.proofs.lemmas.Bool.{or_parts, or_right, ltb-true, false_from_ne_true}
-use Rattle.std.proofs.lemmas.List.Elements.{All-nil, All-cons, All-head, All-tail, All-map, All-weaker, All-filter, All-append}
+use Rattle.std.specs.Prelude.{Option, Some, None, is_some, find, flat_map, position, reverse, if◌then◌else◌}
+use Rattle.std.specs.List.{position_or_len}
+use Rattle.std.proofs.Common.{◌≡◌, ℕ, ◌<◌, ◌+◌, Bool, true, false, cond, List, [], ◌∷◌, length, nat_lt, All, refl, sym, ◌∙◌, ap, subst, true≢false}
+use Rattle.std.proofs.lemmas.Bool.{or_parts, or_right, ltb-true}
+use Rattle.std.proofs.lemmas.List.Elements.{All-nil, All-cons, All-head, All-tail, All-map, All-weaker, All-filter}
 use Rattle.std.proofs.lemmas.List.Sums.{passes_at_first}
 use Rattle.setoff_model.specs.declared.name.Key.{Key}
 use Rattle.setoff_model.specs.declared.kind.Kind.{Kind}
@@ -16,15 +16,15 @@ use Rattle.setoff_model.specs.Same.{same_name, same_key}
 use Rattle.claim_history.specs.declared.act.Act.{Act}
 use Rattle.claim_history.specs.declared.act.Act.TheVariants as act
 use Rattle.claim_history.specs.declared.entry.Reply.TheVariants as reply
-use Rattle.claim_history.specs.declared.entry.Entry.{Entry}
 use Rattle.claim_history.specs.Facts.{Ledger, Filing, firms, is_registered, filings, filing_of}
-use Rattle.claim_history.specs.Cut.{is_due, due_claims, distinct, firms_of, party_of, cut_claim, cut_of}
-use Rattle.claim_history.specs.States.{OpenRound, State, state, with_act, accept, after}
-use Rattle.claim_history.specs.History.{answer, IsLegalPast, close_answer, abandon_answer, publish_answer, close_refusals, abandon_refusals, publish_refusals, firm_refusals, file_refusals}
-use Rattle.claim_history.proofs.Rows.{name_same, key_same, not_false, by_rows, NoneApplies}
+use Rattle.claim_history.specs.Cut.{is_due, due_claims, firms_of, party_of, cut_claim, cut_of}
+use Rattle.claim_history.specs.States.{OpenRound, State, with_act, accept, after}
+use Rattle.claim_history.specs.History.{answer, close_answer, abandon_answer, publish_answer, close_refusals, abandon_refusals, publish_refusals, firm_refusals, file_refusals}
+use Rattle.claim_history.proofs.Rows.{key_same, not_false, by_rows, NoneApplies}
 use Rattle.claim_history.proofs.Pasts.{all_reverse}
 use Rattle.claim_history.proofs.Rounds.{at_state, same_open, none_open}
-use Rattle.claim_history.proofs.Histories.{answer_leaves, every_past}
+use Rattle.claim_history.proofs.Histories.{answer_leaves}
+use Rattle.round_cut.proofs.Formed.{distinct_all}
 
 -- ---- what is known
 
@@ -93,12 +93,6 @@ names_all P (f ∷ fs) all =
     let here = All-head (λ (g : Filing). P g.debtor × P g.key.creditor) f fs all in
     All-cons P f.debtor (f.key.creditor ∷ flat_map (λ (g : Filing). g.debtor ∷ g.key.creditor ∷ []) fs) here.0
     (All-cons P f.key.creditor (flat_map (λ (g : Filing). g.debtor ∷ g.key.creditor ∷ []) fs) here.1 (names_all P fs (All-tail (λ (g : Filing). P g.debtor × P g.key.creditor) f fs all)))
-
-distinct_all : (P : List ℕ → Type 0) (xs : List (List ℕ)) → All P xs → All P (distinct xs)
-distinct_all P [] all = All-nil P
-distinct_all P (x ∷ xs) all =
-    All-cons P x (filter (λ y. not (same_name x y)) (distinct xs)) (All-head P x xs all)
-    (All-filter (λ y. not (same_name x y)) P (distinct xs) (distinct_all P xs (All-tail P x xs all)))
 
 due_all : (P : Filing → Type 0) (l : Ledger) (horizon : ℕ) → All P (filings l) → All P (due_claims l horizon)
 due_all P l horizon all = All-filter (is_due l horizon) P (reverse (filings l)) (all_reverse P (filings l) all)

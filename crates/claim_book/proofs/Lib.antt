@@ -5,3 +5,5 @@ pub mod Tables
 pub mod Books
 pub mod Lookups
 pub mod Found
+pub mod Kept
+pub mod Openings

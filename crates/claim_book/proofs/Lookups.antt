@@ -18,6 +18,7 @@ use Rattle.claim_history.specs.Facts.{Ledger, Filing, firms, is_registered, fili
 use Rattle.claim_history.specs.History.{IsLegal}
 use Rattle.claim_history.proofs.Rows.{name_is}
 use Rattle.claim_book.specs.Book.{ledger_of, account_in, claim_in, position_in}
+use Rattle.round_cut.proofs.History.{filter-map, find-map}
 use Rattle.fact_tables.proofs.Places.{count_cons, sum_by-map}
 use Rattle.claim_book.proofs.Sound.{sound}
 
@@ -39,14 +40,6 @@ account_found l firm =
     ∙ ap (λ (b : Bool). if b then Some (account_fact l firm) else None) (sym (list_any-IsPermutation (λ n. same_name firm n) (firms l) (reverse (firms l)) (IsPermutation-reverse (firms l))))
 
 -- ---- claims
-
-find_map_step : {X Y : Type 0} (b : Bool) (f : X → Y) (x : X) (rest : Option X) (found : Option Y) → found ≡ option_map f rest → cond b (Some (f x)) found ≡ option_map f (cond b (Some x) rest)
-find_map_step true f x rest found e = refl
-find_map_step false f x rest found e = e
-
-find-map : {X Y : Type 0} (q : Y → Bool) (f : X → Y) (xs : List X) → find q (map f xs) ≡ option_map f (find (λ x. q (f x)) xs)
-find-map q f [] = refl
-find-map q f (x ∷ xs) = find_map_step (q (f x)) f x (find (λ y. q (f y)) xs) (find q (map f xs)) (find-map q f xs)
 
 -- the first that passes of a list and one more
 abbrev else_last : {X : Type 0} → (X → Bool) → Option X → X → Option X
@@ -94,14 +87,6 @@ claim_found entries key legal =
     ∙ ap (option_map (claim_fact l)) (find-reverse (λ (f : Filing). same_key key f.key) (filings l) ((sound (reverse entries) legal).1 key))
 
 -- ---- sums
-
-filter_step : {X Y : Type 0} (b : Bool) (f : X → Y) (x : X) (rest : List X) (kept : List Y) → kept ≡ map f rest → cond b (f x ∷ kept) kept ≡ map f (cond b (x ∷ rest) rest)
-filter_step true f x rest kept e = ap (λ ys. f x ∷ ys) e
-filter_step false f x rest kept e = e
-
-filter-map : {X Y : Type 0} (q : Y → Bool) (f : X → Y) (xs : List X) → filter q (map f xs) ≡ map f (filter (λ x. q (f x)) xs)
-filter-map q f [] = refl
-filter-map q f (x ∷ xs) = filter_step (q (f x)) f x (filter (λ y. q (f y)) xs) (filter q (map f xs)) (filter-map q f xs)
 
 part_step : {X : Type 0} (b : Bool) (m : X → ℕ) (x : X) (rest : List X) (n : ℕ) → sum_by m rest ≡ n → sum_by m (cond b (x ∷ rest) rest) ≡ cond b (m x) 0 + n
 part_step true m x rest n e = sum_by-cons m x rest ∙ ap (λ k. m x + k) e

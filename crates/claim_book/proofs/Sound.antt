@@ -1,7 +1,7 @@
 -- What refusals keep in every legal history: no firm is registered twice and no key filed twice, and nothing stands of a name
 -- before it is registered, nor of a key before it is filed.
 use Rattle.std.specs.Prelude.{Option, Some, None, is_some, count_by, pos, ◌-ℤ◌, if◌then◌else◌}
-use Rattle.std.proofs.Common.{◌≡◌, ℕ, ◌+◌, ◌≤◌, Bool, true, false, cond, List, [], ◌∷◌, get_or, refl, sym, ◌∙◌, ap, ap₂, subst, true≢false, arith}
+use Rattle.std.proofs.Common.{◌≡◌, ℕ, ◌+◌, ◌≤◌, Bool, true, false, cond, List, ◌∷◌, get_or, refl, sym, ◌∙◌, ap, ap₂, subst, true≢false, arith}
 use Rattle.std.proofs.lemmas.Bool.{or_parts, false_from_ne_true, false≢true}
 use Rattle.setoff_model.specs.declared.name.Key.{Key}
 use Rattle.std.proofs.lemmas.List.Sums.{sum_by-cons}

@@ -21,9 +21,9 @@ use Rattle.claim_history.specs.Facts.{Ledger, Filing, firms, is_registered, fili
 use Rattle.claim_history.specs.States.{State, with_act}
 use Rattle.claim_history.specs.History.{answer, Refusals, refused_or, is_no_refusal, firm_refusals, file_refusals}
 use Rattle.claim_history.specs.declared.entry.Reply.TheVariants as reply
-use Rattle.claim_history.proofs.Rows.{NoneApplies}
+use Rattle.claim_history.proofs.Rows.{NoneApplies, key_same}
 use Rattle.fact_tables.specs.Tables.{funded, drawn, limited, offered, accounts_after, with_status, with_receipt, new_claim, claims_after}
-use Rattle.claim_book.proofs.Names.{name_flip, key_same, key_flip}
+use Rattle.claim_book.proofs.Names.{name_flip, key_flip}
 use Rattle.setoff_model.specs.CutView.{OutcomeView}
 use Rattle.claim_history.specs.Acts.{is_publication}
 use Rattle.claim_history.specs.Facts.{Settled, amount_of, discharged, discharge_of, discharged_to, discharged_by}

@@ -1,7 +1,8 @@
 //! A history with its claims and accounts.
-ghost use Rattle.std.specs.Prelude.{ℕ, ◌≡◌, ◌<◌, ◌+◌, ◌≤◌, ◌++◌, ◌∷◌, [], length, IfOk, OnOk, OnErr, vec_len, vec_capacity, true, false, All};
+ghost use Rattle.std.specs.Prelude.{ℕ, ◌≡◌, ◌<◌, ◌+◌, ◌≤◌, ◌++◌, ◌∷◌, [], length, is_some, IfOk, IfErr, OnOk, OnErr, vec_len, vec_capacity, true, false, All};
 ghost use Rattle.std.specs.Option.{option_map};
 ghost use Rattle.setoff_model.specs.declared.kind.Kind.{Kind};
+ghost use Rattle.setoff_model.specs.CutView.{WellFormed};
 ghost use Rattle.claim_history.specs.declared.act.Act.TheVariants as act;
 ghost use Rattle.claim_history.specs.Facts.{claim_facts, account_facts};
 ghost use Rattle.claim_history.specs.Cut.{cut_of};
@@ -9,7 +10,7 @@ ghost use Rattle.claim_history.specs.States.{OpenRound, state_of, number_of, is_
 ghost use Rattle.claim_history.specs.History.{answer_of, IsLegal, AreValid, MayFollow, is_accepted, is_opening};
 ghost use Rattle.claim_history.specs.Acts.{is_valid, is_publication};
 ghost use Rattle.claim_history.specs.Laws.{KeepLimits, KeepAmounts, IsWithin, OpenIsFrozen};
-ghost use Rattle.claim_book.specs.Book.{ledger_of, claim_in, account_in, position_in, room_for, open_cut_of, GivesCut};
+ghost use Rattle.claim_book.specs.Book.{ledger_of, claim_in, account_in, position_in, room_for, room_needed, KeepsRoom, open_cut_of, GivesCut};
 
 use crate::account_answer::{
     answer_draw, answer_firm, answer_fund, answer_limit, answer_offer, answer_position,
@@ -21,12 +22,10 @@ use crate::round::{
     KeptRound, end_round, holds_claim, holds_firm, horizon_of, keep_round, outcome_in, take_cut,
 };
 use crate::round_answer::{answer_abandon, answer_close};
-use claim_history::{AccountFact, Act, ClaimFact, Entry, Position, Reply, accepted};
-use fact_tables::{
-    change_accounts, change_claims, find_account, find_claim, owed_by, owed_to, settle_accounts,
-    settle_claims,
-};
-use setoff_model::{Cut, Key, Name};
+use claim_history::{AccountFact, Act, ClaimFact, Day, Entry, Position, Reply, accepted};
+use fact_tables::{AccountTable, ClaimTable};
+use round_cut::{build_cut, cut_of_a_history_is_of_its_facts};
+use setoff_model::{Cut, Key, Kind, Name};
 use std::alloc::{AllocError, Global};
 use std::marker::Model;
 
@@ -37,8 +36,8 @@ use std::marker::Model;
 #[derive(Drop)]
 pub struct Book {
     entries: Vec<Entry>,
-    claims: Vec<ClaimFact>,
-    accounts: Vec<AccountFact>,
+    claims: ClaimTable,
+    accounts: AccountTable,
     openings: u32,
     kept: Option<KeptRound>,
 }
@@ -49,9 +48,9 @@ impl Model for Book {
 
     ghost Value = { BookView };
 
-    ghost view = { λ b. record { history = b.entries.items; room = min (vec_capacity b.entries - vec_len b.entries) (min (vec_capacity b.claims - vec_len b.claims) (vec_capacity b.accounts - vec_len b.accounts)) } };
+    ghost view = { λ b. record { history = b.entries.items; room = min (vec_capacity b.entries - vec_len b.entries) (min b.claims.room b.accounts.room) } };
 
-    ghost invariant = { λ b. IsBook b.entries.items b.claims.items b.accounts.items b.openings b.kept };
+    ghost invariant = { λ b. IsBook (record { entries = b.entries.items; claims = b.claims.facts; accounts = b.accounts.facts; openings = b.openings; round = b.kept }) };
 }
 
 impl Book {
@@ -62,8 +61,8 @@ impl Book {
     {
         Book {
             entries: Vec::new(alloc),
-            claims: Vec::new(alloc),
-            accounts: Vec::new(alloc),
+            claims: ClaimTable::new(alloc),
+            accounts: AccountTable::new(alloc),
             openings: 0,
             kept: None,
         }
@@ -148,7 +147,7 @@ impl Book {
 
     /// Puts an entry at the end that publishes nothing and opens no round. There is room for it, its act is valid, and it may
     /// stand next: its reply is that of the history, or tells of a device that failed where the act would be accepted. It takes
-    /// no memory.
+    /// no memory. Where a round is open, the room for its publication stays.
     pub fn apply(&mut self, entry: Entry)
         requires room { room_for (state_of self.old.history) entry.act ≤ self.old.room }
         requires valid { is_valid entry.act ≡ true }
@@ -157,11 +156,12 @@ impl Book {
         requires next { MayFollow self.old.history entry }
         ensures history { self.new.history ≡ self.old.history ++ entry ∷ [] }
         ensures room { self.old.room ≤ self.new.room + 1 }
+        ensures kept { KeepsRoom self.old.history entry self.new.room }
     {
         // The check of the calls below wants the act's type to be named here.
         let _act: &Act = &entry.act;
-        change_claims(&mut self.claims, &entry);
-        change_accounts(&mut self.accounts, &entry);
+        self.claims.apply(&entry);
+        self.accounts.apply(&entry);
         end_round(&mut self.kept, entry.reply);
         put_entry(&mut self.entries, entry);
     }
@@ -177,6 +177,7 @@ impl Book {
         requires cut { (kind : Kind) (horizon : ℕ) → entry.act ≡ act.Close kind horizon → cut ≡ cut_of ((state_of self.old.history).openings + 1) (ledger_of self.old.history) kind horizon }
         ensures history { self.new.history ≡ self.old.history ++ entry ∷ [] }
         ensures room { self.old.room ≤ self.new.room + 1 }
+        ensures kept { KeepsRoom self.old.history entry self.new.room }
     {
         let horizon = horizon_of(&entry.act);
         let owner = entry.caller;
@@ -191,15 +192,18 @@ impl Book {
     }
 
     /// Puts the entry of a publication at the end. Where it is accepted, claims and accounts are changed by its discharges, the
-    /// round is no longer open, and its cut is given; else None. There is room for an entry, its act is valid, and it may stand
-    /// next, as for `apply`. It takes no memory.
+    /// round is no longer open, and its cut is given; else None. Its act is valid, and it may stand next, as for `apply`. It takes
+    /// no memory.
+    ///
+    /// There is room for it, as for `apply`, or it is the publication of the open round by its owner, for which room was kept.
     pub fn apply_publish(&mut self, entry: Entry) -> Option<Cut>
-        requires room { 1 ≤ self.old.room }
+        requires room { room_needed (state_of self.old.history) entry.caller entry.act ≤ self.old.room }
         requires valid { is_valid entry.act ≡ true }
         requires publishes { is_publication entry.act ≡ true }
         requires next { MayFollow self.old.history entry }
         ensures history { self.new.history ≡ self.old.history ++ entry ∷ [] }
         ensures room { self.old.room ≤ self.new.room + 1 }
+        ensures kept { KeepsRoom self.old.history entry self.new.room }
         ensures cut { GivesCut (state_of self.old.history).open_round entry result }
     {
         if !accepted(&entry) {
@@ -208,15 +212,29 @@ impl Book {
         }
         let cut = take_cut(&mut self.kept);
         let discharges = outcome_in(&entry.act).discharges();
-        settle_claims(&mut self.claims, &cut, discharges);
-        settle_accounts(&mut self.accounts, &cut, discharges);
+        self.claims.discharge(&cut, discharges);
+        self.accounts.discharge(&cut, discharges);
         put_entry(&mut self.entries, entry);
         Some(cut)
     }
 
-    /// A copy of the cut of the open round; None exactly where no round is open. The only error is that memory is missing.
+    /// The cut of the round that a Close of this kind and horizon opens now. It has the number of the next round. Fewer than
+    /// 2^32 - 1 rounds were opened. The only error is that memory is missing.
+    pub fn next_cut(&self, alloc: Global, kind: Kind, horizon: Day) -> Result<Cut, AllocError>
+        requires { (state_of self.now.history).openings < 4294967295 }
+        ensures cut { IfOk result (λ cut. cut ≡ cut_of ((state_of self.now.history).openings + 1) (ledger_of self.now.history) kind horizon) }
+        ensures formed { IfOk result WellFormed }
+    {
+        cut_of_a_history_is_of_its_facts();
+        let round = self.openings + 1;
+        build_cut(alloc, self.claims(), self.accounts(), kind, horizon, round)
+    }
+
+    /// A copy of the cut of the open round; None exactly where no round is open. The only error is that memory is missing, and
+    /// it comes only where a round is open.
     pub fn open_cut(&self, alloc: Global) -> Result<Option<Cut>, AllocError>
-        ensures { IfOk result (λ cut. cut ≡ open_cut_of self.now.history) }
+        ensures cut { IfOk result (λ cut. cut ≡ open_cut_of self.now.history) }
+        ensures open { IfErr result (λ _. is_some (state_of self.now.history).open_round ≡ true) }
     {
         let _ = alloc;
         match &self.kept {
@@ -280,7 +298,7 @@ impl Book {
         ensures legal { IsLegal self.now.history }
         ensures valid { AreValid self.now.history }
     {
-        &self.claims
+        self.claims.facts()
     }
 
     /// The account of each registered firm, in order of registration. Each balance is within its limits. It takes no memory.
@@ -288,21 +306,21 @@ impl Book {
         ensures accounts { result.now ≡ account_facts (ledger_of self.now.history) }
         ensures limits { All (λ a. IsWithin a.credit a.ceiling a.balance) result.now }
     {
-        &self.accounts
+        self.accounts.facts()
     }
 
     /// The claim of this key; None exactly where the key was never filed. It takes no memory.
     pub fn claim(&self, key: &Key) -> Option<ClaimFact>
         ensures { result ≡ claim_in (ledger_of self.now.history) key.now }
     {
-        find_claim(self.claims(), key)
+        self.claims.find(key)
     }
 
     /// The account of this firm; None exactly where the firm is not registered. It takes no memory.
     pub fn account(&self, firm: Name) -> Option<AccountFact>
         ensures { result ≡ account_in (ledger_of self.now.history) firm }
     {
-        find_account(self.accounts(), &firm)
+        self.accounts.find(&firm)
     }
 
     /// The position of this firm; None exactly where the firm is not registered. It takes no memory.
@@ -313,8 +331,8 @@ impl Book {
             None => None,
             Some(account) => Some(Position {
                 balance: account.balance,
-                receivable: owed_to(self.claims(), &firm),
-                payable: owed_by(self.claims(), &firm),
+                receivable: self.claims.owed_to(&firm),
+                payable: self.claims.owed_by(&firm),
             }),
         }
     }

@@ -1,11 +1,6 @@
-ghost use Rattle.std.specs.Prelude.{◌≡◌, ◌++◌, ◌∷◌, [], IfSome, pos};
-ghost use Rattle.setoff_model.specs.declared.kind.Kind.TheVariants.{Plain};
-ghost use Rattle.claim_history.specs.declared.act.Act.TheVariants as acts;
-ghost use Rattle.claim_history.specs.History.{answer_of};
-
 use crate::Book;
 use claim_history::{Act, ClaimFact, Day, Entry, Position, Reply, Status, Why};
-use setoff_model::{Cut, CutClaim, Key, Kind, Name, Outcome, Party};
+use setoff_model::{Key, Kind, Name};
 use std::alloc::Global;
 
 // What the acts below are made of: B's claim I-1 against A, due on 31 January 2025.
@@ -36,9 +31,7 @@ fn make_parts() -> Option<Parts> {
 // Asks the book for an act of a caller that opens no round, and puts its entry at the end. None where the memory is
 // missing, or the act is none that may be asked so.
 #[tactic(auto, using(claim_history::proofs::Growth::due_follows))]
-fn ask(book: &mut Book, caller: u32, act: Act) -> Option<Reply>
-    ensures { IfSome result (λ r. book.new.history ≡ book.old.history ++ record { caller = caller; act = act; reply = answer_of book.old.history caller act } ∷ []) }
-{
+fn ask(book: &mut Book, caller: u32, act: Act) -> Option<Reply> {
     if !act.valid() || act.publishes() || book.history().len() >= 1_000_000 {
         return None;
     }
@@ -204,7 +197,7 @@ fn full_of_firms(rt: HostRuntime) {
 
 // ---- rounds
 
-// Three firms, of which each owes the next: the claims of the keys are filed in this order.
+// Three firms, of which each owes the next on its invoice I-1, due on 31 January 2025.
 #[derive(Clone, Copy)]
 struct Circle {
     a: Name,
@@ -214,7 +207,6 @@ struct Circle {
     owed_by_b: Key,
     owed_by_c: Key,
     due: Day,
-    horizon: Day,
 }
 
 fn make_circle() -> Option<Circle> {
@@ -230,19 +222,14 @@ fn make_circle() -> Option<Circle> {
         owed_by_b: key(c, invoice),
         owed_by_c: key(a, invoice),
         due: Day::of_number(20_119)?,
-        horizon: Day::of_number(20_453)?,
     })
 }
 
-fn key(creditor: Name, invoice: Name) -> Key
-    ensures { result ≡ record { creditor = creditor; invoice = invoice } }
-{
+fn key(creditor: Name, invoice: Name) -> Key {
     Key { creditor, invoice }
 }
 
-fn file(key: Key, debtor: Name, amount: u64, due: Day) -> Act
-    ensures { result ≡ acts.File key debtor amount due }
-{
+fn file(key: Key, debtor: Name, amount: u64, due: Day) -> Act {
     Act::File {
         key,
         debtor,
@@ -251,186 +238,123 @@ fn file(key: Key, debtor: Name, amount: u64, due: Day) -> Act
     }
 }
 
-fn confirm(key: Key, debtor: Name) -> Act
-    ensures { result ≡ acts.Confirm key debtor }
-{
+fn confirm(key: Key, debtor: Name) -> Act {
     Act::Confirm { key, debtor }
 }
 
-fn party(firm: Name) -> Party
-    ensures { result ≡ record { firm = firm; spend = 0; room = 0 } }
-{
-    Party {
-        firm,
-        spend: 0,
-        room: 0,
-    }
-}
-
-fn claim(key: Key, debtor: u32, creditor: u32, amount: u64) -> CutClaim
-    ensures { result ≡ record { key = key; debtor = debtor; creditor = creditor; amount = amount } }
-{
-    CutClaim {
-        key,
-        debtor,
-        creditor,
-        amount,
-    }
-}
-
-// The cut of the circle: no party has a window.
-fn circle_cut(alloc: Global, a: Name, b: Name, c: Name, invoice: Name) -> Option<Cut>
-    ensures { IfSome result (λ cut. cut ≡ record { round = 1; kind = Plain; parties = record { firm = a; spend = 0; room = 0 } ∷ record { firm = b; spend = 0; room = 0 } ∷ record { firm = c; spend = 0; room = 0 } ∷ []; claims = record { key = record { creditor = b; invoice = invoice }; debtor = 0; creditor = 1; amount = 1000 } ∷ record { key = record { creditor = c; invoice = invoice }; debtor = 1; creditor = 2; amount = 700 } ∷ record { key = record { creditor = a; invoice = invoice }; debtor = 2; creditor = 0; amount = 1200 } ∷ [] }) }
-{
-    let Ok(parties) = vec![in alloc; party(a), party(b), party(c)] else {
-        return None;
-    };
-    let Ok(claims) = vec![in alloc;
-        claim(key(b, invoice), 0, 1, 1_000),
-        claim(key(c, invoice), 1, 2, 700),
-        claim(key(a, invoice), 2, 0, 1_200),
-    ] else {
-        return None;
-    };
-    Some(Cut::new(1, Kind::Plain, parties, claims))
-}
-
-// 7.00 of each claim, with prices that prove it.
-fn circle_outcome(alloc: Global) -> Option<Outcome>
-    ensures { IfSome result (λ outcome. outcome ≡ record { discharges = 700 ∷ 700 ∷ 700 ∷ []; prices = pos 1 ∷ pos 2 ∷ pos 0 ∷ [] }) }
-{
-    let Ok(discharges) = vec![in alloc; 700, 700, 700] else {
-        return None;
-    };
-    let Ok(prices) = vec![in alloc; 1, 2, 0] else {
-        return None;
-    };
-    Some(Outcome::new(discharges, prices))
-}
-
-// The book in which A owes B 10.00, B owes C 7.00 and C owes A 12.00, after caller 1 opened round 1 and, where it is
-// told to, published 7.00 of each claim.
-fn play_circle(alloc: Global, publishes: bool) -> Option<Book> {
-    let a = Name::of(b"A")?;
-    let b = Name::of(b"B")?;
-    let c = Name::of(b"C")?;
-    let invoice = Name::of(b"I-1")?;
-    let due = Day::of_number(20_119)?;
-    let horizon = Day::of_number(20_453)?;
+// The book in which A owes B 10.00, B owes C 7.00 and C owes A 12.00.
+fn circle_book(alloc: Global, circle: &Circle) -> Option<Book> {
+    let Circle { a, b, c, due, .. } = *circle;
     let mut book = Book::new(alloc);
     ask(&mut book, 1, Act::Firm { firm: a })?;
     ask(&mut book, 1, Act::Firm { firm: b })?;
     ask(&mut book, 1, Act::Firm { firm: c })?;
-    ask(&mut book, 1, file(key(b, invoice), a, 1_000, due))?;
-    ask(&mut book, 1, file(key(c, invoice), b, 700, due))?;
-    ask(&mut book, 1, file(key(a, invoice), c, 1_200, due))?;
-    ask(&mut book, 1, confirm(key(b, invoice), a))?;
-    ask(&mut book, 1, confirm(key(c, invoice), b))?;
-    ask(&mut book, 1, confirm(key(a, invoice), c))?;
-    let cut = circle_cut(alloc, a, b, c, invoice)?;
-    let close = Act::Close {
-        kind: Kind::Plain,
-        horizon,
-    };
-    if !close.valid() || book.history().len() >= 1_000_000 {
+    ask(&mut book, 1, file(circle.owed_by_a, a, 1_000, due))?;
+    ask(&mut book, 1, file(circle.owed_by_b, b, 700, due))?;
+    ask(&mut book, 1, file(circle.owed_by_c, c, 1_200, due))?;
+    ask(&mut book, 1, confirm(circle.owed_by_a, a))?;
+    ask(&mut book, 1, confirm(circle.owed_by_b, b))?;
+    ask(&mut book, 1, confirm(circle.owed_by_c, c))?;
+    Some(book)
+}
+
+// Opens a round of a caller, and gives its number. None where no round can be opened, or the memory is missing.
+fn open(alloc: Global, book: &mut Book, caller: u32, kind: Kind, horizon: Day) -> Option<u32> {
+    let act = Act::Close { kind, horizon };
+    if !act.valid() || book.history().len() >= 1_000_000 {
         return None;
     }
-    let Ok(()) = book.reserve(&close) else {
+    let Ok(()) = book.reserve(&act) else {
         return None;
     };
-    let Reply::Opened { round } = book.answer(1, &close) else {
+    let Reply::Opened { round } = book.answer(caller, &act) else {
+        return None;
+    };
+    let Ok(cut) = book.next_cut(alloc, kind, horizon) else {
         return None;
     };
     let reply = Reply::Opened { round };
-    book.apply_close(
-        Entry {
-            caller: 1,
-            act: close,
-            reply,
-        },
-        cut,
-    );
-    if publishes {
-        let outcome = circle_outcome(alloc)?;
-        let act = Act::Publish { round: 1, outcome };
-        if !act.valid() {
-            return None;
-        }
-        let reply = Reply::Published { total: 2_100 };
-        let _cut = book.apply_publish(Entry {
-            caller: 1,
-            act,
-            reply,
-        })?;
-    }
-    Some(book)
+    book.apply_close(Entry { caller, act, reply }, cut);
+    Some(round)
+}
+
+// The book of the circle, in which caller 1 opened round 1 with the day on which the claims are due as its horizon.
+fn open_circle(alloc: Global, circle: &Circle, kind: Kind) -> Option<Book> {
+    let mut book = circle_book(alloc, circle)?;
+    let number = open(alloc, &mut book, 1, kind, circle.due)?;
+    if number == 1 { Some(book) } else { None }
 }
 
 fn frozen(book: &mut Book, act: Act) -> bool {
     ask(book, 2, act) == Some(Reply::Refused(Why::Frozen { round: 1 }))
 }
 
+fn done(book: &mut Book, act: Act) -> bool {
+    ask(book, 2, act) == Some(Reply::Done)
+}
+
 #[test]
 fn others_while_a_round_is_open(rt: HostRuntime) {
-    let Circle {
-        a,
-        b,
-        owed_by_a: key,
-        due,
-        horizon,
-        ..
-    } = make_circle().expect(&rt, "names and days");
-    let mut book = play_circle(rt.alloc(), false).expect(&rt, "memory");
+    let circle = make_circle().expect(&rt, "names and a day");
+    let key = circle.owed_by_a;
+    let debtor = circle.a;
+    let mut book = open_circle(rt.alloc(), &circle, Kind::Plain).expect(&rt, "memory");
     assert!(rt; book.open_round() == Some(1) && book.owner() == Some(1));
-    let cut = book
-        .open_cut(rt.alloc())
-        .expect(&rt, "memory")
-        .expect(&rt, "open");
-    assert!(rt; cut.round() == 1 && cut.claims().len() == 3);
-    assert!(rt; frozen(&mut book, Act::Dispute { key, debtor: a }));
+    assert!(rt; frozen(&mut book, Act::Dispute { key, debtor }));
     assert!(rt; frozen(&mut book, Act::Receive { key, amount: 1 }));
     assert!(rt; frozen(&mut book, Act::Withdraw { key }));
-    let later = Name::of(b"I-4").expect(&rt, "name");
-    let other = Key {
-        creditor: b,
-        invoice: later,
-    };
-    assert!(rt; ask(&mut book, 2, file(other, a, 500, due)) == Some(Reply::Done));
-    let receive = Act::Receive {
-        key: other,
-        amount: 200,
-    };
-    assert!(rt; ask(&mut book, 2, receive) == Some(Reply::Done));
-    let close = Act::Close {
-        kind: Kind::Plain,
-        horizon,
-    };
-    let again = ask(&mut book, 1, close.clone().expect(&rt, "memory"));
-    assert!(rt; again == Some(Reply::Continued { round: 1 }));
-    let open = Reply::Refused(Why::RoundOpen { round: 1 });
-    assert!(rt; ask(&mut book, 2, close) == Some(open));
     let not_owner = Reply::Refused(Why::NotOwner { round: 1 });
     assert!(rt; ask(&mut book, 2, Act::Abandon) == Some(not_owner));
     assert!(rt; ask(&mut book, 0, Act::Abandon) == Some(Reply::Abandoned { round: 1 }));
     assert!(rt; book.open_round().is_none() && book.owner().is_none());
-    assert!(rt; ask(&mut book, 2, Act::Dispute { key, debtor: a }) == Some(Reply::Done));
-}
-
-fn left(book: &Book, key: &Key) -> Option<u64> {
-    let claim = book.claim(key)?;
-    Some(claim.left)
+    assert!(rt; done(&mut book, Act::Dispute { key, debtor }));
+    let no_round = Reply::Refused(Why::NoRound);
+    assert!(rt; ask(&mut book, 1, Act::Abandon) == Some(no_round));
 }
 
 #[test]
-fn a_publication_settles(rt: HostRuntime) {
-    let firms = make_circle().expect(&rt, "names and days");
-    let mut book = play_circle(rt.alloc(), true).expect(&rt, "memory");
-    assert!(rt; book.open_round().is_none() && book.history().len() == 11);
-    assert!(rt; left(&book, &firms.owed_by_a) == Some(300));
-    assert!(rt; left(&book, &firms.owed_by_b) == Some(0));
-    assert!(rt; left(&book, &firms.owed_by_c) == Some(500));
-    let position = book.position(firms.a).expect(&rt, "registered");
-    assert!(rt; position.balance == 0 && position.receivable == 500 && position.payable == 300);
-    let no_round = Reply::Refused(Why::NoRound);
-    assert!(rt; ask(&mut book, 1, Act::Abandon) == Some(no_round));
+fn claims_outside_the_cut_go_on(rt: HostRuntime) {
+    let circle = make_circle().expect(&rt, "names and a day");
+    let mut book = open_circle(rt.alloc(), &circle, Kind::Plain).expect(&rt, "memory");
+    let invoice = Name::of(b"I-4").expect(&rt, "a name");
+    let key = key(circle.b, invoice);
+    let debtor = circle.a;
+    assert!(rt; done(&mut book, file(key, debtor, 500, circle.due)));
+    assert!(rt; done(&mut book, confirm(key, debtor)));
+    assert!(rt; done(&mut book, Act::Receive { key, amount: 200 }));
+    assert!(rt; done(&mut book, Act::Dispute { key, debtor }));
+    let claim = book.claim(&key).expect(&rt, "filed");
+    assert!(rt; status_and_left(&claim) == (Status::Disputed, 300));
+}
+
+#[test]
+fn funds_are_held_in_a_funded_round_alone(rt: HostRuntime) {
+    let circle = make_circle().expect(&rt, "names and a day");
+    let fund = |firm| Act::Fund { firm, amount: 1 };
+    let mut plain = open_circle(rt.alloc(), &circle, Kind::Plain).expect(&rt, "memory");
+    assert!(rt; done(&mut plain, fund(circle.a)));
+    let mut funded = open_circle(rt.alloc(), &circle, Kind::Funded).expect(&rt, "memory");
+    assert!(rt; frozen(&mut funded, fund(circle.a)));
+    let other = Name::of(b"D").expect(&rt, "a name");
+    assert!(rt; done(&mut funded, Act::Firm { firm: other }));
+    assert!(rt; done(&mut funded, fund(other)));
+}
+
+#[test]
+fn a_close_continues_its_own_round_alone(rt: HostRuntime) {
+    let circle = make_circle().expect(&rt, "names and a day");
+    let mut book = open_circle(rt.alloc(), &circle, Kind::Plain).expect(&rt, "memory");
+    let horizon = circle.due;
+    let close = |kind| Act::Close { kind, horizon };
+    let open = Some(Reply::Refused(Why::RoundOpen { round: 1 }));
+    assert!(rt; ask(&mut book, 1, close(Kind::Funded)) == open);
+    assert!(rt; ask(&mut book, 2, close(Kind::Plain)) == open);
+    let continued = Some(Reply::Continued { round: 1 });
+    assert!(rt; ask(&mut book, 1, close(Kind::Plain)) == continued);
+    let cut = book.kept_cut().expect(&rt, "open");
+    let amounts = [1_000, 700, 1_200];
+    assert!(rt; cut.round() == 1 && cut.claims().len() == 3);
+    for (claim, amount) in cut.claims().iter().zip(amounts) {
+        assert!(rt; claim.amount == amount);
+    }
 }

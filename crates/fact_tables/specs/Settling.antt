@@ -1,4 +1,4 @@
--- How a publication changes the rows of a book.
+-- How a publication changes claims and accounts.
 use Rattle.std.specs.Prelude.{◌-◌, List, map, pos, ◌+ℤ◌, ◌-ℤ◌}
 use Rattle.claim_history.specs.declared.fact.ClaimFact.{ClaimFact}
 use Rattle.claim_history.specs.declared.fact.AccountFact.{AccountFact}

@@ -1,20 +1,35 @@
--- How an accepted act changes the rows of a book.
+-- The tables of claims and accounts, and how an entry changes them.
 use Rattle.std.specs.Prelude.{ℕ, ◌-◌, ◌≤◌, ◌^◌, count_by, All, ◌∷◌, ◌++◌, [], List, map, pos, ◌+ℤ◌, ◌-ℤ◌, if◌then◌else◌}
 use Rattle.setoff_model.specs.declared.name.Key.{Key}
+use Rattle.setoff_model.specs.Limits.{first_ceiling}
 use Rattle.setoff_model.specs.Same.{same_name, same_key}
 use Rattle.claim_history.specs.declared.act.Act.{Act}
 use Rattle.claim_history.specs.declared.act.Act.TheVariants as act
+use Rattle.claim_history.specs.declared.entry.Entry.{Entry}
 use Rattle.claim_history.specs.declared.fact.Status.{Status}
 use Rattle.claim_history.specs.declared.fact.Status.TheVariants as status
 use Rattle.claim_history.specs.declared.fact.ClaimFact.{ClaimFact}
 use Rattle.claim_history.specs.declared.fact.AccountFact.{AccountFact}
+use Rattle.claim_history.specs.History.{is_accepted}
 use Rattle.claim_history.specs.Laws.{IsWithin}
+
+-- ---- tables
+
+-- the claims in order of filing, and how many may be filed without taking memory
+pub record ClaimsView : Type 0 where
+  pub facts : List ClaimFact
+  pub room : ℕ
+
+-- the accounts in order of registration, and how many firms may be registered without taking memory
+pub record AccountsView : Type 0 where
+  pub facts : List AccountFact
+  pub room : ℕ
 
 -- ---- accounts
 
 -- the account of a firm that was just registered
 abbrev pub new_account : List ℕ → AccountFact
-new_account firm = record { firm = firm; balance = pos 0; credit = 0; ceiling = 10 ^ 15; offer = 0 }
+new_account firm = record { firm = firm; balance = pos 0; credit = 0; ceiling = first_ceiling; offer = 0 }
 
 -- the firm's row with the amount put in
 abbrev pub funded : List ℕ → ℕ → AccountFact → AccountFact
@@ -41,6 +56,10 @@ accounts_after (act.Limit firm credit ceiling) accounts = map (limited firm cred
 accounts_after (act.Offer firm amount) accounts = map (offered firm amount) accounts
 accounts_after _ accounts = accounts
 
+-- the accounts after an entry; a refusal changes nothing
+abbrev pub accounts_with : Entry → List AccountFact → List AccountFact
+accounts_with e accounts = if is_accepted e then accounts_after e.act accounts else accounts
+
 -- ---- claims
 
 -- a claim that was just filed
@@ -64,7 +83,11 @@ claims_after (act.Withdraw key) claims = map (with_status key status.Withdrawn) 
 claims_after (act.Receive key amount) claims = map (with_receipt key amount) claims
 claims_after _ claims = claims
 
--- ---- what the changes rest on
+-- the claims after an entry; a refusal changes nothing
+abbrev pub claims_with : Entry → List ClaimFact → List ClaimFact
+claims_with e claims = if is_accepted e then claims_after e.act claims else claims
+
+-- ---- what the tables keep
 
 -- no firm has two rows
 abbrev pub FirmsOnce : List AccountFact → Type 0
@@ -77,3 +100,7 @@ KeysOnce claims = (key : Key) → count_by (λ c. same_key key c.key) claims ≤
 -- from -10^15 to 10^15 cents
 abbrev pub AreSmall : List AccountFact → Type 0
 AreSmall accounts = All (λ a. IsWithin (10 ^ 15) (10 ^ 15) a.balance) accounts
+
+pub record AreAccounts (accounts : List AccountFact) : Type 0 where
+  pub once : FirmsOnce accounts
+  pub small : AreSmall accounts

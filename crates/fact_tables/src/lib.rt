@@ -1,10 +1,16 @@
-//! Tables of the facts of claims and accounts: how rows are found by name, and how acts and publications change them.
+//! Tables of the facts of claims and accounts: how a fact is found by its name, and how entries and publications change them.
+//!
+//! A *fact* is what a history says of one claim or one account. A table holds each in order of its filing or registration, and no
+//! key or firm twice. Its *room* is how many may be added without taking memory.
+//!
+//! Rules: an accepted entry changes the one fact that it names, or adds one. A publication *discharges*: it takes off each claim of
+//! its cut what was discharged of it, and changes the balance of each party by what was discharged towards and by it.
 #![tactic(auto)]
 
-mod account_rows;
-mod claim_rows;
+mod account_table;
+mod claim_table;
 mod settling;
 
-pub use account_rows::{change_accounts, find_account};
-pub use claim_rows::{change_claims, find_claim, owed_by, owed_to};
-pub use settling::{place_of_claim, place_of_firm, settle_accounts, settle_claims};
+pub use account_table::AccountTable;
+pub use claim_table::ClaimTable;
+pub use settling::{place_of_claim, place_of_firm};

@@ -31,26 +31,27 @@ pub fn place_of_firm(cut: &Cut, firm: &Name) -> Option<usize>
 /// Takes off each claim what the round of a cut discharged of it. There is one discharge for each claim of the cut.
 ///
 /// It looks each claim up in the cut, so its work is the product of both numbers.
-pub fn settle_claims(claims: &mut Vec<ClaimFact>, cut: &Cut, discharges: &[u64])
+pub fn discharge_claims(claims: &mut Vec<ClaimFact>, cut: &Cut, discharges: &[u64])
     requires { length discharges.now ≡ length cut.now.claims }
     ensures items { claims.new.items ≡ map (settled_claim (record { cut = cut.now; discharges = discharges.now })) claims.old.items }
     ensures len { vec_len claims.new ≡ vec_len claims.old }
     ensures capacity { vec_capacity claims.new ≡ vec_capacity claims.old }
 {
-    settle_all_claims(claims, cut, discharges);
+    discharge_each_claim(claims, cut, discharges);
 }
 
-fn settle_all_claims(claims: &mut [ClaimFact], cut: &Cut, discharges: &[u64])
+fn discharge_each_claim(claims: &mut [ClaimFact], cut: &Cut, discharges: &[u64])
     requires { length discharges.now ≡ length cut.now.claims }
     ensures { claims.new ≡ map (settled_claim (record { cut = cut.now; discharges = discharges.now })) claims.old }
 {
     for place in 0..claims.len() {
         let claim = claims[place];
-        claims[place] = settle_claim(claim, cut, discharges);
+        claims[place] = discharge_claim(claim, cut, discharges);
     }
 }
 
-fn settle_claim(claim: ClaimFact, cut: &Cut, discharges: &[u64]) -> ClaimFact
+// The claim with what the round of a cut discharged of it taken off.
+fn discharge_claim(claim: ClaimFact, cut: &Cut, discharges: &[u64]) -> ClaimFact
     requires { length discharges.now ≡ length cut.now.claims }
     ensures { result ≡ settled_claim (record { cut = cut.now; discharges = discharges.now }) claim }
 {
@@ -76,7 +77,7 @@ fn discharge_in(cut: &Cut, discharges: &[u64], key: &Key) -> u64
 ///
 /// There is one discharge for each claim of the cut, and their total is below 10^18 cents. The flows of each party are summed
 /// over all claims of the cut, so its work is the product of both numbers.
-pub fn settle_accounts(accounts: &mut Vec<AccountFact>, cut: &Cut, discharges: &[u64])
+pub fn discharge_accounts(accounts: &mut Vec<AccountFact>, cut: &Cut, discharges: &[u64])
     requires one_each { length discharges.now ≡ length cut.now.claims }
     requires total { total_of discharges.now < 10 ^ 18 }
     requires small { AreSmall accounts.old.items }
@@ -84,10 +85,10 @@ pub fn settle_accounts(accounts: &mut Vec<AccountFact>, cut: &Cut, discharges: &
     ensures len { vec_len accounts.new ≡ vec_len accounts.old }
     ensures capacity { vec_capacity accounts.new ≡ vec_capacity accounts.old }
 {
-    settle_all_accounts(accounts, cut, discharges);
+    discharge_each_account(accounts, cut, discharges);
 }
 
-fn settle_all_accounts(accounts: &mut [AccountFact], cut: &Cut, discharges: &[u64])
+fn discharge_each_account(accounts: &mut [AccountFact], cut: &Cut, discharges: &[u64])
     requires one_each { length discharges.now ≡ length cut.now.claims }
     requires total { total_of discharges.now < 10 ^ 18 }
     requires small { AreSmall accounts.old }
@@ -95,11 +96,12 @@ fn settle_all_accounts(accounts: &mut [AccountFact], cut: &Cut, discharges: &[u6
 {
     for place in 0..accounts.len() {
         let account = accounts[place];
-        accounts[place] = settle_account(account, cut, discharges);
+        accounts[place] = discharge_account(account, cut, discharges);
     }
 }
 
-fn settle_account(account: AccountFact, cut: &Cut, discharges: &[u64]) -> AccountFact
+// The account with what the round of a cut discharged towards its firm put in, and what it discharged by it taken out.
+fn discharge_account(account: AccountFact, cut: &Cut, discharges: &[u64]) -> AccountFact
     requires one_each { length discharges.now ≡ length cut.now.claims }
     requires total { total_of discharges.now < 10 ^ 18 }
     requires small { IsWithin (10 ^ 15) (10 ^ 15) account.balance }

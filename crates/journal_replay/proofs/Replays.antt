@@ -4,29 +4,24 @@ use Rattle.std.proofs.Common.{◌≡◌, ℕ, ◌+◌, ◌<◌, Bool, true, fals
 use Rattle.std.proofs.lemmas.List.{map-append, reverse-append, reverse-reverse, take_more}
 use Rattle.std.proofs.lemmas.List.Elements.{All-push}
 use Rattle.setoff_model.specs.declared.kind.Kind.{Kind}
-use Rattle.setoff_model.specs.CutView.{CutView, OutcomeView}
+use Rattle.setoff_model.specs.CutView.{OutcomeView}
 use Rattle.claim_history.specs.declared.act.Act.{Act}
 use Rattle.claim_history.specs.declared.act.Act.TheVariants as act
 use Rattle.claim_history.specs.declared.entry.Reply.{Reply}
-use Rattle.claim_history.specs.declared.entry.Reply.TheVariants as reply
 use Rattle.claim_history.specs.declared.entry.Entry.{Entry}
-use Rattle.claim_history.specs.Acts.{is_publication}
-use Rattle.claim_history.specs.Facts.{claim_facts, account_facts}
-use Rattle.claim_history.specs.Cut.{cut_of}
+use Rattle.claim_history.specs.Acts.{is_publication, is_close}
 use Rattle.claim_history.specs.States.{state, state_of}
-use Rattle.claim_history.specs.History.{AreValid, Call, IsLegal, answer, answer_of, ask, is_accepted, is_no_refusal, is_opening, replay_after, replied}
+use Rattle.claim_history.specs.History.{Call, IsLegal, answer, answer_of, ask, is_accepted, is_no_refusal, is_opening, replay_after, replied}
 use Rattle.claim_history.specs.Needs.{IsWithinLimits, is_full, with_due}
 use Rattle.claim_history.proofs.Pasts.{entry_of}
 use Rattle.claim_history.proofs.Replies.{opens}
 use Rattle.claim_history.proofs.Room.{use_law}
-use Rattle.round_cut.specs.CutOfFacts.{cut_of_facts}
-use Rattle.round_cut.specs.CutLaw.{CutLaw}
 use Rattle.round_journal.specs.declared.record.Record.{Record}
 use Rattle.limited_book.proofs.Limits.{publication_of}
 use Rattle.limited_book.proofs.Publications.{false_so}
 use Rattle.journal_replay.specs.declared.replay_stop.ReplayStop.{ReplayStop}
 use Rattle.journal_replay.specs.declared.replay_stop.ReplayStop.TheVariants.{Memory, BadAct, Overfull}
-use Rattle.journal_replay.specs.Replays.{AreSound, IsReplayed, StopsFirst, Tells, call_of, history_of, is_close, is_faulty}
+use Rattle.journal_replay.specs.Replays.{AreSound, IsReplayed, StopsFirst, Tells, call_of, history_of, is_faulty}
 
 -- ---- Closes
 

@@ -1,9 +1,7 @@
 -- The replay of a journal's records: the history of their calls, and the first record that is refused or full.
-use Rattle.std.specs.Prelude.{◌≡◌, ℕ, Bool, true, false, not, ◌||◌, List, All, ◌∷◌, ◌++◌, map, if◌then◌else◌}
+use Rattle.std.specs.Prelude.{◌≡◌, ℕ, Bool, true, false, not, ◌||◌, List, All, ◌∷◌, ◌++◌, map}
 use Rattle.claim_history.specs.declared.act.Act.{Act}
-use Rattle.claim_history.specs.declared.act.Act.TheVariants as act
 use Rattle.claim_history.specs.declared.entry.Entry.{Entry}
-use Rattle.claim_history.specs.declared.entry.Reply.{Reply}
 use Rattle.claim_history.specs.History.{Call, answer_of, is_accepted, is_no_refusal, replay_of}
 use Rattle.claim_history.specs.Needs.{Fits, IsWithinLimits, is_full, with_due}
 use Rattle.round_journal.specs.declared.record.Record.{Record}
@@ -43,11 +41,6 @@ pub record IsReplayed (before after : List Entry) (caller : ℕ) (a : Act) : Typ
   pub history : after ≡ with_due before caller a
   pub accepted : is_no_refusal (answer_of before caller a) ≡ true
   pub fits : Fits before caller a
-
--- the act is a Close
-abbrev pub is_close : Act → Bool
-is_close (act.Close kind horizon) = true
-is_close _ = false
 
 -- what is told of an act after a history: that it is refused, else that it is full
 abbrev pub Tells : List Entry → ℕ → ℕ → Act → ReplayStop → Type 0

@@ -3,19 +3,18 @@ ghost use Rattle.std.specs.Prelude.{ℕ, ◌≡◌, ◌≤◌, ◌++◌, ◌∷�
 ghost use Rattle.setoff_model.specs.declared.kind.Kind.{Kind};
 ghost use Rattle.claim_history.specs.declared.act.Act.TheVariants as acts;
 ghost use Rattle.claim_history.specs.declared.entry.Reply.TheVariants as replies;
-ghost use Rattle.claim_history.specs.Acts.{is_valid, is_publication, is_day};
+ghost use Rattle.claim_history.specs.Acts.{is_valid, is_publication, is_close, is_day};
 ghost use Rattle.claim_history.specs.States.{state_of};
 ghost use Rattle.claim_history.specs.History.{answer_of, is_opening, is_no_refusal};
 ghost use Rattle.claim_history.specs.Needs.{with_due};
 ghost use Rattle.claim_book.specs.Book.{room_for};
 ghost use Rattle.act_bodies.specs.Bodies.{is_keepable};
 ghost use Rattle.round_journal.specs.Records.{AreKeepable};
-ghost use Rattle.journal_replay.specs.Replays.{history_of, AreSound, StopsFirst, Tells, IsReplayed, is_close};
+ghost use Rattle.journal_replay.specs.Replays.{history_of, AreSound, StopsFirst, Tells, IsReplayed};
 
 use crate::replay_stop::ReplayStop;
 use claim_history::{Act, Day, Entry, Reply};
 use limited_book::{LimitedBook, publication_reply};
-use round_cut::{build_cut, cut_of_a_history_is_of_its_facts};
 use round_journal::Record;
 use setoff_model::{Kind, Outcome};
 use std::alloc::{AllocError, Global};
@@ -109,9 +108,9 @@ fn replay_close(
     let act = Act::Close { kind, horizon };
     book.reserve(&act)?;
     match book.answer(caller, &act) {
-        Reply::Opened { round } => replay_opening(
-            alloc, book, offset, caller, kind, horizon, round,
-        ),
+        Reply::Opened { round } => {
+            replay_opening(alloc, book, offset, caller, kind, horizon, round)
+        }
         reply => put_reply(book, offset, Entry { caller, act, reply }),
     }
 }
@@ -132,16 +131,7 @@ fn replay_opening(
     ensures done { OnOk result (IsReplayed book.old.history book.new.history caller (acts.Close kind horizon)) }
     ensures stopped { IfErr result (Tells book.old.history offset caller (acts.Close kind horizon)) }
 {
-    cut_of_a_history_is_of_its_facts();
-    let known = book.book();
-    let cut = build_cut(
-        alloc,
-        known.claims(),
-        known.accounts(),
-        kind,
-        horizon,
-        round,
-    )?;
+    let cut = book.next_cut(alloc, kind, horizon)?;
     if book.fits_opening(caller, kind, horizon, &cut).is_err() {
         return Err(ReplayStop::Overfull { offset });
     }

@@ -3,6 +3,7 @@ ghost use Rattle.act_bodies.specs.Bodies.{is_keepable};
 ghost use Rattle.round_journal.specs.Records.{AreKeepable};
 
 use crate::{ReplayStop, replay};
+use claim_book::Book;
 use claim_history::{Act, Day, Reply, Why};
 use limited_book::LimitedBook;
 use round_journal::Record;
@@ -105,6 +106,30 @@ fn the_triangle_is_replayed(rt: HostRuntime) -> Result<(), Fail> {
     assert_eq!(rt; book.bytes(), 262);
     assert_eq!(rt; book.book().history().len(), 11);
     assert_eq!(rt; book.book().open_round(), None);
+    Ok(())
+}
+
+// What is left of a creditor's invoice I-1.
+fn left(book: &Book, creditor: &[u8]) -> Option<u64> {
+    let creditor = Name::of(creditor)?;
+    let invoice = Name::of(b"I-1")?;
+    let claim = book.claim(&Key { creditor, invoice })?;
+    Some(claim.left)
+}
+
+#[test]
+fn a_publication_settles(rt: HostRuntime) -> Result<(), Fail> {
+    let records = triangle(rt.alloc())?;
+    let replayed = replayed(rt.alloc(), &records).ok_or("keepable")??;
+    let book = replayed.book();
+    assert_eq!(rt; left(book, b"B"), Some(300));
+    assert_eq!(rt; left(book, b"C"), Some(0));
+    assert_eq!(rt; left(book, b"A"), Some(500));
+    let firm = Name::of(b"A").ok_or("a name")?;
+    let position = book.position(firm).ok_or("registered")?;
+    assert_eq!(rt; position.balance, 0);
+    assert_eq!(rt; position.receivable, 500);
+    assert_eq!(rt; position.payable, 300);
     Ok(())
 }
 

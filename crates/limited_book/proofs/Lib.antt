@@ -1,4 +1,3 @@
 pub mod Limits
 pub mod Needs
-pub mod Openings
 pub mod Publications

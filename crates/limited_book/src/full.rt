@@ -3,12 +3,7 @@ ghost use Rattle.std.specs.Prelude.{◌≡◌, false, IfOk, IfErr};
 ghost use Rattle.limited_book.specs.Limited.{is_over_one, IsOver};
 
 use crate::room::Room;
-
-/// The entries of a history.
-const MOST_ENTRIES: u64 = 1_048_576;
-
-/// The bytes of a journal.
-const MOST_BYTES: u64 = 1_073_741_824;
+use setoff_model::limits::{MOST_ENTRIES, MOST_JOURNAL_BYTES};
 
 /// An act needs more than there is room for.
 #[derive(Clone, Copy, Debug, PartialEq, Eq)]
@@ -33,11 +28,11 @@ pub(crate) fn within_limits(entries: u64, bytes: u64) -> Result<(), Full>
             limit: MOST_ENTRIES,
         });
     }
-    if bytes > MOST_BYTES {
+    if bytes > MOST_JOURNAL_BYTES {
         return Err(Full {
             what: Room::Bytes,
             needed: bytes,
-            limit: MOST_BYTES,
+            limit: MOST_JOURNAL_BYTES,
         });
     }
     Ok(())

@@ -1,13 +1,15 @@
 //! A book within the limits.
 ghost use Rattle.std.specs.Prelude.{ℕ, ◌≡◌, ◌<◌, ◌+◌, ◌≤◌, ◌++◌, ◌∷◌, [], IfOk, IfErr, OnOk, OnErr, true, false};
 ghost use Rattle.setoff_model.specs.declared.kind.Kind.{Kind};
+ghost use Rattle.setoff_model.specs.CutView.{WellFormed};
+ghost use Rattle.setoff_model.specs.Limits.{most_entries, most_journal_bytes};
 ghost use Rattle.claim_history.specs.declared.act.Act.TheVariants as acts;
 ghost use Rattle.claim_history.specs.Cut.{cut_of};
 ghost use Rattle.claim_history.specs.States.{state_of};
 ghost use Rattle.claim_history.specs.History.{answer_of, IsLegal, AreValid, MayFollow, is_opening, is_no_refusal};
 ghost use Rattle.claim_history.specs.Acts.{is_valid, is_publication};
 ghost use Rattle.claim_history.specs.Needs.{used_entries_of, used_bytes_of, endings_entries, endings_bytes, Fits, is_full, IsWithinLimits};
-ghost use Rattle.claim_book.specs.Book.{ledger_of, room_for, GivesCut};
+ghost use Rattle.claim_book.specs.Book.{ledger_of, room_for, room_needed, KeepsRoom, GivesCut};
 ghost use Rattle.limited_book.specs.Limited.{IsFull, round_after, ends_round as ends};
 
 use crate::full::{Full, within_limits};
@@ -68,11 +70,11 @@ impl LimitedBook {
         self.book
     }
 
-    /// The entries that the history uses: those whose replies tell of no device, at most 1,048,576. No more rounds were
+    /// The entries that the history uses: those whose replies tell of no device, at most 2^20. No more rounds were
     /// opened. It takes no memory.
     pub fn entries(&self) -> u64
         ensures used { result ≡ used_entries_of self.now.history }
-        ensures most { result ≤ 1048576 }
+        ensures most { result ≤ most_entries }
         ensures openings { (state_of self.now.history).openings ≤ result }
     {
         self.used().entries
@@ -81,7 +83,7 @@ impl LimitedBook {
     /// The bytes that the history uses: those of a journal of its accepted acts, at most 2^30. It takes no memory.
     pub fn bytes(&self) -> u64
         ensures used { result ≡ used_bytes_of self.now.history }
-        ensures most { result ≤ 1073741824 }
+        ensures most { result ≤ most_journal_bytes }
     {
         self.used().bytes
     }
@@ -90,8 +92,8 @@ impl LimitedBook {
     fn used(&self) -> Need
         ensures entries { result.entries ≡ used_entries_of self.now.history }
         ensures bytes { result.bytes ≡ used_bytes_of self.now.history }
-        ensures few_entries { result.entries ≤ 1048576 }
-        ensures few_bytes { result.bytes ≤ 1073741824 }
+        ensures few_entries { result.entries ≤ most_entries }
+        ensures few_bytes { result.bytes ≤ most_journal_bytes }
         ensures openings { (state_of self.now.history).openings ≤ result.entries }
         ensures legal { IsLegal self.now.history }
         ensures valid { AreValid self.now.history }
@@ -180,6 +182,16 @@ impl LimitedBook {
         }
     }
 
+    /// The cut of the round that a Close of this kind and horizon opens now, as `Book::next_cut`. The only error is that memory is
+    /// missing.
+    pub fn next_cut(&self, alloc: Global, kind: Kind, horizon: Day) -> Result<Cut, AllocError>
+        ensures cut { IfOk result (λ cut. cut ≡ cut_of ((state_of self.now.history).openings + 1) (ledger_of self.now.history) kind horizon) }
+        ensures formed { IfOk result WellFormed }
+    {
+        let _used = self.used();
+        self.book.next_cut(alloc, kind, horizon)
+    }
+
     /// Whether the Close that opens a round is within the limits, where this cut is that of the history so far. The rest is as
     /// for `fits`. It takes no memory.
     pub fn fits_opening(&self, caller: u32, kind: Kind, horizon: Day, cut: &Cut) -> Result<(), Full>
@@ -209,6 +221,7 @@ impl LimitedBook {
         requires fits { Fits self.old.history entry.caller entry.act }
         ensures history { self.new.history ≡ self.old.history ++ entry ∷ [] }
         ensures room { self.old.room ≤ self.new.room + 1 }
+        ensures kept { KeepsRoom self.old.history entry self.new.room }
     {
         let used = self.used();
         let own = use_of(&entry);
@@ -228,6 +241,7 @@ impl LimitedBook {
         requires fits { Fits self.old.history entry.caller entry.act }
         ensures history { self.new.history ≡ self.old.history ++ entry ∷ [] }
         ensures room { self.old.room ≤ self.new.room + 1 }
+        ensures kept { KeepsRoom self.old.history entry self.new.room }
     {
         let used = self.used();
         let own = use_of(&entry);
@@ -240,13 +254,14 @@ impl LimitedBook {
     /// accepted. An act that the history refuses is within the limits; the room for one that it accepts was kept. It takes no
     /// memory.
     pub fn apply_publish(&mut self, entry: Entry) -> Option<Cut>
-        requires room { 1 ≤ self.old.room }
+        requires room { room_needed (state_of self.old.history) entry.caller entry.act ≤ self.old.room }
         requires valid { is_valid entry.act ≡ true }
         requires publishes { is_publication entry.act ≡ true }
         requires next { MayFollow self.old.history entry }
         requires fits { is_no_refusal (answer_of self.old.history entry.caller entry.act) ≡ false → Fits self.old.history entry.caller entry.act }
         ensures history { self.new.history ≡ self.old.history ++ entry ∷ [] }
         ensures room { self.old.room ≤ self.new.room + 1 }
+        ensures kept { KeepsRoom self.old.history entry self.new.room }
         ensures cut { GivesCut (state_of self.old.history).open_round entry result }
     {
         let used = self.used();

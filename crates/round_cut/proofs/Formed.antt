@@ -1,7 +1,7 @@
 -- The cut of facts is well formed.
-use Rattle.std.specs.Prelude.{map, filter, flat_map, find, nat_le, Option, Some, None, IfSome, pos, negsuc, ℤ, ◌≤ℤ◌, ◌+ℤ◌, ◌-ℤ◌}
+use Rattle.std.specs.Prelude.{map, filter, flat_map, find, nat_le, Option, Some, None, IfSome, pos, negsuc, ℤ, neg_ℤ, ◌≤ℤ◌}
 use Rattle.std.specs.List.{list_any, position_or_len}
-use Rattle.std.proofs.Common.{◌≡◌, ◌≢◌, ℕ, ◌^◌, ◌<◌, ◌≤◌, Bool, true, false, not, ◌&&◌, ◌||◌, List, [], ◌∷◌, length, get_or, slice_index_or, All, AllPairs, refl, sym, ◌∙◌, ap, true≢false, arith}
+use Rattle.std.proofs.Common.{◌≡◌, ◌≢◌, ℕ, ◌<◌, ◌≤◌, Bool, true, false, not, ◌&&◌, ◌||◌, List, [], ◌∷◌, length, get_or, slice_index_or, All, AllPairs, refl, sym, ◌∙◌, ap, true≢false, arith}
 use Rattle.std.proofs.lemmas.Bool.{leb-true, false≢true}
 use Rattle.std.proofs.lemmas.Int.{ints, clamps}
 use Rattle.std.proofs.lemmas.List.{get_or-map, length-map}
@@ -24,7 +24,8 @@ use Rattle.claim_history.specs.Facts.{is_confirmed}
 use Rattle.claim_history.specs.Cut.{distinct}
 use Rattle.claim_history.specs.Laws.{IsWithin}
 use Rattle.claim_history.proofs.Rows.{name_is, and_true}
-use Rattle.round_cut.specs.Windows.{KeepsLimits, Window, window_of}
+use Rattle.setoff_model.specs.Windows.{Window}
+use Rattle.round_cut.specs.Windows.{KeepsLimits, window_of}
 use Rattle.round_cut.specs.CutOfFacts.{takes_part, claims_due, firms_in, window_or_none, party_in, claim_among, cut_of_facts, has_account, IsClaimOf, AreFacts}
 use Rattle.round_cut.proofs.Places.{any_within}
 use Rattle.claim_history.proofs.Rows.{name_same}
@@ -40,18 +41,15 @@ above_zero_le (negsuc n) m h = omega arith
 abbrev IsSmall : Kind → Window → Type 0
 IsSmall kind w = (w.spend ≤ window_limit kind) × (w.room ≤ window_limit kind)
 
-reach_le : (b : ℤ) (credit ceiling : ℕ) → IsWithin credit ceiling b → credit ≤ 999999999999 → ceiling ≤ 10 ^ 15 → (b +ℤ pos credit) ≤ℤ pos 2000000000000000
-reach_le b credit ceiling within few most = omega (arith, ints, clamps, within.1, few, most)
-
-room_le : (b : ℤ) (credit ceiling : ℕ) → IsWithin credit ceiling b → credit ≤ 999999999999 → ceiling ≤ 10 ^ 15 → (pos ceiling -ℤ b) ≤ℤ pos 2000000000000000
-room_le b credit ceiling within few most = omega (arith, ints, clamps, within.0, few, most)
+down_le : (b : ℤ) (credit ceiling : ℕ) → IsWithin credit ceiling b → neg_ℤ b ≤ℤ pos credit
+down_le b credit ceiling within = omega (arith, ints, clamps, within.0)
 
 window_small : (kind : Kind) (a : AccountFact) → KeepsLimits a → IsSmall kind (window_of kind a)
 window_small Plain a keeps = (omega arith, omega arith)
-window_small Funded a keeps = (
-  omega (arith, above_zero_le (a.balance +ℤ pos a.credit) 2000000000000000 (reach_le a.balance a.credit a.ceiling keeps.balance keeps.credit keeps.ceiling)),
-  above_zero_le (pos a.ceiling -ℤ a.balance) 2000000000000000 (room_le a.balance a.credit a.ceiling keeps.balance keeps.credit keeps.ceiling),
-)
+window_small Funded a keeps =
+    let gained : above_zero a.balance ≤ a.ceiling = above_zero_le a.balance a.ceiling keeps.balance.1 in
+    let spent : above_zero (neg_ℤ a.balance) ≤ a.credit = above_zero_le (neg_ℤ a.balance) a.credit (down_le a.balance a.credit a.ceiling keeps.balance) in
+    (omega (arith, gained, keeps.credit, keeps.ceiling), omega (arith, spent, keeps.credit, keeps.ceiling))
 
 found_small : (kind : Kind) (found : Option AccountFact) → IfSome found KeepsLimits → IsSmall kind (window_or_none kind found)
 found_small kind None keeps = (omega arith, omega arith)
@@ -78,7 +76,7 @@ distinct_differ (x ∷ xs) =
     (All-weaker (λ y. not (same_name x y) ≡ true) (Differ x) (λ y e. differs x y e) (filter (λ y. not (same_name x y)) (distinct xs)) (filter_passes (λ y. not (same_name x y)) (distinct xs)))
     (AllPairs-filter Differ (λ y. not (same_name x y)) (distinct xs) (distinct_differ xs))
 
-distinct_all : (P : List ℕ → Type 0) (xs : List (List ℕ)) → All P xs → All P (distinct xs)
+pub distinct_all : (P : List ℕ → Type 0) (xs : List (List ℕ)) → All P xs → All P (distinct xs)
 distinct_all P [] all = All-nil P
 distinct_all P (x ∷ xs) all =
     All-cons P x (filter (λ y. not (same_name x y)) (distinct xs)) (All-head P x xs all)

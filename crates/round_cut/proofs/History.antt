@@ -1,17 +1,17 @@
 -- The facts of a legal history of valid acts, and its cut.
-use Rattle.std.specs.Prelude.{◌≢◌, map, filter, find, reverse, Option, Some, ℤ, pos, negsuc, ◌+ℤ◌, ◌-ℤ◌, ◌≤ℤ◌, min}
+use Rattle.std.specs.Prelude.{◌≢◌, map, filter, find, reverse, Option, Some, ℤ, pos, neg_ℤ, ◌+ℤ◌, ◌-ℤ◌}
 use Rattle.std.specs.Int.{int_min}
 use Rattle.std.specs.List.{list_any}
 use Rattle.std.specs.Option.{option_map}
-use Rattle.std.proofs.Common.{◌≡◌, ℕ, ◌+◌, ◌-◌, ◌≤◌, Bool, true, false, cond, ◌||◌, List, [], ◌∷◌, slice_index_or, All, refl, sym, ◌∙◌, ap, ap₂, subst, true≢false, arith}
+use Rattle.std.proofs.Common.{◌≡◌, ℕ, ◌+◌, ◌≤◌, Bool, true, false, cond, ◌||◌, List, [], ◌∷◌, slice_index_or, All, refl, sym, ◌∙◌, ap, ap₂, subst, true≢false, arith}
 use Rattle.std.proofs.lemmas.Bool.{or_right}
-use Rattle.std.proofs.lemmas.Int.{ints, clamps}
+use Rattle.std.proofs.lemmas.Int.{ints}
 use Rattle.std.proofs.lemmas.List.{length-map, length-reverse, reverse-append}
 use Rattle.std.proofs.lemmas.List.Folds.{flat_map-map, list_any-append}
 use Rattle.std.proofs.lemmas.List.Elements.{All-head, All-tail, All-map, All-filter}
+use Rattle.setoff_model.specs.Limits.{most_amount}
 use Rattle.setoff_model.specs.declared.name.Key.{Key}
 use Rattle.setoff_model.specs.declared.kind.Kind.{Kind}
-use Rattle.setoff_model.specs.declared.kind.Kind.TheVariants.{Plain, Funded}
 use Rattle.setoff_model.specs.declared.cut.Party.{Party}
 use Rattle.setoff_model.specs.declared.cut.CutClaim.{CutClaim}
 use Rattle.setoff_model.specs.CutView.{CutView, WellFormed}
@@ -21,14 +21,17 @@ use Rattle.claim_history.specs.declared.entry.Entry.{Entry}
 use Rattle.claim_history.specs.declared.fact.ClaimFact.{ClaimFact}
 use Rattle.claim_history.specs.declared.fact.AccountFact.{AccountFact}
 use Rattle.claim_history.specs.Acts.{is_valid}
-use Rattle.claim_history.specs.Facts.{Ledger, Filing, firms, filings, filing_of, amount_of, left_of, gained, spent, limits_of, offer_of, claim_fact, claim_facts, account_fact, account_facts}
+use Rattle.claim_history.specs.Facts.{Ledger, Filing, firms, filings, filing_of, amount_of, left_of, gained, spent, balance_of, limits_of, offer_of, claim_fact, claim_facts, account_fact, account_facts}
 use Rattle.claim_history.specs.Cut.{distinct, is_due, due_claims, firms_of, party_of, cut_claim, cut_of}
 use Rattle.claim_history.specs.States.{state_of}
 use Rattle.claim_history.specs.History.{IsLegal, AreValid}
 use Rattle.claim_history.proofs.Rows.{name_is}
 use Rattle.claim_history.proofs.Formulas.{formulas_law}
 use Rattle.claim_history.proofs.Histories.{limits_law}
-use Rattle.round_cut.specs.Windows.{KeepsLimits, Window, window_of, WindowsLaw}
+use Rattle.setoff_model.specs.Windows.{Window}
+use Rattle.setoff_model.proofs.Windowed.{window_by_balance, window_law}
+use Rattle.setoff_model.proofs.SumsBounded.{above_zero_is}
+use Rattle.round_cut.specs.Windows.{KeepsLimits, window_of, WindowsLaw}
 use Rattle.round_cut.specs.CutOfFacts.{takes_part, claims_due, firms_in, window_or_none, window_in, party_in, claim_among, parties_in, claims_in, cut_of_facts, has_account, IsClaimOf, AreFacts}
 use Rattle.round_cut.specs.CutLaw.{CutLaw, FactsLaw, FormedLaw}
 use Rattle.round_cut.proofs.Places.{list_any-map}
@@ -40,23 +43,19 @@ use Rattle.claim_history.proofs.Registered.{IsFiling, IsRegister, IsOrderly, ord
 
 -- ---- windows
 
--- a number with its negative part made up
-above_zero_is : (z : ℤ) (n m : ℕ) → z +ℤ pos m ≡ pos n → above_zero z ≡ n - m
-above_zero_is (pos k) n m e = omega (arith, ints, e)
-above_zero_is (negsuc k) n m e = omega (arith, ints, e)
-
-above_zero_same : (z : ℤ) → pos 0 ≤ℤ z → pos (above_zero z) ≡ z
-above_zero_same (pos n) h = refl
-above_zero_same (negsuc n) h = absurd (omega (arith, ints, h))
-
-least : (offer : ℕ) (z : ℤ) → pos (above_zero z) ≡ z → pos (min offer (above_zero z)) ≡ int_min (pos offer) z
-least offer z e = omega (arith, ints, clamps, e)
+-- a balance is its part above 0 less its part below
+parts_make : (z : ℤ) → pos (above_zero z) -ℤ pos (above_zero (neg_ℤ z)) ≡ z
+parts_make z = omega (arith, ints, above_zero_is z, above_zero_is (neg_ℤ z))
 
 pub windows_law : WindowsLaw
-windows_law a keeps = (
-  least a.offer (a.balance +ℤ pos a.credit) (above_zero_same (a.balance +ℤ pos a.credit) (omega (arith, ints, keeps.balance.0))),
-  above_zero_same (pos a.ceiling -ℤ a.balance) (omega (arith, ints, keeps.balance.1)),
-)
+windows_law a keeps =
+    let whole = parts_make a.balance in
+    let low : above_zero (neg_ℤ a.balance) ≤ above_zero a.balance + a.credit = omega (arith, ints, whole, keeps.balance.0) in
+    let high : above_zero a.balance ≤ a.ceiling + above_zero (neg_ℤ a.balance) = omega (arith, ints, whole, keeps.balance.1) in
+    let law = window_law (above_zero a.balance) (above_zero (neg_ℤ a.balance)) a.credit a.ceiling a.offer low high in (
+      law.0 ∙ ap (λ (z : ℤ). int_min (pos a.offer) (z +ℤ pos a.credit)) whole,
+      law.1 ∙ ap (λ (z : ℤ). pos a.ceiling -ℤ z) whole,
+    )
 
 -- ---- accounts
 
@@ -78,7 +77,7 @@ map_step : {X Y : Type 0} (b : Bool) (f : X → Y) (x : X) (rest : Option Y) (fo
 map_step true f x rest found e = refl
 map_step false f x rest found e = e
 
-find-map : {X Y : Type 0} (q : Y → Bool) (f : X → Y) (xs : List X) → find q (map f xs) ≡ option_map f (find (λ x. q (f x)) xs)
+pub find-map : {X Y : Type 0} (q : Y → Bool) (f : X → Y) (xs : List X) → find q (map f xs) ≡ option_map f (find (λ x. q (f x)) xs)
 find-map q f [] = refl
 find-map q f (x ∷ xs) = map_step (q (f x)) f x (find q (map f xs)) (find (λ y. q (f y)) xs) (find-map q f xs)
 
@@ -99,18 +98,9 @@ window_is l kind firm there =
 abbrev party : List ℕ → Window → Party
 party firm w = record { firm = firm; spend = w.spend; room = w.room }
 
-spend_is : (g s credit : ℕ) → above_zero ((pos g -ℤ pos s) +ℤ pos credit) ≡ g + credit - s
-spend_is g s credit = above_zero_is ((pos g -ℤ pos s) +ℤ pos credit) (g + credit) s (omega (arith, ints))
-
-room_is : (g s ceiling : ℕ) → above_zero (pos ceiling -ℤ (pos g -ℤ pos s)) ≡ ceiling + s - g
-room_is g s ceiling = above_zero_is (pos ceiling -ℤ (pos g -ℤ pos s)) (ceiling + s) g (omega (arith, ints))
-
 party_is : (l : Ledger) (kind : Kind) (firm : List ℕ) → party firm (window_of kind (account_fact l firm)) ≡ party_of l kind firm
-party_is l Plain firm = refl
-party_is l Funded firm =
-    ap₂ (λ (a b : ℕ). record { firm = firm; spend = min (offer_of l firm) a; room = b })
-    (spend_is (gained l firm) (spent l firm) (limits_of l firm).credit)
-    (room_is (gained l firm) (spent l firm) (limits_of l firm).ceiling)
+party_is l kind firm =
+    ap (party firm) (window_by_balance kind (balance_of l firm) (gained l firm) (spent l firm) (limits_of l firm).credit (limits_of l firm).ceiling (offer_of l firm) refl)
 
 -- ---- claims
 
@@ -125,7 +115,7 @@ found_amount : (p : Filing → Bool) (fs : List Filing) (m : ℕ) → All (λ (f
 found_amount p [] m all = omega arith
 found_amount p (f ∷ fs) m all = amount_step (p f) f (find p fs) m (All-head (λ (g : Filing). g.amount ≤ m) f fs all) (found_amount p fs m (All-tail (λ (g : Filing). g.amount ≤ m) f fs all))
 
-claim_is : (l : Ledger) (f : Filing) → IsFiling (firms l) f → left_of l f.key ≤ 999999999999 → IsClaimOf (account_facts l) (claim_fact l f)
+claim_is : (l : Ledger) (f : Filing) → IsFiling (firms l) f → left_of l f.key ≤ most_amount → IsClaimOf (account_facts l) (claim_fact l f)
 claim_is l f is left = record { debtor = accounts_are l f.debtor ∙ is.debtor; creditor = accounts_are l f.key.creditor ∙ is.creditor; apart = is.apart; left = left }
 
 no_filing : Filing
@@ -148,7 +138,7 @@ facts_are l is limited =
       firms = pairs_map (λ (a b : AccountFact). a.firm ≢ b.firm) (account_fact l) names [] (pairs_reverse (λ (f g : List ℕ). f ≢ g) (λ f g apart e. apart (sym e)) (firms l) is.firms);
       each_claim = All-map (IsClaimOf (account_facts l)) (claim_fact l) claims (λ k d lt.
           let f = slice_index_or claims k d in
-          claim_is l f (each k d lt) (left_le l f.key 999999999999 (found_amount (λ g. same_key f.key g.key) (filings l) 999999999999 (λ i e within. (is.each i e within).amount))));
+          claim_is l f (each k d lt) (left_le l f.key most_amount (found_amount (λ g. same_key f.key g.key) (filings l) most_amount (λ i e within. (is.each i e within).amount))));
       each_account = All-map KeepsLimits (account_fact l) names (λ k d lt. limited (slice_index_or names k d));
     }
 
@@ -158,7 +148,7 @@ filter_step : {X Y : Type 0} (b : Bool) (f : X → Y) (x : X) (rest : List X) (k
 filter_step true f x rest kept e = ap (λ ys. f x ∷ ys) e
 filter_step false f x rest kept e = e
 
-filter-map : {X Y : Type 0} (q : Y → Bool) (f : X → Y) (xs : List X) → filter q (map f xs) ≡ map f (filter (λ x. q (f x)) xs)
+pub filter-map : {X Y : Type 0} (q : Y → Bool) (f : X → Y) (xs : List X) → filter q (map f xs) ≡ map f (filter (λ x. q (f x)) xs)
 filter-map q f [] = refl
 filter-map q f (x ∷ xs) = filter_step (q (f x)) f x (filter (λ y. q (f y)) xs) (filter q (map f xs)) (filter-map q f xs)
 

@@ -1,6 +1,7 @@
 -- The cut of a round, read off what is known of claims and accounts.
 use Rattle.std.specs.Prelude.{◌≡◌, ◌≢◌, ℕ, ◌≤◌, Bool, true, ◌&&◌, nat_le, List, [], ◌∷◌, length, map, filter, flat_map, find, All, AllPairs, Option, Some, None}
 use Rattle.std.specs.List.{list_any, position_or_len}
+use Rattle.setoff_model.specs.Limits.{most_amount, most_claims, most_firms}
 use Rattle.setoff_model.specs.declared.kind.Kind.{Kind}
 use Rattle.setoff_model.specs.declared.cut.Party.{Party}
 use Rattle.setoff_model.specs.declared.cut.CutClaim.{CutClaim}
@@ -10,7 +11,8 @@ use Rattle.claim_history.specs.declared.fact.ClaimFact.{ClaimFact}
 use Rattle.claim_history.specs.declared.fact.AccountFact.{AccountFact}
 use Rattle.claim_history.specs.Facts.{is_confirmed}
 use Rattle.claim_history.specs.Cut.{distinct}
-use Rattle.round_cut.specs.Windows.{KeepsLimits, Window, window_of}
+use Rattle.setoff_model.specs.Windows.{Window}
+use Rattle.round_cut.specs.Windows.{KeepsLimits, window_of}
 
 -- ---- the claims
 
@@ -80,12 +82,12 @@ pub record IsClaimOf (accounts : List AccountFact) (c : ClaimFact) : Type 0 wher
   pub debtor : has_account accounts c.debtor ≡ true
   pub creditor : has_account accounts c.key.creditor ≡ true
   pub apart : c.debtor ≢ c.key.creditor
-  pub left : c.left ≤ 999999999999
+  pub left : c.left ≤ most_amount
 
 -- claims with their own keys, between firms that each have one account
 pub record AreFacts (claims : List ClaimFact) (accounts : List AccountFact) : Type 0 where
-  pub few_claims : length claims ≤ 262144
-  pub few_accounts : length accounts ≤ 16384
+  pub few_claims : length claims ≤ most_claims
+  pub few_accounts : length accounts ≤ most_firms
   pub keys : AllPairs (λ c d. c.key ≢ d.key) claims
   pub firms : AllPairs (λ a b. a.firm ≢ b.firm) accounts
   pub each_claim : All (IsClaimOf accounts) claims

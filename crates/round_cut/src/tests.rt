@@ -4,6 +4,7 @@ ghost use Rattle.round_cut.specs.CutOfFacts.{has_account as has, IsClaimOf, AreF
 
 use crate::{build_cut, cut_of_a_history_is_of_its_facts, open_cut_is_well_formed, window};
 use claim_history::{AccountFact, ClaimFact, Day, Status};
+use setoff_model::limits::{FIRST_CEILING, MOST_CLAIMS, MOST_FIRMS};
 use setoff_model::{Cut, CutClaim, Key, Kind, Name, Party, same_names};
 use std::alloc::{AllocError, Global};
 
@@ -12,8 +13,8 @@ use std::alloc::{AllocError, Global};
 fn are_facts(claims: &[ClaimFact], accounts: &[AccountFact]) -> bool
     ensures { IsTrue result → AreFacts claims.now accounts.now }
 {
-    claims.len() <= 262_144
-        && accounts.len() <= 16_384
+    claims.len() <= MOST_CLAIMS
+        && accounts.len() <= MOST_FIRMS
         && keys_differ(claims)
         && firms_differ(accounts)
         && claims.iter().all(|claim| is_claim_of(accounts, claim))
@@ -75,7 +76,7 @@ fn keeps_limits(account: &AccountFact) -> bool
     ensures { IsTrue result → KeepsLimits account.now }
 {
     account.credit <= 999_999_999_999
-        && account.ceiling <= 1_000_000_000_000_000
+        && account.ceiling <= FIRST_CEILING
         && -(account.credit as i64) <= account.balance
         && account.balance <= account.ceiling as i64
 }

@@ -1,7 +1,17 @@
-use Rattle.std.proofs.Common.{sym, ap, ◌∙◌}
-use Rattle.claim_book.specs.Book.{BookView}
+use Rattle.std.proofs.Common.{List, ◌≤◌, sym, ap, subst, ◌∙◌}
+use Rattle.claim_history.specs.declared.act.Act.TheVariants as act
+use Rattle.claim_history.specs.declared.entry.Entry.{Entry}
+use Rattle.claim_history.specs.States.{state_of}
+use Rattle.claim_book.specs.Book.{BookView, room_for}
+use Rattle.claim_book.proofs.Kept.{needed_by_any}
 use Rattle.journal_replay.proofs.Replays.{published_so}
 use Rattle.journal_replay.proofs.replaying.replay_publication.Goals as goal
+
+pub apply_publish-cut-requires-clause-room : goal.apply_publish-cut-requires-clause-room
+apply_publish-cut-requires-clause-room c =
+    let fits = c.in_ok-reserve.ensures.room in
+    needed_by_any (state_of c.reserve.new.self.history) c.args.caller (act.Publish c.args.round c.in_ok-outcome.outcome) c.reserve.new.self.room
+    (subst (λ (h : List Entry). room_for (state_of h) (act.Publish c.args.round c.in_ok-outcome.outcome) ≤ c.reserve.new.self.room) (sym c.reserve.ensures.history) fits)
 
 pub returns-clause-done : goal.returns-clause-done
 returns-clause-done c =

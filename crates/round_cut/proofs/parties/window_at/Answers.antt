@@ -1,5 +1,5 @@
 use Rattle.std.proofs.Common.{◌∙◌, ap}
-use Rattle.round_cut.specs.Windows.{Window}
+use Rattle.setoff_model.specs.Windows.{Window}
 use Rattle.round_cut.proofs.Joined.{window_found, window_none}
 use Rattle.round_cut.proofs.parties.window_at.Goals as goal
 

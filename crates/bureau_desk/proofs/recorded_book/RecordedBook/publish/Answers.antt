@@ -1,8 +1,10 @@
-use Rattle.std.proofs.Common.{◌∙◌, sym, ap, subst}
+use Rattle.std.proofs.Common.{◌≤◌, ◌∙◌, sym, ap, subst}
 use Rattle.claim_history.specs.declared.act.Act.TheVariants as act
 use Rattle.claim_history.specs.declared.entry.Reply.TheVariants as reply
 use Rattle.claim_history.specs.History.{IsLegal}
+use Rattle.claim_history.specs.States.{state_of}
 use Rattle.claim_book.specs.Book.{BookView}
+use Rattle.claim_book.proofs.Kept.{published_needs_one}
 use Rattle.bureau_desk.specs.Acting.{RecordedView, HasActed, IsOutcomeDue}
 use Rattle.bureau_desk.proofs.Acted.{acted, keepable_of}
 use Rattle.bureau_desk.proofs.Publications.{outcome_small, publication_due, publication_valid, publication_near, publication_fits, publication_not_full}
@@ -20,6 +22,13 @@ keep-reply-requires-clause-near g c accepts =
     let due = subst (λ (s : RecordedView g.row.D.Denot). IsOutcomeDue s.book.history c.args.caller c.args.number c.args.outcome) (sym c.self.view_is) c.requires.due in
     let legal = subst (λ (b : BookView). IsLegal b.history) c.book-book.ensures.book c.history-history.ensures.legal in
     publication_near c.self.inside.book.history c.args.caller c.args.number c.args.outcome due c.self.inside.recorder.journal.gate c.self.invariant.place legal c.book-book.ensures.within
+
+pub apply_publish-published-requires-clause-room : goal.apply_publish-published-requires-clause-room
+apply_publish-published-requires-clause-room g c =
+    let history = c.self.inside.book.history in
+    let due = subst (λ (s : RecordedView g.row.D.Denot). IsOutcomeDue s.book.history c.args.caller c.args.number c.args.outcome) (sym c.self.view_is) c.requires.due in
+    let room = subst (λ (s : RecordedView g.row.D.Denot). 1 ≤ s.book.room) (sym c.self.view_is) c.requires.room in
+    subst (λ n. n ≤ c.self.inside.book.room) (sym (published_needs_one (state_of history) c.args.caller c.args.number _ c.args.outcome (publication_due history c.args.caller c.args.number c.args.outcome due))) room
 
 pub apply_publish-published-requires-clause-valid : goal.apply_publish-published-requires-clause-valid
 apply_publish-published-requires-clause-valid g c = publication_valid c.args.self.now.book.history c.args.caller c.args.number c.args.outcome c.requires.due c.ranges.number.fits

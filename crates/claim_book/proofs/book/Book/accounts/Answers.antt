@@ -7,4 +7,4 @@ use Rattle.claim_book.proofs.book.Book.accounts.Goals as goal
 
 pub returns-clause-limits : goal.returns-clause-limits
 returns-clause-limits c =
-    subst (λ (as' : List AccountFact). All (λ a. IsWithin a.credit a.ceiling a.balance) as') (sym (c.deref.ensures.value ∙ c.self.invariant.accounts_are)) (accounts_within c.self.inside.entries.items c.self.invariant.legal)
+    subst (λ (as' : List AccountFact). All (λ a. IsWithin a.credit a.ceiling a.balance) as') (sym (c.facts.ensures ∙ c.self.invariant.accounts_are)) (accounts_within c.self.inside.entries.items c.self.invariant.legal)

@@ -1,4 +1,4 @@
-use Rattle.std.proofs.Common.{◌≡◌, [], ◌∷◌, ◌++◌, sym, ◌∙◌, ap, subst, arith}
+use Rattle.std.proofs.Common.{◌≡◌, sym, subst}
 use Rattle.claim_history.specs.History.{MayFollow}
 use Rattle.std.proofs.Common.{ℕ, ◌+◌}
 use Rattle.setoff_model.specs.declared.kind.Kind.{Kind}
@@ -17,4 +17,4 @@ invariant_of-self c =
     let next = subst (λ (b : BookView). MayFollow b.history c.args.entry) (sym c.self.view_is) c.requires.next in
     let cut = subst (λ (b : BookView). (kind : Kind) (horizon : ℕ) → c.args.entry.act ≡ act.Close kind horizon → c.args.cut ≡ cut_of ((state_of b.history).openings + 1) (ledger_of b.history) kind horizon) (sym c.self.view_is) c.requires.cut in
     rw (c.put_entry.ensures.items, c.keep_round.ensures)
-    (close_grows c.self.inside.entries.items c.self.inside.claims.items c.self.inside.accounts.items c.self.inside.openings c.self.inside.kept c.args.entry c.args.cut c.horizon_of-horizon.ensures.0 c.horizon_of-horizon.result c.self.invariant c.requires.valid c.requires.opens next c.horizon_of-horizon.ensures.1 cut)
+    (close_grows _ c.args.entry c.args.cut c.horizon_of-horizon.ensures.0 c.horizon_of-horizon.result c.self.invariant c.requires.valid c.requires.opens next c.horizon_of-horizon.ensures.1 cut)

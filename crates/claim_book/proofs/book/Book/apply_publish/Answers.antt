@@ -1,56 +1,63 @@
-use Rattle.std.specs.Prelude.{IfSome}
-use Rattle.std.proofs.Common.{◌≡◌, ◌<◌, ◌^◌, [], ◌∷◌, ◌++◌, length, sym, ◌∙◌, ap, subst, arith}
+use Rattle.std.proofs.Common.{◌<◌, ◌≤◌, ◌^◌, length, sym, ◌∙◌, ap, subst, arith}
 use Rattle.setoff_model.specs.Setoff.{total_of}
 use Rattle.claim_history.specs.States.{state_of}
 use Rattle.claim_history.specs.History.{MayFollow}
-use Rattle.fact_tables.specs.Tables.{AreSmall}
 use Rattle.claim_book.specs.Book.{BookView}
-use Rattle.claim_book.proofs.Books.{refused_grows, accounts_small, settles, round_there}
+use Rattle.claim_book.proofs.Books.{refused_grows, are_accounts, settles, round_there}
+use Rattle.claim_book.proofs.Kept.{one_needed}
 use Rattle.claim_book.proofs.book.Book.apply_publish.Goals as goal
 
 pub invariant_of-self : goal.invariant_of-self
 invariant_of-self c =
     let next = subst (λ (b : BookView). MayFollow b.history c.args.entry) (sym c.self.view_is) c.requires.next in
-    rw c.put_entry.ensures.items (refused_grows c.self.inside.entries.items c.self.inside.claims.items c.self.inside.accounts.items c.self.inside.openings c.self.inside.kept c.args.entry c.self.invariant c.requires.valid (sym c.accepted.ensures ∙ c.if-not-accepted.true) next)
+    rw c.put_entry.ensures.items (refused_grows _ c.args.entry c.self.invariant c.requires.valid (sym c.accepted.ensures ∙ c.if-not-accepted.true) next)
 
-pub settle_accounts-requires-clause-small : goal.settle_accounts-requires-clause-small
-settle_accounts-requires-clause-small c =
-    subst AreSmall (sym c.self.invariant.accounts_are) (accounts_small c.self.inside.entries.items c.self.invariant.legal c.self.invariant.valid)
+pub put_entry-requires : goal.put_entry-requires
+put_entry-requires c =
+    let one = one_needed (state_of c.args.self.now.history) c.args.entry.caller c.args.entry.act in
+    let room = subst (λ (b : BookView). 1 ≤ b.room) (sym c.self.view_is) (omega (arith, one, c.requires.room)) in
+    omega (arith, room)
+
+pub discharge-requires-2-clause-small : goal.discharge-requires-2-clause-small
+discharge-requires-2-clause-small c =
+    let next = subst (λ (b : BookView). MayFollow b.history c.args.entry) (sym c.self.view_is) c.requires.next in
+    let is = settles _ c.args.entry c.outcome_in.ensures.0 c.outcome_in.result.now c.take_cut-cut.result c.self.invariant c.requires.valid (sym c.accepted.ensures ∙ c.if-not-accepted.false) c.outcome_in.ensures.1 next c.take_cut-cut.ensures.cut in
+    rw c.discharges-discharges.ensures (are_accounts _ is.grows).small
 
 pub take_cut-cut-requires : goal.take_cut-cut-requires
 take_cut-cut-requires c =
     let next = subst (λ (b : BookView). MayFollow b.history c.args.entry) (sym c.self.view_is) c.requires.next in
-    round_there c.self.inside.entries.items c.self.inside.claims.items c.self.inside.accounts.items c.self.inside.openings c.self.inside.kept c.args.entry c.self.invariant c.requires.publishes (sym c.accepted.ensures ∙ c.if-not-accepted.false) next
+    round_there _ c.args.entry c.self.invariant c.requires.publishes (sym c.accepted.ensures ∙ c.if-not-accepted.false) next
 
-pub settle_claims-requires : goal.settle_claims-requires
-settle_claims-requires c =
+pub discharge-requires : goal.discharge-requires
+discharge-requires c =
     let next = subst (λ (b : BookView). MayFollow b.history c.args.entry) (sym c.self.view_is) c.requires.next in
     let asks = c.outcome_in.ensures.1 in
-    let is = settles c.self.inside.entries.items c.self.inside.claims.items c.self.inside.accounts.items c.self.inside.openings c.self.inside.kept c.args.entry c.outcome_in.ensures.0 c.outcome_in.result.now c.take_cut-cut.result c.self.invariant c.requires.valid (sym c.accepted.ensures ∙ c.if-not-accepted.false) asks next c.take_cut-cut.ensures.cut in
+    let is = settles _ c.args.entry c.outcome_in.ensures.0 c.outcome_in.result.now c.take_cut-cut.result c.self.invariant c.requires.valid (sym c.accepted.ensures ∙ c.if-not-accepted.false) asks next c.take_cut-cut.ensures.cut in
     ap length c.discharges-discharges.ensures ∙ is.one_each
 
-pub settle_accounts-requires-clause-one_each : goal.settle_accounts-requires-clause-one_each
-settle_accounts-requires-clause-one_each c =
+pub discharge-requires-2-clause-one_each : goal.discharge-requires-2-clause-one_each
+discharge-requires-2-clause-one_each c =
     let next = subst (λ (b : BookView). MayFollow b.history c.args.entry) (sym c.self.view_is) c.requires.next in
     let asks = c.outcome_in.ensures.1 in
-    let is = settles c.self.inside.entries.items c.self.inside.claims.items c.self.inside.accounts.items c.self.inside.openings c.self.inside.kept c.args.entry c.outcome_in.ensures.0 c.outcome_in.result.now c.take_cut-cut.result c.self.invariant c.requires.valid (sym c.accepted.ensures ∙ c.if-not-accepted.false) asks next c.take_cut-cut.ensures.cut in
+    let is = settles _ c.args.entry c.outcome_in.ensures.0 c.outcome_in.result.now c.take_cut-cut.result c.self.invariant c.requires.valid (sym c.accepted.ensures ∙ c.if-not-accepted.false) asks next c.take_cut-cut.ensures.cut in
     ap length c.discharges-discharges.ensures ∙ is.one_each
 
-pub settle_accounts-requires-clause-total : goal.settle_accounts-requires-clause-total
-settle_accounts-requires-clause-total c =
+pub discharge-requires-2-clause-total : goal.discharge-requires-2-clause-total
+discharge-requires-2-clause-total c =
     let next = subst (λ (b : BookView). MayFollow b.history c.args.entry) (sym c.self.view_is) c.requires.next in
-    let is = settles c.self.inside.entries.items c.self.inside.claims.items c.self.inside.accounts.items c.self.inside.openings c.self.inside.kept c.args.entry c.outcome_in.ensures.0 c.outcome_in.result.now c.take_cut-cut.result c.self.invariant c.requires.valid (sym c.accepted.ensures ∙ c.if-not-accepted.false) c.outcome_in.ensures.1 next c.take_cut-cut.ensures.cut in
+    let is = settles _ c.args.entry c.outcome_in.ensures.0 c.outcome_in.result.now c.take_cut-cut.result c.self.invariant c.requires.valid (sym c.accepted.ensures ∙ c.if-not-accepted.false) c.outcome_in.ensures.1 next c.take_cut-cut.ensures.cut in
     subst (λ d. total_of d < 10 ^ 18) (sym c.discharges-discharges.ensures) is.total
 
 pub invariant_of-self-2 : goal.invariant_of-self-2
 invariant_of-self-2 c =
     let next = subst (λ (b : BookView). MayFollow b.history c.args.entry) (sym c.self.view_is) c.requires.next in
-    let is = settles c.self.inside.entries.items c.self.inside.claims.items c.self.inside.accounts.items c.self.inside.openings c.self.inside.kept c.args.entry c.outcome_in.ensures.0 c.outcome_in.result.now c.take_cut-cut.result c.self.invariant c.requires.valid (sym c.accepted.ensures ∙ c.if-not-accepted.false) c.outcome_in.ensures.1 next c.take_cut-cut.ensures.cut in
-    rw (c.put_entry-2.ensures.items, c.settle_claims.ensures.items, c.settle_accounts.ensures.items, c.take_cut-cut.ensures.none, c.discharges-discharges.ensures) is.grows
+    let is = settles _ c.args.entry c.outcome_in.ensures.0 c.outcome_in.result.now c.take_cut-cut.result c.self.invariant c.requires.valid (sym c.accepted.ensures ∙ c.if-not-accepted.false) c.outcome_in.ensures.1 next c.take_cut-cut.ensures.cut in
+    rw (c.put_entry-2.ensures.items, c.discharge.ensures.facts, c.discharge-2.ensures.facts, c.take_cut-cut.ensures.none, c.discharges-discharges.ensures) is.grows
 
 pub returns-clause-cut : goal.returns-clause-cut
 returns-clause-cut c =
     let next = subst (λ (b : BookView). MayFollow b.history c.args.entry) (sym c.self.view_is) c.requires.next in
     let accepted = sym c.accepted.ensures ∙ c.if-not-accepted.false in
-    let is = settles c.self.inside.entries.items c.self.inside.claims.items c.self.inside.accounts.items c.self.inside.openings c.self.inside.kept c.args.entry c.outcome_in.ensures.0 c.outcome_in.result.now c.take_cut-cut.result c.self.invariant c.requires.valid accepted c.outcome_in.ensures.1 next c.take_cut-cut.ensures.cut in
+    let is = settles _ c.args.entry c.outcome_in.ensures.0 c.outcome_in.result.now c.take_cut-cut.result c.self.invariant c.requires.valid accepted c.outcome_in.ensures.1 next c.take_cut-cut.ensures.cut in
     (accepted, (is.round, ap (λ (b : BookView). (state_of b.history).open_round) (sym c.self.view_is) ∙ is.was_open, is.cut_is))

@@ -1,0 +1,213 @@
+//! The accounts of a book.
+ghost use Rattle.std.specs.Prelude.{◌≡◌, ◌+◌, ◌<◌, ◌≤◌, ◌^◌, ◌++◌, ◌∷◌, [], find, map, length, position, vec_len, vec_capacity, true, OnOk, OnErr};
+ghost use Rattle.setoff_model.specs.Setoff.{total_of};
+ghost use Rattle.setoff_model.specs.Limits.{most_amount};
+ghost use Rattle.setoff_model.specs.Same.{same_name};
+ghost use Rattle.claim_history.specs.Acts.{is_valid};
+ghost use Rattle.fact_tables.specs.Settling.{settled_account};
+ghost use Rattle.fact_tables.specs.Tables.{new_account, funded, drawn, limited, offered, accounts_with, FirmsOnce, AreSmall, AreAccounts};
+
+use crate::settling::discharge_accounts;
+use claim_history::{AccountFact, Act, Entry, accepted};
+use setoff_model::limits::FIRST_CEILING;
+use setoff_model::{Cut, Name, same_names};
+use std::alloc::{AllocError, Global};
+use std::marker::Model;
+
+/// The accounts of the registered firms in order of registration. No firm is there twice, and each balance is from -10^15 to 10^15
+/// cents.
+///
+/// Beside them stands the room: how many firms may be registered without taking memory.
+#[derive(Drop)]
+pub struct AccountTable {
+    facts: Vec<AccountFact>,
+}
+
+impl Model for AccountTable {
+    ghost use Rattle.std.specs.Prelude.{◌-◌, vec_len, vec_capacity};
+    ghost use Rattle.fact_tables.specs.Tables.{AccountsView, AreAccounts};
+
+    ghost Value = { AccountsView };
+
+    ghost view = { λ t. record { facts = t.facts.items; room = vec_capacity t.facts - vec_len t.facts } };
+
+    ghost invariant = { λ t. AreAccounts t.facts.items };
+}
+
+impl AccountTable {
+    /// A table without accounts. It takes no memory.
+    pub fn new(alloc: Global) -> AccountTable
+        ensures facts { result.facts ≡ [] }
+        ensures room { result.room ≡ 0 }
+    {
+        AccountTable {
+            facts: Vec::new(alloc),
+        }
+    }
+
+    /// Makes the room for so many accounts. It lowers no room that was made before.
+    ///
+    /// The only error is that memory is missing. It comes only where there was less room.
+    pub fn reserve(&mut self, accounts: usize) -> Result<(), AllocError>
+        ensures facts { self.new.facts ≡ self.old.facts }
+        ensures room { OnOk result (accounts ≤ self.new.room) }
+        ensures kept { self.old.room ≤ self.new.room }
+        ensures needed { OnErr result (self.old.room < accounts) }
+    {
+        self.facts.reserve(accounts)
+    }
+
+    /// The accounts in order of registration.
+    pub fn facts(&self) -> &[AccountFact]
+        ensures { result.now ≡ self.now.facts }
+    {
+        &self.facts
+    }
+
+    /// A firm's account; None where the firm has none.
+    pub fn find(&self, firm: &Name) -> Option<AccountFact>
+        ensures { result ≡ find (λ a. same_name firm.now a.firm) self.now.facts }
+    {
+        find_account(&self.facts, firm)
+    }
+
+    /// Changes the accounts as an entry says, where it is accepted. There is room for one more, no firm is registered twice, and
+    /// the balances stay small. It takes no memory.
+    pub fn apply(&mut self, entry: &Entry)
+        requires room { 0 < self.old.room }
+        requires valid { is_valid entry.now.act ≡ true }
+        requires accounts { AreAccounts (accounts_with entry.now self.old.facts) }
+        ensures facts { self.new.facts ≡ accounts_with entry.now self.old.facts }
+        ensures room { self.old.room ≤ self.new.room + 1 }
+    {
+        change_accounts(&mut self.facts, entry);
+    }
+
+    /// Puts into each account what the round of a cut discharged towards its firm, and takes out what it discharged by it. It takes
+    /// no memory.
+    ///
+    /// There is one discharge for each claim of the cut, their total is below 10^18 cents, and the balances stay small. The flows of
+    /// each party are summed over all claims of the cut, so its work is the product of both numbers.
+    pub fn discharge(&mut self, cut: &Cut, discharges: &[u64])
+        requires one_each { length discharges.now ≡ length cut.now.claims }
+        requires total { total_of discharges.now < 10 ^ 18 }
+        requires small { AreSmall (map (settled_account (record { cut = cut.now; discharges = discharges.now })) self.old.facts) }
+        ensures facts { self.new.facts ≡ map (settled_account (record { cut = cut.now; discharges = discharges.now })) self.old.facts }
+        ensures room { self.new.room ≡ self.old.room }
+    {
+        discharge_accounts(&mut self.facts, cut, discharges);
+    }
+}
+
+// The place of a firm's account; None where the firm has none.
+fn account_place(accounts: &[AccountFact], firm: &Name) -> Option<usize>
+    ensures { result ≡ position (λ a. same_name firm.now a.firm) accounts.now }
+{
+    accounts
+        .iter()
+        .position(|account| same_names(firm, &account.firm))
+}
+
+fn find_account(accounts: &[AccountFact], firm: &Name) -> Option<AccountFact>
+    ensures { result ≡ find (λ a. same_name firm.now a.firm) accounts.now }
+{
+    match account_place(accounts, firm) {
+        None => None,
+        Some(place) => Some(accounts[place]),
+    }
+}
+
+// Changes the accounts as `AccountTable::apply` does.
+fn change_accounts(accounts: &mut Vec<AccountFact>, entry: &Entry)
+    requires room { vec_len accounts.old < vec_capacity accounts.old }
+    requires once { FirmsOnce accounts.old.items }
+    requires small { AreSmall accounts.old.items }
+    requires valid { is_valid entry.now.act ≡ true }
+    ensures items { accounts.new.items ≡ accounts_with entry.now accounts.old.items }
+    ensures len { vec_len accounts.new ≤ vec_len accounts.old + 1 }
+    ensures capacity { vec_capacity accounts.old ≤ vec_capacity accounts.new }
+{
+    if !accepted(entry) {
+        return;
+    }
+    match &entry.act {
+        Act::Firm { firm } => add_account(accounts, firm),
+        Act::Fund { firm, amount } => fund(accounts, firm, *amount),
+        Act::Draw { firm, amount } => draw(accounts, firm, *amount),
+        Act::Limit {
+            firm,
+            credit,
+            ceiling,
+        } => set_limits(accounts, firm, *credit, *ceiling),
+        Act::Offer { firm, amount } => set_offer(accounts, firm, *amount),
+        Act::File { .. }
+        | Act::Confirm { .. }
+        | Act::Dispute { .. }
+        | Act::Withdraw { .. }
+        | Act::Receive { .. }
+        | Act::Position { .. }
+        | Act::Close { .. }
+        | Act::Abandon
+        | Act::Publish { .. } => {}
+    }
+}
+
+fn add_account(accounts: &mut Vec<AccountFact>, firm: &Name)
+    requires { vec_len accounts.old < vec_capacity accounts.old }
+    ensures items { accounts.new.items ≡ accounts.old.items ++ new_account firm.now ∷ [] }
+    ensures len { vec_len accounts.new ≡ vec_len accounts.old + 1 }
+    ensures capacity { vec_capacity accounts.old ≤ vec_capacity accounts.new }
+{
+    let _ = accounts.push(AccountFact {
+        firm: *firm,
+        balance: 0,
+        credit: 0,
+        ceiling: FIRST_CEILING,
+        offer: 0,
+    });
+}
+
+fn fund(accounts: &mut [AccountFact], firm: &Name, amount: u64)
+    requires once { FirmsOnce accounts.old }
+    requires small { AreSmall accounts.old }
+    requires amount { amount ≤ most_amount }
+    ensures { accounts.new ≡ map (funded firm.now amount) accounts.old }
+{
+    if let Some(place) = account_place(accounts, firm) {
+        let account = &mut accounts[place];
+        account.balance += amount as i64;
+    }
+}
+
+fn draw(accounts: &mut [AccountFact], firm: &Name, amount: u64)
+    requires once { FirmsOnce accounts.old }
+    requires small { AreSmall accounts.old }
+    requires amount { amount ≤ most_amount }
+    ensures { accounts.new ≡ map (drawn firm.now amount) accounts.old }
+{
+    if let Some(place) = account_place(accounts, firm) {
+        let account = &mut accounts[place];
+        account.balance -= amount as i64;
+    }
+}
+
+fn set_limits(accounts: &mut [AccountFact], firm: &Name, credit: u64, ceiling: u64)
+    requires { FirmsOnce accounts.old }
+    ensures { accounts.new ≡ map (limited firm.now credit ceiling) accounts.old }
+{
+    if let Some(place) = account_place(accounts, firm) {
+        let account = &mut accounts[place];
+        account.credit = credit;
+        account.ceiling = ceiling;
+    }
+}
+
+fn set_offer(accounts: &mut [AccountFact], firm: &Name, amount: u64)
+    requires { FirmsOnce accounts.old }
+    ensures { accounts.new ≡ map (offered firm.now amount) accounts.old }
+{
+    if let Some(place) = account_place(accounts, firm) {
+        let account = &mut accounts[place];
+        account.offer = amount;
+    }
+}

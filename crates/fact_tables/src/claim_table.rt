@@ -1,0 +1,208 @@
+//! The claims of a book.
+ghost use Rattle.std.specs.Prelude.{◌≡◌, ◌+◌, ◌<◌, ◌≤◌, ◌++◌, ◌∷◌, [], ◌^◌, ◌&&◌, sum, filter, find, map, length, position, vec_len, vec_capacity, OnOk, OnErr};
+ghost use Rattle.setoff_model.specs.Same.{same_name, same_key};
+ghost use Rattle.claim_history.specs.Facts.{is_confirmed as confirmed};
+ghost use Rattle.fact_tables.specs.Settling.{settled_claim};
+ghost use Rattle.fact_tables.specs.Tables.{new_claim, with_status, with_receipt, claims_with, KeysOnce};
+
+use crate::settling::discharge_claims;
+use claim_history::{Act, ClaimFact, Day, Entry, Status, accepted};
+use setoff_model::{Cut, Key, Name, same_keys, same_names};
+use std::alloc::{AllocError, Global};
+use std::marker::Model;
+
+/// The claims in order of filing, with their status and open amount. No key is there twice.
+///
+/// Beside them stands the room: how many claims may be filed without taking memory.
+#[derive(Drop)]
+pub struct ClaimTable {
+    facts: Vec<ClaimFact>,
+}
+
+impl Model for ClaimTable {
+    ghost use Rattle.std.specs.Prelude.{◌-◌, vec_len, vec_capacity};
+    ghost use Rattle.fact_tables.specs.Tables.{ClaimsView, KeysOnce};
+
+    ghost Value = { ClaimsView };
+
+    ghost view = { λ t. record { facts = t.facts.items; room = vec_capacity t.facts - vec_len t.facts } };
+
+    ghost invariant = { λ t. KeysOnce t.facts.items };
+}
+
+impl ClaimTable {
+    /// A table without claims. It takes no memory.
+    pub fn new(alloc: Global) -> ClaimTable
+        ensures facts { result.facts ≡ [] }
+        ensures room { result.room ≡ 0 }
+    {
+        ClaimTable {
+            facts: Vec::new(alloc),
+        }
+    }
+
+    /// Makes the room for so many claims. It lowers no room that was made before.
+    ///
+    /// The only error is that memory is missing. It comes only where there was less room.
+    pub fn reserve(&mut self, claims: usize) -> Result<(), AllocError>
+        ensures facts { self.new.facts ≡ self.old.facts }
+        ensures room { OnOk result (claims ≤ self.new.room) }
+        ensures kept { self.old.room ≤ self.new.room }
+        ensures needed { OnErr result (self.old.room < claims) }
+    {
+        self.facts.reserve(claims)
+    }
+
+    /// The claims in order of filing.
+    pub fn facts(&self) -> &[ClaimFact]
+        ensures { result.now ≡ self.now.facts }
+    {
+        &self.facts
+    }
+
+    /// A claim; None where the key was never filed.
+    pub fn find(&self, key: &Key) -> Option<ClaimFact>
+        ensures { result ≡ find (λ c. same_key key.now c.key) self.now.facts }
+    {
+        find_claim(&self.facts, key)
+    }
+
+    /// What a firm is owed on its confirmed claims, in cents.
+    pub fn owed_to(&self, firm: &Name) -> u64
+        requires { sum (map (λ c. c.left) (filter (λ c. confirmed c.status && same_name firm.now c.key.creditor) self.now.facts)) < 2 ^ 64 }
+        ensures { result ≡ sum (map (λ c. c.left) (filter (λ c. confirmed c.status && same_name firm.now c.key.creditor) self.now.facts)) }
+    {
+        self.facts
+            .iter()
+            .filter(|claim| is_confirmed(claim.status) && same_names(firm, &claim.key.creditor))
+            .map(|claim| claim.left)
+            .sum()
+    }
+
+    /// What a firm owes on confirmed claims, in cents.
+    pub fn owed_by(&self, firm: &Name) -> u64
+        requires { sum (map (λ c. c.left) (filter (λ c. confirmed c.status && same_name firm.now c.debtor) self.now.facts)) < 2 ^ 64 }
+        ensures { result ≡ sum (map (λ c. c.left) (filter (λ c. confirmed c.status && same_name firm.now c.debtor) self.now.facts)) }
+    {
+        self.facts
+            .iter()
+            .filter(|claim| is_confirmed(claim.status) && same_names(firm, &claim.debtor))
+            .map(|claim| claim.left)
+            .sum()
+    }
+
+    /// Changes the claims as an entry says, where it is accepted. There is room for one more, and no key is filed twice. It takes
+    /// no memory.
+    pub fn apply(&mut self, entry: &Entry)
+        requires room { 0 < self.old.room }
+        requires once { KeysOnce (claims_with entry.now self.old.facts) }
+        ensures facts { self.new.facts ≡ claims_with entry.now self.old.facts }
+        ensures room { self.old.room ≤ self.new.room + 1 }
+    {
+        change_claims(&mut self.facts, entry);
+    }
+
+    /// Takes off each claim what the round of a cut discharged of it. There is one discharge for each claim of the cut. It takes no
+    /// memory.
+    ///
+    /// It looks each claim up in the cut, so its work is the product of both numbers.
+    pub fn discharge(&mut self, cut: &Cut, discharges: &[u64])
+        requires { length discharges.now ≡ length cut.now.claims }
+        ensures facts { self.new.facts ≡ map (settled_claim (record { cut = cut.now; discharges = discharges.now })) self.old.facts }
+        ensures room { self.new.room ≡ self.old.room }
+    {
+        discharge_claims(&mut self.facts, cut, discharges);
+    }
+}
+
+// The place of a claim; None where the key was never filed.
+fn claim_place(claims: &[ClaimFact], key: &Key) -> Option<usize>
+    ensures { result ≡ position (λ c. same_key key.now c.key) claims.now }
+{
+    claims.iter().position(|claim| same_keys(key, &claim.key))
+}
+
+fn find_claim(claims: &[ClaimFact], key: &Key) -> Option<ClaimFact>
+    ensures { result ≡ find (λ c. same_key key.now c.key) claims.now }
+{
+    match claim_place(claims, key) {
+        None => None,
+        Some(place) => Some(claims[place]),
+    }
+}
+
+fn is_confirmed(status: Status) -> bool
+    ensures { result ≡ confirmed status }
+{
+    matches!(status, Status::Confirmed)
+}
+
+// Changes the claims as `ClaimTable::apply` does.
+fn change_claims(claims: &mut Vec<ClaimFact>, entry: &Entry)
+    requires room { vec_len claims.old < vec_capacity claims.old }
+    requires once { KeysOnce claims.old.items }
+    ensures items { claims.new.items ≡ claims_with entry.now claims.old.items }
+    ensures len { vec_len claims.new ≤ vec_len claims.old + 1 }
+    ensures capacity { vec_capacity claims.old ≤ vec_capacity claims.new }
+{
+    if !accepted(entry) {
+        return;
+    }
+    match &entry.act {
+        Act::File {
+            key,
+            debtor,
+            amount,
+            due,
+        } => add_claim(claims, key, debtor, *amount, due),
+        Act::Confirm { key, .. } => set_status(claims, key, Status::Confirmed),
+        Act::Dispute { key, .. } => set_status(claims, key, Status::Disputed),
+        Act::Withdraw { key } => set_status(claims, key, Status::Withdrawn),
+        Act::Receive { key, amount } => receive(claims, key, *amount),
+        Act::Firm { .. }
+        | Act::Fund { .. }
+        | Act::Draw { .. }
+        | Act::Limit { .. }
+        | Act::Offer { .. }
+        | Act::Position { .. }
+        | Act::Close { .. }
+        | Act::Abandon
+        | Act::Publish { .. } => {}
+    }
+}
+
+fn add_claim(claims: &mut Vec<ClaimFact>, key: &Key, debtor: &Name, amount: u64, due: &Day)
+    requires { vec_len claims.old < vec_capacity claims.old }
+    ensures items { claims.new.items ≡ claims.old.items ++ new_claim key.now debtor.now amount due.now ∷ [] }
+    ensures len { vec_len claims.new ≡ vec_len claims.old + 1 }
+    ensures capacity { vec_capacity claims.old ≤ vec_capacity claims.new }
+{
+    let _ = claims.push(ClaimFact {
+        key: *key,
+        debtor: *debtor,
+        status: Status::Filed,
+        amount,
+        left: amount,
+        due: *due,
+    });
+}
+
+fn set_status(claims: &mut [ClaimFact], key: &Key, status: Status)
+    requires { KeysOnce claims.old }
+    ensures { claims.new ≡ map (with_status key.now status) claims.old }
+{
+    if let Some(place) = claim_place(claims, key) {
+        let claim = &mut claims[place];
+        claim.status = status;
+    }
+}
+
+fn receive(claims: &mut [ClaimFact], key: &Key, amount: u64)
+    requires { KeysOnce claims.old }
+    ensures { claims.new ≡ map (with_receipt key.now amount) claims.old }
+{
+    if let Some(place) = claim_place(claims, key) {
+        let claim = &mut claims[place];
+        claim.left = claim.left.saturating_sub(amount);
+    }
+}
