@@ -1,6 +1,7 @@
 -- The steps of a replay.
 use Rattle.std.specs.Prelude.{reverse}
 use Rattle.std.proofs.Common.{◌≡◌, ℕ, ◌+◌, ◌<◌, Bool, true, false, not, ◌||◌, List, [], ◌∷◌, ◌++◌, length, get_or, take, drop, map, All, refl, sym, ◌∙◌, ap, ap₂, subst, true≢false, take-append-drop, append_assoc}
+use Rattle.std.proofs.lemmas.Bool.{false_from_ne_true}
 use Rattle.std.proofs.lemmas.List.{map-append, reverse-append, reverse-reverse, take_more}
 use Rattle.std.proofs.lemmas.List.Elements.{All-push}
 use Rattle.setoff_model.specs.declared.kind.Kind.{Kind}
@@ -18,7 +19,6 @@ use Rattle.claim_history.proofs.Replies.{opens}
 use Rattle.claim_history.proofs.Room.{use_law}
 use Rattle.round_journal.specs.declared.record.Record.{Record}
 use Rattle.limited_book.proofs.Limits.{publication_of}
-use Rattle.limited_book.proofs.Publications.{false_so}
 use Rattle.journal_replay.specs.declared.replay_stop.ReplayStop.{ReplayStop}
 use Rattle.journal_replay.specs.declared.replay_stop.ReplayStop.TheVariants.{Memory, BadAct, Overfull}
 use Rattle.journal_replay.specs.Replays.{AreSound, IsReplayed, StopsFirst, Tells, call_of, history_of, is_faulty}
@@ -28,7 +28,7 @@ use Rattle.journal_replay.specs.Replays.{AreSound, IsReplayed, StopsFirst, Tells
 -- an act that is no Close opens no round
 pub other_opens_none : (history : List Entry) (caller : ℕ) (a : Act) (r : Reply) → r ≡ answer_of history caller a → is_close a ≡ false → is_opening r ≡ false
 other_opens_none history caller a r due other =
-    false_so (is_opening r) (λ e. true≢false (sym (ap is_close (opens (state_of history) 0 caller a r (replied due) e).act_is ∙ refl) ∙ other))
+    false_from_ne_true (is_opening r) (λ e. true≢false (sym (ap is_close (opens (state_of history) 0 caller a r (replied due) e).act_is ∙ refl) ∙ other))
 
 -- the act is another than those that have arms of their own
 pub no_close : (a : Act) → ((kind : Kind) (horizon : ℕ) → a ≡ act.Close kind horizon → ⊥) → is_close a ≡ false
