@@ -1,9 +1,1 @@
-pub mod Levels
 pub mod Solution
-pub mod Edges
-pub mod Crossings
-pub mod Shifts
-pub mod Starts
-pub mod Labels
-pub mod Pushes
-pub mod Works

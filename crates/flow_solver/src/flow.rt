@@ -1,6 +1,12 @@
 //! What a solver finds of a net.
-ghost use Rattle.std.specs.Prelude.{◌≡◌};
+ghost use Rattle.std.specs.Prelude.{◌≡◌, ◌<◌, ℕ, length, pos, ◌≤ℤ◌};
+ghost use Rattle.setoff_model.specs.Setoff.{price_at};
+ghost use Rattle.netting_graph.specs.NetView.{obligations_of_net};
+ghost use Rattle.residual_state.specs.States.{IsStateOf};
+ghost use Rattle.flow_solver.specs.Solution.{IsSolution};
 
+use netting_graph::Net;
+use residual_state::State;
 use std::marker::Model;
 
 /// One flow for each arc of a net, in cents, and one price for each party.
@@ -40,10 +46,22 @@ impl Flow {
         &self.prices
     }
 
-    /// The prices alone.
-    pub fn into_prices(self) -> Vec<i64>
-        ensures { result.items ≡ self.prices }
+    /// The flows and the prices. It takes no memory.
+    pub fn into_parts(self) -> (Vec<u64>, Vec<i64>)
+        ensures flows { result.0.items ≡ self.flows }
+        ensures prices { result.1.items ≡ self.prices }
     {
-        self.prices
+        (self.flows, self.prices)
     }
+}
+
+/// What a state at rest has found of its net. It takes no memory.
+pub fn flow_at_rest(net: &Net, state: State) -> Flow
+    requires state { IsStateOf (obligations_of_net net.now) state }
+    requires rest { (v : ℕ) → v < length state.excess.items → price_at state.excess.items v ≤ℤ pos 0 }
+    ensures { IsSolution net.now result }
+{
+    let mut state = state;
+    state.flows.truncate(net.arcs().len());
+    Flow::new(state.flows, state.prices)
 }

@@ -1,33 +1,16 @@
-//! Solvers of nets: what each finds, and how its prices are squeezed.
+//! Solvers of nets: what each finds, and the plain one.
+//!
+//! A `Solver` finds a greatest set-off of a net, with prices that prove it. What it finds is a `Flow`. The plain solver is
+//! a loop over the one step that always lowers the measure of its state.
 #![tactic(auto)]
 
-mod around;
-mod crossing;
-mod edge;
-mod excess;
 mod flow;
-mod label;
-mod levels;
 mod plain_solver;
-mod price;
-mod push;
-mod scan;
 mod solver;
-mod squeezing;
-mod start;
-mod work;
 
-pub use around::Around;
-pub use edge::{Edge, edge_at};
-pub use excess::move_excess;
-pub use flow::Flow;
+pub use flow::{Flow, flow_at_rest};
 pub use plain_solver::PlainSolver;
-pub use price::gain_of;
 pub use solver::Solver;
-pub use squeezing::squeeze;
-pub use work::{Work, start as work_at_start, turn};
 
 #[cfg(test)]
 mod net_tests;
-#[cfg(test)]
-mod tests;

@@ -1,13 +1,13 @@
 //! The plain solver.
-ghost use Rattle.std.specs.Prelude.{◌≡◌, ◌<◌, ℕ, IfOk, length, pos, ◌≤ℤ◌, take};
+ghost use Rattle.std.specs.Prelude.{◌<◌, ℕ, IfOk, length, pos, ◌≤ℤ◌};
 ghost use Rattle.setoff_model.specs.Setoff.{price_at};
 ghost use Rattle.netting_graph.specs.NetView.{obligations_of_net};
-ghost use Rattle.flow_solver.specs.Works.{IsWork};
+ghost use Rattle.residual_state.specs.States.{IsStateOf};
 
-use crate::flow::Flow;
+use crate::flow::{Flow, flow_at_rest};
 use crate::solver::Solver;
-use crate::work::{Work, start, turn};
 use netting_graph::Net;
+use residual_state::{State, augment, state_at_start};
 use std::alloc::{AllocError, Global};
 
 /// Moves excess along labelled paths, and raises prices where no label passes.
@@ -33,21 +33,20 @@ impl PlainSolver {
 
 impl Solver for PlainSolver {
     fn solve(&self, alloc: Global, net: &Net) -> Result<Flow, AllocError> {
-        let mut work = solved(alloc, net)?;
-        work.flows.truncate(net.arcs().len());
-        Ok(Flow::new(work.flows, work.prices))
+        let state = solved(alloc, net)?;
+        Ok(flow_at_rest(net, state))
     }
 }
 
-// The work when no node has an excess above 0.
-fn solved(alloc: Global, net: &Net) -> Result<Work, AllocError>
-    ensures work { IfOk result (IsWork (obligations_of_net net.now)) }
-    ensures rest { IfOk result (λ work. (v : ℕ) → v < length work.excess.items → price_at work.excess.items v ≤ℤ pos 0) }
+// The state when no node has an excess above 0.
+fn solved(alloc: Global, net: &Net) -> Result<State, AllocError>
+    ensures state { IfOk result (IsStateOf (obligations_of_net net.now)) }
+    ensures rest { IfOk result (λ state. (v : ℕ) → v < length state.excess.items → price_at state.excess.items v ≤ℤ pos 0) }
 {
-    let mut work = start(alloc, net)?;
+    let mut state = state_at_start(alloc, net)?;
     loop {
-        if !turn(alloc, &mut work)? {
-            return Ok(work);
+        if !augment(alloc, &mut state)? {
+            return Ok(state);
         }
     }
 }

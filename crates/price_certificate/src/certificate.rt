@@ -6,8 +6,9 @@ ghost use Rattle.setoff_model.specs.Squeezing.{IsSqueezed};
 ghost use Rattle.netting_graph.specs.Merging.{IsNetOf, IsSpread};
 ghost use Rattle.flow_solver.specs.Solution.{IsSolution};
 
-use flow_solver::{Flow, squeeze};
+use flow_solver::Flow;
 use netting_graph::{Net, spread};
+use price_squeezing::squeeze;
 use setoff_model::{Cut, Outcome};
 use std::alloc::{AllocError, Global};
 
@@ -24,8 +25,8 @@ pub fn outcome_of(alloc: Global, cut: &Cut, net: &Net, flow: Flow) -> Result<Out
     ensures spread { IfOk result (λ outcome. IsSpread cut.now net.now flow.flows outcome.discharges) }
     ensures squeezed { IfOk result (λ outcome. IsSqueezed flow.prices outcome.prices) }
 {
-    let discharges = spread(alloc, cut, net, flow.flows())?;
-    let mut prices = flow.into_prices();
+    let (flows, mut prices) = flow.into_parts();
+    let discharges = spread(alloc, cut, net, &flows)?;
     squeeze(alloc, &mut prices)?;
     Ok(Outcome::new(discharges, prices))
 }

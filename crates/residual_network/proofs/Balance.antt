@@ -10,7 +10,7 @@ use Rattle.residual_network.specs.Network.{Network, has, owes}
 use Rattle.residual_network.specs.NetworkOf.{IsNetworkOf, IsAmongParties}
 use Rattle.residual_network.specs.Laws.{ExcessLaw}
 use Rattle.residual_network.proofs.Sums.{sum_below-none, all_flow}
-use Rattle.residual_network.proofs.Beginning.{is_network}
+use Rattle.residual_network.proofs.Beginning.{are_among}
 
 -- the supplies and the demands of all nodes are the spends
 supplies : (o : Obligations) (net : Network) → IsNetworkOf o net → sum_below (length net.supplies) (λ v. slice_index net.supplies v) ≡ sum o.spends
@@ -33,12 +33,12 @@ demands o net is =
 balanced : (o : Obligations) (net : Network) (x : List ℕ) → IsNetworkOf o net → IsAmongParties o → sum_below (length net.supplies) (has net x) ≡ sum_below (length net.supplies) (owes net x)
 balanced o net x is among =
     let n = length net.supplies in
-    let m = length net.capacities in
-    let network = is_network o net is among in
-    let into = all_flow m n (λ a. slice_index net.heads a) (λ a. slice_index x a) network.head in
-    let from = all_flow m n (λ a. slice_index net.tails a) (λ a. slice_index x a) network.tail in
-    let h = sum_below-add n (λ v. slice_index net.supplies v) (towards m (λ a. slice_index net.heads a) (λ a. slice_index x a)) in
-    let t = sum_below-add n (λ v. slice_index net.demands v) (towards m (λ a. slice_index net.tails a) (λ a. slice_index x a)) in
+    let m = length net.arcs.capacities in
+    let network = are_among o net is among in
+    let into = all_flow m n (λ a. slice_index net.arcs.heads a) (λ a. slice_index x a) network.head in
+    let from = all_flow m n (λ a. slice_index net.arcs.tails a) (λ a. slice_index x a) network.tail in
+    let h = sum_below-add n (λ v. slice_index net.supplies v) (towards m (λ a. slice_index net.arcs.heads a) (λ a. slice_index x a)) in
+    let t = sum_below-add n (λ v. slice_index net.demands v) (towards m (λ a. slice_index net.arcs.tails a) (λ a. slice_index x a)) in
     omega (arith, into, from, h, t, supplies o net is, demands o net is)
 
 pub excess_law : ExcessLaw

@@ -8,7 +8,7 @@ use Rattle.std.proofs.lemmas.List.{length-replicate, get_or-replicate, get_or_ap
 use Rattle.setoff_model.specs.Sums.{sum_below}
 use Rattle.setoff_model.specs.Setoff.{Obligations, flow_at, price_at}
 use Rattle.setoff_model.proofs.Circulation.{sum_below-same, sum_below-all}
-use Rattle.residual_network.specs.Network.{Network, arc_gain, has, owes, IsFlow, ArcSlack, AtRest, IsNetwork}
+use Rattle.residual_network.specs.Network.{Arcs, Network, arc_gain, has, owes, IsFlow, ArcSlack, AtRest, AreArcsAmong}
 use Rattle.residual_network.specs.NetworkOf.{IsNetworkOf, IsAmongParties, empty_flow, full_flow}
 use Rattle.residual_network.specs.Laws.{NetworkLaw}
 use Rattle.residual_network.proofs.Sums.{sum_below-split, sum_below-none, choose_yes, choose_no}
@@ -24,18 +24,18 @@ by_kind m n P claims windows a in' =
       | inr h ↦ let e : m + (a - m) ≡ a = omega (arith, h) in subst P e (windows (a - m) (omega (arith, in', h)))
     ]
 
-pub is_network : (o : Obligations) (net : Network) → IsNetworkOf o net → IsAmongParties o → IsNetwork net
-is_network o net is among = record {
-  tail = λ a in'. by_kind (length o.amounts) (length o.spends) (λ k. slice_index net.tails k < length net.supplies)
+pub are_among : (o : Obligations) (net : Network) → IsNetworkOf o net → IsAmongParties o → AreArcsAmong (length net.supplies) net.arcs
+are_among o net is among = record {
+  tail = λ a in'. by_kind (length o.amounts) (length o.spends) (λ k. slice_index net.arcs.tails k < length net.supplies)
       (λ c lt. let e = is.tail c lt in let i = among.debtor c lt in omega (arith, e, i, is.nodes))
       (λ f lt. let e = is.party f lt in omega (arith, e, lt, is.nodes)) a (omega (arith, is.arcs, in'));
-  head = λ a in'. by_kind (length o.amounts) (length o.spends) (λ k. slice_index net.heads k < length net.supplies)
+  head = λ a in'. by_kind (length o.amounts) (length o.spends) (λ k. slice_index net.arcs.heads k < length net.supplies)
       (λ c lt. let e = is.head c lt in let i = among.creditor c lt in omega (arith, e, i, is.nodes))
       (λ f lt. let e = is.ground f lt in omega (arith, e, is.nodes)) a (omega (arith, is.arcs, in'));
-  apart = λ a in'. by_kind (length o.amounts) (length o.spends) (λ k. slice_index net.tails k ≢ slice_index net.heads k)
+  apart = λ a in'. by_kind (length o.amounts) (length o.spends) (λ k. slice_index net.arcs.tails k ≢ slice_index net.arcs.heads k)
       (λ c lt s. among.apart c lt (sym (is.tail c lt) ∙ s ∙ is.head c lt))
       (λ f lt s. let t = is.party f lt in let h = is.ground f lt in omega (arith, t, h, s, lt)) a (omega (arith, is.arcs, in'));
-  reward = λ a in'. by_kind (length o.amounts) (length o.spends) (λ k. (slice_index net.rewards k ≡ 0) ⊎ (slice_index net.rewards k ≡ 1))
+  reward = λ a in'. by_kind (length o.amounts) (length o.spends) (λ k. (slice_index net.arcs.rewards k ≡ 0) ⊎ (slice_index net.arcs.rewards k ≡ 1))
       (λ c lt. inr (is.counts c lt)) (λ f lt. inl (is.free f lt)) a (omega (arith, is.arcs, in'));
 }
 
@@ -49,10 +49,10 @@ empty_window o f =
     let long : length (replicate (length o.amounts) 0) ≡ length o.amounts = length-replicate {A = ℕ} (length o.amounts) 0 in
     ap (λ (k : ℕ). slice_index (empty_flow o) (k + f)) (sym long) ∙ get_or-append-add (replicate (length o.amounts) 0) o.spends f 0
 
-pub empty_is_flow : (o : Obligations) (net : Network) → IsNetworkOf o net → IsFlow net (empty_flow o)
+pub empty_is_flow : (o : Obligations) (net : Network) → IsNetworkOf o net → IsFlow net.arcs (empty_flow o)
 empty_is_flow o net is = record {
   one_each = let a = length-append (replicate (length o.amounts) 0) o.spends in let b = length-replicate {A = ℕ} (length o.amounts) 0 in omega (arith, a, b, is.arcs);
-  within = λ a in'. by_kind (length o.amounts) (length o.spends) (λ k. slice_index (empty_flow o) k ≤ slice_index net.capacities k)
+  within = λ a in'. by_kind (length o.amounts) (length o.spends) (λ k. slice_index (empty_flow o) k ≤ slice_index net.arcs.capacities k)
       (λ c lt. let e = empty_claim o c lt in omega (arith, e))
       (λ f lt. let e = empty_window o f in let w = is.window f lt in omega (arith, e, w)) a (omega (arith, is.arcs, in'));
 }
@@ -79,12 +79,12 @@ empty_ground o net is =
     let m = length o.amounts in
     let n = length o.spends in
     let z : List ℕ = empty_flow o in
-    let into : ℕ → ℕ = λ a. if slice_index net.heads a == length o.spends then slice_index (empty_flow o) a else 0 in
-    let from : ℕ → ℕ = λ a. if slice_index net.tails a == length o.spends then slice_index (empty_flow o) a else 0 in
-    let whole_into : sum_below (length net.capacities) into ≡ sum_below (m + n) into = ap (λ k. sum_below k into) is.arcs in
-    let whole_from : sum_below (length net.capacities) from ≡ sum_below (m + n) from = ap (λ k. sum_below k from) is.arcs in
-    let claims_into : sum_below m into ≡ 0 = sum_below-none m into (λ c lt. nothing (slice_index net.heads c) (length o.spends) _ (empty_claim o c lt)) in
-    let claims_from : sum_below m from ≡ 0 = sum_below-none m from (λ c lt. nothing (slice_index net.tails c) (length o.spends) _ (empty_claim o c lt)) in
+    let into : ℕ → ℕ = λ a. if slice_index net.arcs.heads a == length o.spends then slice_index (empty_flow o) a else 0 in
+    let from : ℕ → ℕ = λ a. if slice_index net.arcs.tails a == length o.spends then slice_index (empty_flow o) a else 0 in
+    let whole_into : sum_below (length net.arcs.capacities) into ≡ sum_below (m + n) into = ap (λ k. sum_below k into) is.arcs in
+    let whole_from : sum_below (length net.arcs.capacities) from ≡ sum_below (m + n) from = ap (λ k. sum_below k from) is.arcs in
+    let claims_into : sum_below m into ≡ 0 = sum_below-none m into (λ c lt. nothing (slice_index net.arcs.heads c) (length o.spends) _ (empty_claim o c lt)) in
+    let claims_from : sum_below m from ≡ 0 = sum_below-none m from (λ c lt. nothing (slice_index net.arcs.tails c) (length o.spends) _ (empty_claim o c lt)) in
     let windows_into : sum_below n (λ f. into (m + f)) ≡ sum_below n (λ f. slice_index o.spends f) =
     sum_below-same n (λ f. into (m + f)) (λ f. slice_index o.spends f) (λ f lt. choose_yes _ (length o.spends) _ (is.ground f lt) ∙ empty_window o f) in
     let windows_from : sum_below n (λ f. from (m + f)) ≡ 0 =
@@ -109,28 +109,28 @@ full_claim o c lt = get_or_append_left o.amounts o.spends 0 c lt
 full_window : (o : Obligations) (f : ℕ) → slice_index (full_flow o) (length o.amounts + f) ≡ slice_index o.spends f
 full_window o f = get_or-append-add o.amounts o.spends f 0
 
-full_is_flow : (o : Obligations) (net : Network) → IsNetworkOf o net → IsFlow net (full_flow o)
+full_is_flow : (o : Obligations) (net : Network) → IsNetworkOf o net → IsFlow net.arcs (full_flow o)
 full_is_flow o net is = record {
   one_each = let a = length-append o.amounts o.spends in omega (arith, a, is.arcs);
-  within = λ a in'. by_kind (length o.amounts) (length o.spends) (λ k. slice_index (full_flow o) k ≤ slice_index net.capacities k)
+  within = λ a in'. by_kind (length o.amounts) (length o.spends) (λ k. slice_index (full_flow o) k ≤ slice_index net.arcs.capacities k)
       (λ c lt. let e = full_claim o c lt in let w = is.amount c lt in omega (arith, e, w))
       (λ f lt. let e = full_window o f in let w = is.window f lt in omega (arith, e, w)) a (omega (arith, is.arcs, in'));
 }
 
 -- at prices of 0 the gain of an arc is its reward
-free_gain : (net : Network) (p : List ℤ) (a : ℕ) → ((f : ℕ) → price_at p f ≡ pos 0) → arc_gain net p a ≡ pos (slice_index net.rewards a)
-free_gain net p a zeros =
-    let t = zeros (slice_index net.tails a) in
-    let h = zeros (slice_index net.heads a) in
+free_gain : (arcs : Arcs) (p : List ℤ) (a : ℕ) → ((f : ℕ) → price_at p f ≡ pos 0) → arc_gain arcs p a ≡ pos (slice_index arcs.rewards a)
+free_gain arcs p a zeros =
+    let t = zeros (slice_index arcs.tails a) in
+    let h = zeros (slice_index arcs.heads a) in
     omega (arith, ints, t, h)
 
-full_slack : (o : Obligations) (net : Network) (p : List ℤ) → IsNetworkOf o net → ((f : ℕ) → price_at p f ≡ pos 0) → ArcSlack net (full_flow o) p
+full_slack : (o : Obligations) (net : Network) (p : List ℤ) → IsNetworkOf o net → ((f : ℕ) → price_at p f ≡ pos 0) → ArcSlack net.arcs (full_flow o) p
 full_slack o net p is zeros = record {
-  full = λ a in'. by_kind (length o.amounts) (length o.spends) (λ k. pos 0 <ℤ arc_gain net p k → slice_index (full_flow o) k ≡ slice_index net.capacities k)
+  full = λ a in'. by_kind (length o.amounts) (length o.spends) (λ k. pos 0 <ℤ arc_gain net.arcs p k → slice_index (full_flow o) k ≡ slice_index net.arcs.capacities k)
       (λ c lt h. full_claim o c lt ∙ sym (is.amount c lt))
-      (λ f lt h. let g = free_gain net p (length o.amounts + f) zeros in let r = is.free f lt in absurd (omega (arith, ints, g, r, h))) a (omega (arith, is.arcs, in'));
-  empty = λ a in' h. let g = free_gain net p a zeros in absurd (omega (arith, ints, g, h));
+      (λ f lt h. let g = free_gain net.arcs p (length o.amounts + f) zeros in let r = is.free f lt in absurd (omega (arith, ints, g, r, h))) a (omega (arith, is.arcs, in'));
+  empty = λ a in' h. let g = free_gain net.arcs p a zeros in absurd (omega (arith, ints, g, h));
 }
 
 pub network_law : NetworkLaw
-network_law = record { network = is_network; empty = empty_is_flow; empty_rests = empty_rests; full = full_is_flow; full_slack = full_slack }
+network_law = record { among = are_among; empty_rests = empty_rests; full = full_is_flow; full_slack = full_slack }

@@ -50,17 +50,17 @@ arc_cut wt wh x z u (inr a) (inl b) out into le = let e = out a b in rw (a, b) (
 arc_cut wt wh x z u (inr a) (inr b) out into le = rw (a, b) (omega arith)
 
 -- no candidate: then no labelled node has more than it owes, if each has at least that
-pub no_cut : (net : Network) (x z : List ℕ) (labelled : List Bool) → IsFlow net z → AtRest net z → length labelled ≡ length net.supplies → NoCandidate net x labelled →
+pub no_cut : (net : Network) (x z : List ℕ) (labelled : List Bool) → IsFlow net.arcs z → AtRest net z → length labelled ≡ length net.supplies → NoCandidate net.arcs x labelled →
     ((v : ℕ) → v < length net.supplies → mark labelled v ≡ 1 → owes net x v ≤ has net x v) →
     (v : ℕ) → v < length net.supplies → mark labelled v ≡ 1 → has net x v ≡ owes net x v
 no_cut net x z labelled feasible rest each none at_least v in' marked =
-    let m = length net.capacities in
+    let m = length net.arcs.capacities in
     let n = length net.supplies in
     let w : ℕ → ℕ = λ f. mark labelled f in
     let sums : sum_below n (λ f. w f * has net x f) ≤ sum_below n (λ f. w f * owes net x f) =
-    no_more (length net.capacities) (length net.supplies) (λ f. mark labelled f) (λ f. slice_index net.supplies f) (λ f. slice_index net.demands f) (λ a. slice_index net.tails a) (λ a. slice_index net.heads a) (λ a. slice_index x a) (λ a. slice_index z a)
+    no_more (length net.arcs.capacities) (length net.supplies) (λ f. mark labelled f) (λ f. slice_index net.supplies f) (λ f. slice_index net.demands f) (λ a. slice_index net.arcs.tails a) (λ a. slice_index net.arcs.heads a) (λ a. slice_index x a) (λ a. slice_index z a)
     (λ f past. mark_past labelled (length net.supplies) f each past) rest
-    (λ a lt. arc_cut (mark labelled (slice_index net.tails a)) (mark labelled (slice_index net.heads a)) (slice_index x a) (slice_index z a) (slice_index net.capacities a) (mark_cases labelled _) (mark_cases labelled _) (none.out a lt) (none.into a lt) (feasible.within a lt)) in
+    (λ a lt. arc_cut (mark labelled (slice_index net.arcs.tails a)) (mark labelled (slice_index net.arcs.heads a)) (slice_index x a) (slice_index z a) (slice_index net.arcs.capacities a) (mark_cases labelled _) (mark_cases labelled _) (none.out a lt) (none.into a lt) (feasible.within a lt)) in
     let terms : (f : ℕ) → f < n → w f * owes net x f ≤ w f * has net x f = λ f lt.
     elim (mark_cases labelled f) as (λ _. mark labelled f * owes net x f ≤ mark labelled f * has net x f) [
       | inl out ↦ rw out (omega arith)

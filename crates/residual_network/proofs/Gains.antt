@@ -6,26 +6,26 @@ use Rattle.std.proofs.lemmas.Bool.{cases_lt}
 use Rattle.setoff_model.specs.Setoff.{price_at}
 use Rattle.setoff_model.specs.Squeezing.{IsSqueezed}
 use Rattle.setoff_model.proofs.Squeezed.{gain_above_back, gain_below_back, order_back, step_kept}
-use Rattle.residual_network.specs.Network.{Network, arc_gain, IsFlow, ArcSlack, IsNetwork}
+use Rattle.residual_network.specs.Network.{Arcs, arc_gain, IsFlow, ArcSlack, AreArcsAmong}
 use Rattle.residual_network.specs.Labels.{mark, IsBelowRaises, IsRaised}
 use Rattle.residual_network.specs.Laws.{RaiseLaw, SqueezingLaw}
 use Rattle.residual_network.proofs.Cut.{mark_cases}
 
 -- ---- the gains after a raise
 
-pub gain_inside : (net : Network) (p q : List ℤ) (labelled : List Bool) (d a : ℕ) → IsNetwork net → length labelled ≡ length net.supplies → IsRaised p q labelled d → a < length net.capacities → mark labelled (slice_index net.tails a) ≡ mark labelled (slice_index net.heads a) → arc_gain net q a ≡ arc_gain net p a
-gain_inside net p q labelled d a is each raised in' same =
-    let e = raised.both (slice_index net.tails a) (slice_index net.heads a) (let i = is.tail a in' in omega (arith, each, i)) (let i = is.head a in' in omega (arith, each, i)) same in
+pub gain_inside : (arcs : Arcs) (p q : List ℤ) (labelled : List Bool) (d a : ℕ) → AreArcsAmong (length labelled) arcs → IsRaised p q labelled d → a < length arcs.capacities → mark labelled (slice_index arcs.tails a) ≡ mark labelled (slice_index arcs.heads a) → arc_gain arcs q a ≡ arc_gain arcs p a
+gain_inside arcs p q labelled d a is raised in' same =
+    let e = raised.both (slice_index arcs.tails a) (slice_index arcs.heads a) (is.tail a in') (is.head a in') same in
     omega (arith, ints, e)
 
-pub gain_out : (net : Network) (p q : List ℤ) (labelled : List Bool) (d a : ℕ) → IsNetwork net → length labelled ≡ length net.supplies → IsRaised p q labelled d → a < length net.capacities → mark labelled (slice_index net.tails a) ≡ 1 → mark labelled (slice_index net.heads a) ≡ 0 → arc_gain net q a ≡ arc_gain net p a +ℤ pos d
-gain_out net p q labelled d a is each raised in' t h =
-    let e = raised.up (slice_index net.tails a) (slice_index net.heads a) (let i = is.tail a in' in omega (arith, each, i)) (let i = is.head a in' in omega (arith, each, i)) t h in
+pub gain_out : (arcs : Arcs) (p q : List ℤ) (labelled : List Bool) (d a : ℕ) → AreArcsAmong (length labelled) arcs → IsRaised p q labelled d → a < length arcs.capacities → mark labelled (slice_index arcs.tails a) ≡ 1 → mark labelled (slice_index arcs.heads a) ≡ 0 → arc_gain arcs q a ≡ arc_gain arcs p a +ℤ pos d
+gain_out arcs p q labelled d a is raised in' t h =
+    let e = raised.up (slice_index arcs.tails a) (slice_index arcs.heads a) (is.tail a in') (is.head a in') t h in
     omega (arith, ints, e)
 
-pub gain_into : (net : Network) (p q : List ℤ) (labelled : List Bool) (d a : ℕ) → IsNetwork net → length labelled ≡ length net.supplies → IsRaised p q labelled d → a < length net.capacities → mark labelled (slice_index net.tails a) ≡ 0 → mark labelled (slice_index net.heads a) ≡ 1 → arc_gain net q a ≡ arc_gain net p a -ℤ pos d
-gain_into net p q labelled d a is each raised in' t h =
-    let e = raised.up (slice_index net.heads a) (slice_index net.tails a) (let i = is.head a in' in omega (arith, each, i)) (let i = is.tail a in' in omega (arith, each, i)) h t in
+pub gain_into : (arcs : Arcs) (p q : List ℤ) (labelled : List Bool) (d a : ℕ) → AreArcsAmong (length labelled) arcs → IsRaised p q labelled d → a < length arcs.capacities → mark labelled (slice_index arcs.tails a) ≡ 0 → mark labelled (slice_index arcs.heads a) ≡ 1 → arc_gain arcs q a ≡ arc_gain arcs p a -ℤ pos d
+gain_into arcs p q labelled d a is raised in' t h =
+    let e = raised.up (slice_index arcs.heads a) (slice_index arcs.tails a) (is.head a in') (is.tail a in') h t in
     omega (arith, ints, e)
 
 -- ---- the facts of one arc
@@ -50,25 +50,25 @@ fact_into g h x u d e most facts = (
   λ b. elim (cases_lt 0 x) as (λ _. x ≡ 0) [ inl lt ↦ let le = most lt in absurd (omega (arith, ints, e, b, le)) | inr ge ↦ omega arith ],
 )
 
-raised_arc : (net : Network) (x : List ℕ) (p q : List ℤ) (labelled : List Bool) (d a : ℕ) → IsNetwork net → length labelled ≡ length net.supplies → IsFlow net x → ArcSlack net x p → IsRaised p q labelled d → IsBelowRaises net x p labelled d → a < length net.capacities →
-    ArcKept (arc_gain net q a) (slice_index x a) (slice_index net.capacities a)
-raised_arc net x p q labelled d a is each flow facts raised least in' =
-    let old : ArcKept (arc_gain net p a) (slice_index x a) (slice_index net.capacities a) = (facts.full a in', facts.empty a in') in
-    elim (mark_cases labelled (slice_index net.tails a)) as (λ _. ArcKept (arc_gain net q a) (slice_index x a) (slice_index net.capacities a)) [
-      | inl t0 ↦ elim (mark_cases labelled (slice_index net.heads a)) as (λ _. ArcKept (arc_gain net q a) (slice_index x a) (slice_index net.capacities a)) [
-        | inl h0 ↦ fact_same (arc_gain net p a) (arc_gain net q a) _ _ (gain_inside net p q labelled d a is each raised in' (t0 ∙ sym h0)) old
-        | inr h1 ↦ fact_into (arc_gain net p a) (arc_gain net q a) (slice_index x a) (slice_index net.capacities a) d (gain_into net p q labelled d a is each raised in' t0 h1) (least.into a in' t0 h1) old
+raised_arc : (arcs : Arcs) (x : List ℕ) (p q : List ℤ) (labelled : List Bool) (d a : ℕ) → AreArcsAmong (length labelled) arcs → IsFlow arcs x → ArcSlack arcs x p → IsRaised p q labelled d → IsBelowRaises arcs x p labelled d → a < length arcs.capacities →
+    ArcKept (arc_gain arcs q a) (slice_index x a) (slice_index arcs.capacities a)
+raised_arc arcs x p q labelled d a is flow facts raised least in' =
+    let old : ArcKept (arc_gain arcs p a) (slice_index x a) (slice_index arcs.capacities a) = (facts.full a in', facts.empty a in') in
+    elim (mark_cases labelled (slice_index arcs.tails a)) as (λ _. ArcKept (arc_gain arcs q a) (slice_index x a) (slice_index arcs.capacities a)) [
+      | inl t0 ↦ elim (mark_cases labelled (slice_index arcs.heads a)) as (λ _. ArcKept (arc_gain arcs q a) (slice_index x a) (slice_index arcs.capacities a)) [
+        | inl h0 ↦ fact_same (arc_gain arcs p a) (arc_gain arcs q a) _ _ (gain_inside arcs p q labelled d a is raised in' (t0 ∙ sym h0)) old
+        | inr h1 ↦ fact_into (arc_gain arcs p a) (arc_gain arcs q a) (slice_index x a) (slice_index arcs.capacities a) d (gain_into arcs p q labelled d a is raised in' t0 h1) (least.into a in' t0 h1) old
       ]
-      | inr t1 ↦ elim (mark_cases labelled (slice_index net.heads a)) as (λ _. ArcKept (arc_gain net q a) (slice_index x a) (slice_index net.capacities a)) [
-        | inl h0 ↦ fact_out (arc_gain net p a) (arc_gain net q a) (slice_index x a) (slice_index net.capacities a) d (gain_out net p q labelled d a is each raised in' t1 h0) (flow.within a in') (least.out a in' t1 h0) old
-        | inr h1 ↦ fact_same (arc_gain net p a) (arc_gain net q a) _ _ (gain_inside net p q labelled d a is each raised in' (t1 ∙ sym h1)) old
+      | inr t1 ↦ elim (mark_cases labelled (slice_index arcs.heads a)) as (λ _. ArcKept (arc_gain arcs q a) (slice_index x a) (slice_index arcs.capacities a)) [
+        | inl h0 ↦ fact_out (arc_gain arcs p a) (arc_gain arcs q a) (slice_index x a) (slice_index arcs.capacities a) d (gain_out arcs p q labelled d a is raised in' t1 h0) (flow.within a in') (least.out a in' t1 h0) old
+        | inr h1 ↦ fact_same (arc_gain arcs p a) (arc_gain arcs q a) _ _ (gain_inside arcs p q labelled d a is raised in' (t1 ∙ sym h1)) old
       ]
     ]
 
-pub raise_slack : (net : Network) (x : List ℕ) (p q : List ℤ) (labelled : List Bool) (d : ℕ) → IsNetwork net → length labelled ≡ length net.supplies → IsFlow net x → ArcSlack net x p → IsRaised p q labelled d → IsBelowRaises net x p labelled d → ArcSlack net x q
-raise_slack net x p q labelled d is each flow facts raised least = record {
-  full = λ a in'. (raised_arc net x p q labelled d a is each flow facts raised least in').0;
-  empty = λ a in'. (raised_arc net x p q labelled d a is each flow facts raised least in').1;
+pub raise_slack : (arcs : Arcs) (x : List ℕ) (p q : List ℤ) (labelled : List Bool) (d : ℕ) → AreArcsAmong (length labelled) arcs → IsFlow arcs x → ArcSlack arcs x p → IsRaised p q labelled d → IsBelowRaises arcs x p labelled d → ArcSlack arcs x q
+raise_slack arcs x p q labelled d is flow facts raised least = record {
+  full = λ a in'. (raised_arc arcs x p q labelled d a is flow facts raised least in').0;
+  empty = λ a in'. (raised_arc arcs x p q labelled d a is flow facts raised least in').1;
 }
 
 pub raise_law : RaiseLaw
@@ -96,10 +96,10 @@ below_back r p q f g (inr e) squeezed h =
     let was = gain_below_back p q f g squeezed one in
     omega (arith, ints, e, was)
 
-pub squeezing_slack : (net : Network) (x : List ℕ) (p q : List ℤ) → IsNetwork net → IsSqueezed p q → ArcSlack net x p → ArcSlack net x q
-squeezing_slack net x p q is squeezed facts = record {
-  full = λ a in' h. facts.full a in' (above_back (slice_index net.rewards a) p q (slice_index net.tails a) (slice_index net.heads a) (is.reward a in') squeezed h);
-  empty = λ a in' h. facts.empty a in' (below_back (slice_index net.rewards a) p q (slice_index net.tails a) (slice_index net.heads a) (is.reward a in') squeezed h);
+pub squeezing_slack : (arcs : Arcs) (x : List ℕ) (p q : List ℤ) (n : ℕ) → AreArcsAmong n arcs → IsSqueezed p q → ArcSlack arcs x p → ArcSlack arcs x q
+squeezing_slack arcs x p q n is squeezed facts = record {
+  full = λ a in' h. facts.full a in' (above_back (slice_index arcs.rewards a) p q (slice_index arcs.tails a) (slice_index arcs.heads a) (is.reward a in') squeezed h);
+  empty = λ a in' h. facts.empty a in' (below_back (slice_index arcs.rewards a) p q (slice_index arcs.tails a) (slice_index arcs.heads a) (is.reward a in') squeezed h);
 }
 
 -- a gain of 0 stays 0
@@ -112,5 +112,5 @@ even_kept r p q f g (inr e) squeezed h =
 pub squeezing_law : SqueezingLaw
 squeezing_law = record {
   slack = squeezing_slack;
-  even = λ net p q a is squeezed in' h. even_kept (slice_index net.rewards a) p q (slice_index net.tails a) (slice_index net.heads a) (is.reward a in') squeezed h;
+  even = λ arcs p q n a is squeezed in' h. even_kept (slice_index arcs.rewards a) p q (slice_index arcs.tails a) (slice_index arcs.heads a) (is.reward a in') squeezed h;
 }

@@ -6,3 +6,4 @@ pub mod Beginning
 pub mod Balance
 pub mod Gains
 pub mod Walk
+pub mod Distant

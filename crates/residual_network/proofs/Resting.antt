@@ -18,8 +18,8 @@ pub in_at : (o : Obligations) (net : Network) (x d : List ℕ) (f : ℕ) → IsN
 in_at o net x d f is same in' =
     let m = length o.amounts in
     let n = length o.spends in
-    let g : ℕ → ℕ = λ c. if slice_index net.heads c == f then slice_index x c else 0 in
-    let whole : sum_below (length net.capacities) g ≡ sum_below (m + n) g = ap (λ k. sum_below k g) is.arcs in
+    let g : ℕ → ℕ = λ c. if slice_index net.arcs.heads c == f then slice_index x c else 0 in
+    let whole : sum_below (length net.arcs.capacities) g ≡ sum_below (m + n) g = ap (λ k. sum_below k g) is.arcs in
     let split = sum_below-split m n g in
     let claims : sum_below m g ≡ inflow o d f = sum_below-same m g (λ c. if slice_index o.creditors c == f then slice_index d c else 0) (λ c lt. let h = is.head c lt in let s = same c lt in rw (h, s) refl) in
     let none : sum_below n (λ k. g (m + k)) ≡ 0 = sum_below-same n (λ k. g (m + k)) (λ _. 0) (λ k lt. choose_no _ f _ (λ e. absurd (omega (arith, e, is.ground k lt)))) ∙ sum_below-zero n in
@@ -29,8 +29,8 @@ pub out_at : (o : Obligations) (net : Network) (x d : List ℕ) (f : ℕ) → Is
 out_at o net x d f is same in' =
     let m = length o.amounts in
     let n = length o.spends in
-    let g : ℕ → ℕ = λ c. if slice_index net.tails c == f then slice_index x c else 0 in
-    let whole : sum_below (length net.capacities) g ≡ sum_below (m + n) g = ap (λ k. sum_below k g) is.arcs in
+    let g : ℕ → ℕ = λ c. if slice_index net.arcs.tails c == f then slice_index x c else 0 in
+    let whole : sum_below (length net.arcs.capacities) g ≡ sum_below (m + n) g = ap (λ k. sum_below k g) is.arcs in
     let split = sum_below-split m n g in
     let claims : sum_below m g ≡ outflow o d f = sum_below-same m g (λ c. if slice_index o.debtors c == f then slice_index d c else 0) (λ c lt. let h = is.tail c lt in let s = same c lt in rw (h, s) refl) in
     let only : sum_below n (λ k. g (m + k)) ≡ g (m + f) = sum_below-only n f (λ k. g (m + k)) in' (λ k lt ne. choose_no _ f _ (λ e. ne (omega (arith, e, is.party k lt)))) in
@@ -46,7 +46,7 @@ rest_at o net x d f is rest same in' =
     let r = rest f (omega (arith, is.nodes)) in
     omega (arith, a, b, r)
 
-pub rest_lawful : (o : Obligations) (net : Network) (x d : List ℕ) → IsNetworkOf o net → IsFlow net x → AtRest net x → length d ≡ length o.amounts → ((c : ℕ) → c < length o.amounts → slice_index d c ≡ slice_index x c) → IsLawful o d
+pub rest_lawful : (o : Obligations) (net : Network) (x d : List ℕ) → IsNetworkOf o net → IsFlow net.arcs x → AtRest net x → length d ≡ length o.amounts → ((c : ℕ) → c < length o.amounts → slice_index d c ≡ slice_index x c) → IsLawful o d
 rest_lawful o net x d is flow rest one same = record {
   one_each = one;
   within = λ c in'. let w = flow.within c (omega (arith, is.arcs)) in omega (arith, w, same c in', is.amount c in');
@@ -57,7 +57,7 @@ rest_lawful o net x d is flow rest one same = record {
       record { room_kept = omega (arith, e, w, k); spend_kept = omega (arith, e) };
 }
 
-pub rest_slack : (o : Obligations) (net : Network) (x d : List ℕ) (p : List ℤ) → IsNetworkOf o net → IsFlow net x → AtRest net x → ArcSlack net x p → length p ≡ length o.spends → ((c : ℕ) → c < length o.amounts → slice_index d c ≡ slice_index x c) → Slack o d p
+pub rest_slack : (o : Obligations) (net : Network) (x d : List ℕ) (p : List ℤ) → IsNetworkOf o net → IsFlow net.arcs x → AtRest net x → ArcSlack net.arcs x p → length p ≡ length o.spends → ((c : ℕ) → c < length o.amounts → slice_index d c ≡ slice_index x c) → Slack o d p
 rest_slack o net x d p is flow rest facts each same = record {
   full = λ c in' h. same c in' ∙ facts.full c (omega (arith, is.arcs)) (subst (λ (z : ℤ). pos 0 <ℤ z) (sym (claim_gain c in')) h) ∙ is.amount c in';
   empty = λ c in' h. same c in' ∙ facts.empty c (omega (arith, is.arcs)) (subst (λ (z : ℤ). z <ℤ pos 0) (sym (claim_gain c in')) h);
@@ -71,10 +71,10 @@ rest_slack o net x d p is flow rest facts each same = record {
       omega (arith, e, empty);
 }
   where
-    claim_gain : (c : ℕ) → c < length o.amounts → arc_gain net p c ≡ gain o p c
+    claim_gain : (c : ℕ) → c < length o.amounts → arc_gain net.arcs p c ≡ gain o p c
     claim_gain c in' = let t = is.tail c in' in let h = is.head c in' in let r = is.counts c in' in rw (t, h, r) refl
 
-    window_gain : (f : ℕ) → f < length o.spends → arc_gain net p (length o.amounts + f) ≡ price_at p f
+    window_gain : (f : ℕ) → f < length o.spends → arc_gain net.arcs p (length o.amounts + f) ≡ price_at p f
     window_gain f in' =
         let t = is.party f in' in let h = is.ground f in' in let r = is.free f in' in
         let z : price_at p (length o.spends) ≡ pos 0 = price_past p (length o.spends) (omega (arith, each)) in

@@ -1,7 +1,7 @@
 -- Labelled nodes, the raises of their prices, and the walks by which labels are passed.
 use Rattle.std.specs.Prelude.{◌≡◌, ◌⊎◌, ℕ, ◌<◌, List, Bool, true, false, length, slice_index, slice_index_or, ℤ, pos, ◌+ℤ◌, ◌-ℤ◌, ◌≤ℤ◌}
 use Rattle.setoff_model.specs.Setoff.{price_at}
-use Rattle.residual_network.specs.Network.{Network, arc_gain}
+use Rattle.residual_network.specs.Network.{Arcs, arc_gain}
 
 abbrev pub one_if : Bool → ℕ
 one_if true = 1
@@ -12,14 +12,14 @@ abbrev pub mark : List Bool → ℕ → ℕ
 mark labelled v = one_if (slice_index_or labelled v false)
 
 -- d is at most the raise that each arc needs before a label can leave the labelled nodes over it
-pub record IsBelowRaises (net : Network) (x : List ℕ) (p : List ℤ) (labelled : List Bool) (d : ℕ) : Type 0 where
-  pub out : (a : ℕ) → a < length net.capacities → mark labelled (slice_index net.tails a) ≡ 1 → mark labelled (slice_index net.heads a) ≡ 0 → slice_index x a < slice_index net.capacities a → (arc_gain net p a +ℤ pos d) ≤ℤ pos 0
-  pub into : (a : ℕ) → a < length net.capacities → mark labelled (slice_index net.tails a) ≡ 0 → mark labelled (slice_index net.heads a) ≡ 1 → 0 < slice_index x a → pos d ≤ℤ arc_gain net p a
+pub record IsBelowRaises (arcs : Arcs) (x : List ℕ) (p : List ℤ) (labelled : List Bool) (d : ℕ) : Type 0 where
+  pub out : (a : ℕ) → a < length arcs.capacities → mark labelled (slice_index arcs.tails a) ≡ 1 → mark labelled (slice_index arcs.heads a) ≡ 0 → slice_index x a < slice_index arcs.capacities a → (arc_gain arcs p a +ℤ pos d) ≤ℤ pos 0
+  pub into : (a : ℕ) → a < length arcs.capacities → mark labelled (slice_index arcs.tails a) ≡ 0 → mark labelled (slice_index arcs.heads a) ≡ 1 → 0 < slice_index x a → pos d ≤ℤ arc_gain arcs p a
 
 -- no label can leave the labelled nodes over any arc, whatever the raise
-pub record NoCandidate (net : Network) (x : List ℕ) (labelled : List Bool) : Type 0 where
-  pub out : (a : ℕ) → a < length net.capacities → mark labelled (slice_index net.tails a) ≡ 1 → mark labelled (slice_index net.heads a) ≡ 0 → slice_index x a ≡ slice_index net.capacities a
-  pub into : (a : ℕ) → a < length net.capacities → mark labelled (slice_index net.tails a) ≡ 0 → mark labelled (slice_index net.heads a) ≡ 1 → slice_index x a ≡ 0
+pub record NoCandidate (arcs : Arcs) (x : List ℕ) (labelled : List Bool) : Type 0 where
+  pub out : (a : ℕ) → a < length arcs.capacities → mark labelled (slice_index arcs.tails a) ≡ 1 → mark labelled (slice_index arcs.heads a) ≡ 0 → slice_index x a ≡ slice_index arcs.capacities a
+  pub into : (a : ℕ) → a < length arcs.capacities → mark labelled (slice_index arcs.tails a) ≡ 0 → mark labelled (slice_index arcs.heads a) ≡ 1 → slice_index x a ≡ 0
 
 -- the prices of the labelled nodes are raised by d against those of the others; so the others may be lowered instead
 pub record IsRaised (p q : List ℤ) (labelled : List Bool) (d : ℕ) : Type 0 where

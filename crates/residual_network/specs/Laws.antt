@@ -1,19 +1,19 @@
 -- The laws that a solver stands on.
-use Rattle.std.specs.Prelude.{◌≡◌, ◌≢◌, ℕ, ◌+◌, ◌-◌, ◌<◌, ◌≤◌, List, Bool, length, set, slice_index, ℤ, pos, ◌+ℤ◌, ◌-ℤ◌, ◌≤ℤ◌}
+use Rattle.std.specs.Prelude.{◌≡◌, ◌≢◌, ◌⊎◌, ℕ, ◌+◌, ◌-◌, ◌<◌, ◌≤◌, List, Bool, length, set, slice_index, ℤ, pos, ◌+ℤ◌, ◌-ℤ◌, ◌≤ℤ◌}
 use Rattle.setoff_model.specs.Sums.{sum_below, above_zero}
 use Rattle.setoff_model.specs.Setoff.{Obligations, IsLawful, price_at, total_of, bound_of}
 use Rattle.setoff_model.specs.Squeezing.{IsSqueezed}
-use Rattle.residual_network.specs.Network.{Network, arc_gain, has, owes, excess_at, surplus_of, IsFlow, ArcSlack, AtRest, IsNetwork, IsMoved}
+use Rattle.residual_network.specs.Network.{Arcs, Network, arc_gain, brought, has, owes, excess_at, IsFlow, ArcSlack, AtRest, AreArcsAmong, IsMoved}
 use Rattle.residual_network.specs.Labels.{mark, NoCandidate, IsRaised, IsBelowRaises, IsReached}
+use Rattle.residual_network.specs.Distances.{IsDistance}
 use Rattle.residual_network.specs.NetworkOf.{IsNetworkOf, IsAmongParties, empty_flow, full_flow}
 
 -- the network of obligations, and two flows on it
 pub record NetworkLaw : Type 0 where
-  pub network : (o : Obligations) (net : Network) → IsNetworkOf o net → IsAmongParties o → IsNetwork net
-  pub empty : (o : Obligations) (net : Network) → IsNetworkOf o net → IsFlow net (empty_flow o)
+  pub among : (o : Obligations) (net : Network) → IsNetworkOf o net → IsAmongParties o → AreArcsAmong (length net.supplies) net.arcs
   pub empty_rests : (o : Obligations) (net : Network) → IsNetworkOf o net → AtRest net (empty_flow o)
-  pub full : (o : Obligations) (net : Network) → IsNetworkOf o net → IsFlow net (full_flow o)
-  pub full_slack : (o : Obligations) (net : Network) (p : List ℤ) → IsNetworkOf o net → ((f : ℕ) → price_at p f ≡ pos 0) → ArcSlack net (full_flow o) p
+  pub full : (o : Obligations) (net : Network) → IsNetworkOf o net → IsFlow net.arcs (full_flow o)
+  pub full_slack : (o : Obligations) (net : Network) (p : List ℤ) → IsNetworkOf o net → ((f : ℕ) → price_at p f ≡ pos 0) → ArcSlack net.arcs (full_flow o) p
 
 -- all nodes together have what they owe, so where none has more each has it
 pub record ExcessLaw : Type 0 where
@@ -22,39 +22,44 @@ pub record ExcessLaw : Type 0 where
 
 -- a flow at rest is lawful on the claims, and where it keeps the facts of its arcs its total is the bound
 pub record RestLaw : Type 0 where
-  pub lawful : (o : Obligations) (net : Network) (x d : List ℕ) → IsNetworkOf o net → IsFlow net x → AtRest net x → length d ≡ length o.amounts → ((c : ℕ) → c < length o.amounts → slice_index d c ≡ slice_index x c) → IsLawful o d
-  pub tight : (o : Obligations) (net : Network) (x d : List ℕ) (p : List ℤ) → IsNetworkOf o net → IsFlow net x → AtRest net x → ArcSlack net x p → length p ≡ length o.spends → length d ≡ length o.amounts → ((c : ℕ) → c < length o.amounts → slice_index d c ≡ slice_index x c) → total_of d ≡ bound_of o p
+  pub lawful : (o : Obligations) (net : Network) (x d : List ℕ) → IsNetworkOf o net → IsFlow net.arcs x → AtRest net x → length d ≡ length o.amounts → ((c : ℕ) → c < length o.amounts → slice_index d c ≡ slice_index x c) → IsLawful o d
+  pub tight : (o : Obligations) (net : Network) (x d : List ℕ) (p : List ℤ) → IsNetworkOf o net → IsFlow net.arcs x → AtRest net x → ArcSlack net.arcs x p → length p ≡ length o.spends → length d ≡ length o.amounts → ((c : ℕ) → c < length o.amounts → slice_index d c ≡ slice_index x c) → total_of d ≡ bound_of o p
 
 -- an arc with gain 0 may have any flow that it holds, and what it has more is moved from its tail to its head
 pub record PushLaw : Type 0 where
-  pub slack : (net : Network) (x : List ℕ) (p : List ℤ) (a y : ℕ) → ArcSlack net x p → arc_gain net p a ≡ pos 0 → ArcSlack net (set x a y) p
-  pub flow : (net : Network) (x : List ℕ) (a y : ℕ) → IsFlow net x → y ≤ slice_index net.capacities a → IsFlow net (set x a y)
-  pub forward : (net : Network) (x : List ℕ) (a d : ℕ) → IsNetwork net → IsFlow net x → a < length net.capacities → IsMoved (excess_at net x) (excess_at net (set x a (slice_index x a + d))) (slice_index net.tails a) (slice_index net.heads a) d
-  pub back : (net : Network) (x : List ℕ) (a d : ℕ) → IsNetwork net → IsFlow net x → a < length net.capacities → d ≤ slice_index x a → IsMoved (excess_at net x) (excess_at net (set x a (slice_index x a - d))) (slice_index net.heads a) (slice_index net.tails a) d
-  pub joined : (e f g : ℕ → ℤ) (r s t d : ℕ) → r ≢ s → r ≢ t → s ≢ t → IsMoved e f s t d → IsMoved f g r s d → IsMoved e g r t d
+  pub slack : (arcs : Arcs) (x : List ℕ) (p : List ℤ) (a y : ℕ) → ArcSlack arcs x p → arc_gain arcs p a ≡ pos 0 → ArcSlack arcs (set x a y) p
+  pub flow : (arcs : Arcs) (x : List ℕ) (a y : ℕ) → IsFlow arcs x → y ≤ slice_index arcs.capacities a → IsFlow arcs (set x a y)
+  pub forward : (arcs : Arcs) (x : List ℕ) (a d : ℕ) → IsFlow arcs x → a < length arcs.capacities → slice_index arcs.tails a ≢ slice_index arcs.heads a → IsMoved (brought arcs x) (brought arcs (set x a (slice_index x a + d))) (slice_index arcs.tails a) (slice_index arcs.heads a) d
+  pub back : (arcs : Arcs) (x : List ℕ) (a d : ℕ) → IsFlow arcs x → a < length arcs.capacities → slice_index arcs.tails a ≢ slice_index arcs.heads a → d ≤ slice_index x a → IsMoved (brought arcs x) (brought arcs (set x a (slice_index x a - d))) (slice_index arcs.heads a) (slice_index arcs.tails a) d
+  pub excess : (net : Network) (x y : List ℕ) (s t d : ℕ) → IsMoved (brought net.arcs x) (brought net.arcs y) s t d → IsMoved (excess_at net x) (excess_at net y) s t d
 
--- what is moved from a node that has it to one that wants it lowers the sum of the excesses above 0
+-- what is moved from a node that has it to one that wants it lowers the sum of the excesses above 0; where one of the two
+-- has it or wants it, the sum rises by nothing
 pub record SurplusLaw : Type 0 where
   pub falls : (n s t d : ℕ) (old new : ℕ → ℤ) → s < n → t < n → s ≢ t → pos d ≤ℤ old s → (old t +ℤ pos d) ≤ℤ pos 0 → IsMoved old new s t d → sum_below n (λ v. above_zero (new v)) + d ≡ sum_below n (λ v. above_zero (old v))
-  pub flow_falls : (net : Network) (x y : List ℕ) (s t d : ℕ) → s < length net.supplies → t < length net.supplies → s ≢ t → pos d ≤ℤ excess_at net x s → (excess_at net x t +ℤ pos d) ≤ℤ pos 0 → IsMoved (excess_at net x) (excess_at net y) s t d → surplus_of net y + d ≡ surplus_of net x
+  pub no_rise : (n s t d : ℕ) (old new : ℕ → ℤ) → s < n → t < n → s ≢ t → (pos d ≤ℤ old s) ⊎ ((old t +ℤ pos d) ≤ℤ pos 0) → IsMoved old new s t d → sum_below n (λ v. above_zero (new v)) ≤ sum_below n (λ v. above_zero (old v))
 
 -- where labelled nodes have excess, and none wants any, some arc can let a label out, perhaps after a raise
 pub record RaiseExists : Type 0 where
-  pub none : (o : Obligations) (net : Network) (x : List ℕ) (labelled : List Bool) → IsNetworkOf o net → length labelled ≡ length net.supplies → NoCandidate net x labelled →
+  pub none : (o : Obligations) (net : Network) (x : List ℕ) (labelled : List Bool) → IsNetworkOf o net → length labelled ≡ length net.supplies → NoCandidate net.arcs x labelled →
       ((v : ℕ) → v < length net.supplies → mark labelled v ≡ 1 → pos 0 ≤ℤ excess_at net x v) →
       (v : ℕ) → v < length net.supplies → mark labelled v ≡ 1 → excess_at net x v ≡ pos 0
 
 -- a raise that is at most what each arc needs keeps the facts; and gains change only where a label may be let out
 pub record RaiseLaw : Type 0 where
-  pub slack : (net : Network) (x : List ℕ) (p q : List ℤ) (labelled : List Bool) (d : ℕ) → IsNetwork net → length labelled ≡ length net.supplies → IsFlow net x → ArcSlack net x p → IsRaised p q labelled d → IsBelowRaises net x p labelled d → ArcSlack net x q
-  pub inside : (net : Network) (p q : List ℤ) (labelled : List Bool) (d a : ℕ) → IsNetwork net → length labelled ≡ length net.supplies → IsRaised p q labelled d → a < length net.capacities → mark labelled (slice_index net.tails a) ≡ mark labelled (slice_index net.heads a) → arc_gain net q a ≡ arc_gain net p a
-  pub out : (net : Network) (p q : List ℤ) (labelled : List Bool) (d a : ℕ) → IsNetwork net → length labelled ≡ length net.supplies → IsRaised p q labelled d → a < length net.capacities → mark labelled (slice_index net.tails a) ≡ 1 → mark labelled (slice_index net.heads a) ≡ 0 → arc_gain net q a ≡ arc_gain net p a +ℤ pos d
-  pub into : (net : Network) (p q : List ℤ) (labelled : List Bool) (d a : ℕ) → IsNetwork net → length labelled ≡ length net.supplies → IsRaised p q labelled d → a < length net.capacities → mark labelled (slice_index net.tails a) ≡ 0 → mark labelled (slice_index net.heads a) ≡ 1 → arc_gain net q a ≡ arc_gain net p a -ℤ pos d
+  pub slack : (arcs : Arcs) (x : List ℕ) (p q : List ℤ) (labelled : List Bool) (d : ℕ) → AreArcsAmong (length labelled) arcs → IsFlow arcs x → ArcSlack arcs x p → IsRaised p q labelled d → IsBelowRaises arcs x p labelled d → ArcSlack arcs x q
+  pub inside : (arcs : Arcs) (p q : List ℤ) (labelled : List Bool) (d a : ℕ) → AreArcsAmong (length labelled) arcs → IsRaised p q labelled d → a < length arcs.capacities → mark labelled (slice_index arcs.tails a) ≡ mark labelled (slice_index arcs.heads a) → arc_gain arcs q a ≡ arc_gain arcs p a
+  pub out : (arcs : Arcs) (p q : List ℤ) (labelled : List Bool) (d a : ℕ) → AreArcsAmong (length labelled) arcs → IsRaised p q labelled d → a < length arcs.capacities → mark labelled (slice_index arcs.tails a) ≡ 1 → mark labelled (slice_index arcs.heads a) ≡ 0 → arc_gain arcs q a ≡ arc_gain arcs p a +ℤ pos d
+  pub into : (arcs : Arcs) (p q : List ℤ) (labelled : List Bool) (d a : ℕ) → AreArcsAmong (length labelled) arcs → IsRaised p q labelled d → a < length arcs.capacities → mark labelled (slice_index arcs.tails a) ≡ 0 → mark labelled (slice_index arcs.heads a) ≡ 1 → arc_gain arcs q a ≡ arc_gain arcs p a -ℤ pos d
+
+-- where each price falls by the distance of its node, and all rise by one number, the facts are kept
+pub record DistanceLaw : Type 0 where
+  pub slack : (arcs : Arcs) (x : List ℕ) (p q : List ℤ) (distance : ℕ → ℕ) (by : ℤ) → IsFlow arcs x → IsDistance arcs x p distance → ((v : ℕ) → (price_at q v +ℤ pos (distance v)) ≡ (price_at p v +ℤ by)) → ArcSlack arcs x q
 
 -- squeezing keeps the facts, and each gain of 0
 pub record SqueezingLaw : Type 0 where
-  pub slack : (net : Network) (x : List ℕ) (p q : List ℤ) → IsNetwork net → IsSqueezed p q → ArcSlack net x p → ArcSlack net x q
-  pub even : (net : Network) (p q : List ℤ) (a : ℕ) → IsNetwork net → IsSqueezed p q → a < length net.capacities → arc_gain net p a ≡ pos 0 → arc_gain net q a ≡ pos 0
+  pub slack : (arcs : Arcs) (x : List ℕ) (p q : List ℤ) (n : ℕ) → AreArcsAmong n arcs → IsSqueezed p q → ArcSlack arcs x p → ArcSlack arcs x q
+  pub even : (arcs : Arcs) (p q : List ℤ) (n a : ℕ) → AreArcsAmong n arcs → IsSqueezed p q → a < length arcs.capacities → arc_gain arcs p a ≡ pos 0 → arc_gain arcs q a ≡ pos 0
 
 -- where no node is reached twice, no arc is taken twice
 pub record WalkLaw : Type 0 where

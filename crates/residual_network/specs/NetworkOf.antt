@@ -7,15 +7,15 @@ use Rattle.residual_network.specs.Network.{Network}
 -- Then comes one arc for each window, from its party to the ground, where a unit counts nothing. A flow of y on it says that the party's
 -- balance rises by y less its spend. So a party has its spend beside the flow, and the ground owes the sum of the spends.
 pub record IsNetworkOf (o : Obligations) (net : Network) : Type 0 where
-  pub arcs : length net.capacities ≡ length o.amounts + length o.spends
-  pub tail : (c : ℕ) → c < length o.amounts → slice_index net.tails c ≡ slice_index o.debtors c
-  pub head : (c : ℕ) → c < length o.amounts → slice_index net.heads c ≡ slice_index o.creditors c
-  pub amount : (c : ℕ) → c < length o.amounts → slice_index net.capacities c ≡ slice_index o.amounts c
-  pub counts : (c : ℕ) → c < length o.amounts → slice_index net.rewards c ≡ 1
-  pub party : (f : ℕ) → f < length o.spends → slice_index net.tails (length o.amounts + f) ≡ f
-  pub ground : (f : ℕ) → f < length o.spends → slice_index net.heads (length o.amounts + f) ≡ length o.spends
-  pub window : (f : ℕ) → f < length o.spends → slice_index net.capacities (length o.amounts + f) ≡ slice_index o.spends f + slice_index o.rooms f
-  pub free : (f : ℕ) → f < length o.spends → slice_index net.rewards (length o.amounts + f) ≡ 0
+  pub arcs : length net.arcs.capacities ≡ length o.amounts + length o.spends
+  pub tail : (c : ℕ) → c < length o.amounts → slice_index net.arcs.tails c ≡ slice_index o.debtors c
+  pub head : (c : ℕ) → c < length o.amounts → slice_index net.arcs.heads c ≡ slice_index o.creditors c
+  pub amount : (c : ℕ) → c < length o.amounts → slice_index net.arcs.capacities c ≡ slice_index o.amounts c
+  pub counts : (c : ℕ) → c < length o.amounts → slice_index net.arcs.rewards c ≡ 1
+  pub party : (f : ℕ) → f < length o.spends → slice_index net.arcs.tails (length o.amounts + f) ≡ f
+  pub ground : (f : ℕ) → f < length o.spends → slice_index net.arcs.heads (length o.amounts + f) ≡ length o.spends
+  pub window : (f : ℕ) → f < length o.spends → slice_index net.arcs.capacities (length o.amounts + f) ≡ slice_index o.spends f + slice_index o.rooms f
+  pub free : (f : ℕ) → f < length o.spends → slice_index net.arcs.rewards (length o.amounts + f) ≡ 0
   pub nodes : length net.supplies ≡ length o.spends + 1
   pub supply : (f : ℕ) → f < length o.spends → slice_index net.supplies f ≡ slice_index o.spends f
   pub demand : (f : ℕ) → f < length o.spends → slice_index net.demands f ≡ 0

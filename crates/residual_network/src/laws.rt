@@ -1,5 +1,5 @@
 //! The laws of a solver's steps.
-ghost use Rattle.residual_network.specs.Laws.{NetworkLaw, ExcessLaw, RestLaw, PushLaw, SurplusLaw, RaiseExists, RaiseLaw, SqueezingLaw, WalkLaw};
+ghost use Rattle.residual_network.specs.Laws.{NetworkLaw, ExcessLaw, RestLaw, PushLaw, SurplusLaw, RaiseExists, RaiseLaw, DistanceLaw, SqueezingLaw, WalkLaw};
 
 /// The law of the beginning: obligations make a network, and two flows on it are known.
 ///
@@ -27,15 +27,16 @@ pub fn rest_proves()
 
 /// The law of a push: flow moved over arcs with gain 0 keeps the facts, and moves excess from node to node.
 ///
-/// A call does nothing. By its clauses more flow on an arc moves excess from its tail to its head, less flow moves it back,
-/// and pushes over the arcs of a walk move it from one end to the other.
+/// A call does nothing. By its clauses more flow on an arc moves what it brings from its tail to its head, less flow moves
+/// it back, and the excesses of the two nodes are changed alike.
 pub fn pushes_keep_facts()
     ensures { PushLaw }
 {}
 
 /// The law of a solver's measure: excess that is moved to where it is wanted is surplus no longer.
 ///
-/// A call does nothing. By its clauses the sum of the excesses above 0 falls by what is moved.
+/// A call does nothing. By its clauses the sum of the excesses above 0 falls by what is moved from a node that has it to one
+/// that wants it, and does not rise where only one of the two is so.
 pub fn surplus_falls()
     ensures { SurplusLaw }
 {}
@@ -53,6 +54,13 @@ pub fn raise_exists()
 /// A call does nothing. By its clauses gains change only on arcs between a labelled node and another.
 pub fn raises_keep_facts()
     ensures { RaiseLaw }
+{}
+
+/// The law of distances: where each price falls by the distance of its node, the facts are kept.
+///
+/// A call does nothing. By its clause all prices may besides rise by one number, as the ground's price has to stay 0.
+pub fn distances_keep_facts()
+    ensures { DistanceLaw }
 {}
 
 /// The law of squeezing between two raises: it keeps the facts and each gain of 0.

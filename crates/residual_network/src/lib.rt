@@ -9,8 +9,9 @@
 mod laws;
 
 pub use laws::{
-    excesses_balance, obligations_make_networks, pushes_keep_facts, raise_exists,
-    raises_keep_facts, rest_proves, squeezing_keeps_facts, surplus_falls, walks_differ,
+    distances_keep_facts, excesses_balance, obligations_make_networks, pushes_keep_facts,
+    raise_exists, raises_keep_facts, rest_proves, squeezing_keeps_facts, surplus_falls,
+    walks_differ,
 };
 
 #[cfg(test)]

@@ -1,6 +1,7 @@
 use crate::{
-    excesses_balance, obligations_make_networks, pushes_keep_facts, raise_exists,
-    raises_keep_facts, rest_proves, squeezing_keeps_facts, surplus_falls, walks_differ,
+    distances_keep_facts, excesses_balance, obligations_make_networks, pushes_keep_facts,
+    raise_exists, raises_keep_facts, rest_proves, squeezing_keeps_facts, surplus_falls,
+    walks_differ,
 };
 
 #[test]
@@ -12,6 +13,7 @@ fn laws_do_nothing(_rt: HostRuntime) {
     surplus_falls();
     raise_exists();
     raises_keep_facts();
+    distances_keep_facts();
     squeezing_keeps_facts();
     walks_differ();
 }

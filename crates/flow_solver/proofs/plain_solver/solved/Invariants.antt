@@ -1,9 +1,9 @@
 use Rattle.netting_graph.specs.NetView.{obligations_of_net}
-use Rattle.flow_solver.specs.Works.{IsWork, surplus}
+use Rattle.residual_state.specs.States.{IsStateOf, surplus}
 use Rattle.flow_solver.proofs.plain_solver.solved.Given as goal
 
-abbrev pub invariant-loop-work : goal.invariant-loop-work
-invariant-loop-work l = IsWork (obligations_of_net l.net) l.work
+abbrev pub invariant-loop-state : goal.invariant-loop-state
+invariant-loop-state l = IsStateOf (obligations_of_net l.net) l.state
 
-abbrev pub decreases-loop-work : goal.decreases-loop-work
-decreases-loop-work l = surplus l.work.excess.items
+abbrev pub decreases-loop-state : goal.decreases-loop-state
+decreases-loop-state l = surplus l.state.excess.items

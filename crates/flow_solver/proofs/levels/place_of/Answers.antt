@@ -1,5 +1,0 @@
-use Rattle.flow_solver.proofs.Search.{missed_passed}
-use Rattle.flow_solver.proofs.levels.place_of.Goals as goal
-
-pub unreachable-requires : goal.unreachable-requires
-unreachable-requires c = missed_passed c.args.levels.now c.args.price _ c.ranges.price c.requires.rising c.requires.among c.in-Err.ensures.position

@@ -1,0 +1,14 @@
+pub mod Scanning
+pub mod Raising
+pub mod Pushed
+pub mod Networks
+pub mod Starting
+pub mod Labelling
+pub mod Growing
+pub mod Pushing
+pub mod Working
+pub mod Passing
+pub mod Settling
+pub mod AtStart
+pub mod Carried
+pub mod Measured

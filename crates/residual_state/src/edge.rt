@@ -1,0 +1,70 @@
+//! The arcs of the solver's network.
+ghost use Rattle.std.specs.Prelude.{◌≡◌, ◌+◌, ◌<◌, ◌≤◌, ◌^◌, ℕ, length, map, All, IfOk};
+ghost use Rattle.setoff_model.specs.CutView.{spends};
+ghost use Rattle.netting_graph.specs.NetView.{obligations_of_net};
+ghost use Rattle.residual_network.specs.NetworkOf.{IsNetworkOf};
+ghost use Rattle.residual_state.specs.Edges.{IsEdgeAt, AreWindows, claim_edge, network_of};
+
+use netting_graph::{Arc, Net};
+use setoff_model::Party;
+use std::alloc::{AllocError, Global};
+
+/// An arc from one node to another: how much it holds, and what a unit of flow on it counts.
+#[derive(Clone, Copy, Debug)]
+pub struct Edge {
+    pub tail: usize,
+    pub head: usize,
+    pub capacity: u64,
+    pub reward: u32,
+}
+
+// The arcs of the net, from debtor to creditor, and then one from each party to the ground.
+//
+// The ground is the node after the last party. The arc to it stands for the party's window: its flow is what the
+// party gains, above the least, which is that it spends all that it may.
+pub(crate) fn edges_of(alloc: Global, net: &Net) -> Result<Vec<Edge>, AllocError>
+    ensures { IfOk result (λ edges. IsNetworkOf (obligations_of_net net.now) (network_of (spends net.now.parties) edges.items)) }
+{
+    let mut edges = claim_edges(alloc, net.arcs())?;
+    let windows = window_edges(alloc, net.parties())?;
+    edges.extend_from_slice(&windows)?;
+    Ok(edges)
+}
+
+fn claim_edges(alloc: Global, arcs: &[Arc]) -> Result<Vec<Edge>, AllocError>
+    ensures { IfOk result (λ edges. edges.items ≡ map claim_edge arcs.now) }
+{
+    arcs.iter()
+        .map(|arc| Edge {
+            tail: arc.debtor as usize,
+            head: arc.creditor as usize,
+            capacity: arc.amount,
+            reward: 1,
+        })
+        .collect(alloc)
+}
+
+fn window_edges(alloc: Global, parties: &[Party]) -> Result<Vec<Edge>, AllocError>
+    requires spends { All (λ f. f.spend ≤ 2000000000000000) parties.now }
+    requires rooms { All (λ f. f.room ≤ 2000000000000000) parties.now }
+    ensures { IfOk result (λ edges. AreWindows parties.now (length parties.now) edges.items) }
+{
+    let mut edges = Vec::new(alloc);
+    for (place, party) in parties.iter().enumerate() {
+        edges.push(Edge {
+            tail: place,
+            head: parties.len(),
+            capacity: party.spend + party.room,
+            reward: 0,
+        })?;
+    }
+    Ok(edges)
+}
+
+// The arc at a place.
+pub(crate) fn edge_at(edges: &[Edge], place: usize) -> Edge
+    requires { place < length edges.now }
+    ensures { IsEdgeAt edges.now place result }
+{
+    edges[place]
+}

@@ -1,0 +1,51 @@
+//! Where the solver begins: each claim's arc is full, and no balance changes.
+ghost use Rattle.std.specs.Prelude.{◌≡◌, ◌+◌, ◌≤◌, ℕ, pos, length, IfOk};
+ghost use Rattle.setoff_model.specs.Setoff.{price_at};
+ghost use Rattle.netting_graph.specs.NetView.{obligations_of_net};
+ghost use Rattle.residual_network.specs.NetworkOf.{full_flow};
+ghost use Rattle.residual_state.specs.Starts.{AreInRange, IsDifference};
+
+use crate::excess::change;
+use netting_graph::{Arc, Net};
+use std::alloc::{AllocError, Global};
+
+// The flow of each arc.
+pub(crate) fn flows_at_start(alloc: Global, net: &Net) -> Result<Vec<u64>, AllocError>
+    ensures { IfOk result (λ flows. flows.items ≡ full_flow (obligations_of_net net.now)) }
+{
+    let mut flows = net
+        .arcs()
+        .iter()
+        .map(|arc| arc.amount)
+        .collect::<Vec<u64>>(alloc)?;
+    let spends = net
+        .parties()
+        .iter()
+        .map(|party| party.spend)
+        .collect::<Vec<u64>>(alloc)?;
+    flows.extend_from_slice(&spends)?;
+    Ok(flows)
+}
+
+// The excess of each party and of the ground: what is discharged towards it less what is discharged by it.
+pub(crate) fn excess_at_start(alloc: Global, net: &Net) -> Result<Vec<i128>, AllocError>
+    ensures long { IfOk result (λ excess. length excess.items ≡ length net.now.parties + 1) }
+    ensures excess { IfOk result (λ excess. IsDifference net.now.arcs excess.items (length net.now.arcs)) }
+{
+    let mut excess = vec![in alloc; 0i128; net.parties().len() + 1]?;
+    add_full(&mut excess, net.arcs());
+    Ok(excess)
+}
+
+// Moves the amount of each arc from its debtor to its creditor.
+fn add_full(excess: &mut [i128], arcs: &[Arc])
+    requires zero { (v : ℕ) → price_at excess.old v ≡ pos 0 }
+    requires arcs { AreInRange (length excess.old) arcs.now }
+    requires few { length arcs.now ≤ 262144 }
+    ensures { IsDifference arcs.now excess.new (length arcs.now) }
+{
+    for arc in arcs {
+        change(excess, arc.debtor as usize, -(arc.amount as i128));
+        change(excess, arc.creditor as usize, arc.amount as i128);
+    }
+}

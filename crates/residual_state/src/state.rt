@@ -1,0 +1,42 @@
+//! The state of a search for a greatest set-off.
+ghost use Rattle.std.specs.Prelude.{IfOk};
+ghost use Rattle.netting_graph.specs.NetView.{obligations_of_net};
+ghost use Rattle.residual_state.specs.States.{IsStateOf};
+
+use crate::around::{Around, arcs_around};
+use crate::edge::{Edge, edges_of};
+use crate::start::{excess_at_start, flows_at_start};
+use netting_graph::Net;
+use std::alloc::{AllocError, Global};
+
+/// The arcs with a flow on each, the excess of each node and the price of each party.
+///
+/// The nodes are the parties, and after them the ground. The first arcs are those of the net, in its order, and then comes
+/// one from each party to the ground. The excess of a node is what it has beyond what it owes.
+#[derive(Debug, Drop)]
+pub struct State {
+    pub edges: Vec<Edge>,
+    pub around: Around,
+    pub flows: Vec<u64>,
+    pub excess: Vec<i128>,
+    pub prices: Vec<i64>,
+}
+
+/// The state at the beginning: each claim is discharged whole, no balance changes, and the prices are 0.
+pub fn state_at_start(alloc: Global, net: &Net) -> Result<State, AllocError>
+    ensures { IfOk result (IsStateOf (obligations_of_net net.now)) }
+{
+    let nodes = net.parties().len() + 1;
+    let edges = edges_of(alloc, net)?;
+    let around = arcs_around(alloc, &edges, nodes)?;
+    let flows = flows_at_start(alloc, net)?;
+    let excess = excess_at_start(alloc, net)?;
+    let prices = vec![in alloc; 0i64; net.parties().len()]?;
+    Ok(State {
+        edges,
+        around,
+        flows,
+        excess,
+        prices,
+    })
+}
