@@ -1,7 +1,7 @@
 //! What a solver finds of a net.
 ghost use Rattle.std.specs.Prelude.{◌≡◌, ◌<◌, ℕ, length, pos, ◌≤ℤ◌};
-ghost use Rattle.setoff_model.specs.Setoff.{price_at};
 ghost use Rattle.netting_graph.specs.NetView.{obligations_of_net};
+ghost use Rattle.residual_state.specs.Excesses.{excess_of};
 ghost use Rattle.residual_state.specs.States.{IsStateOf};
 ghost use Rattle.flow_solver.specs.Solution.{IsSolution};
 
@@ -58,7 +58,7 @@ impl Flow {
 /// What a state at rest has found of its net. It takes no memory.
 pub fn flow_at_rest(net: &Net, state: State) -> Flow
     requires state { IsStateOf (obligations_of_net net.now) state }
-    requires rest { (v : ℕ) → v < length state.excess.items → price_at state.excess.items v ≤ℤ pos 0 }
+    requires rest { (v : ℕ) → v < length state.excess.items → excess_of state.excess.items v ≤ℤ pos 0 }
     ensures { IsSolution net.now result }
 {
     let mut state = state;

@@ -1,7 +1,7 @@
 //! The plain solver.
 ghost use Rattle.std.specs.Prelude.{◌<◌, ℕ, IfOk, length, pos, ◌≤ℤ◌};
-ghost use Rattle.setoff_model.specs.Setoff.{price_at};
 ghost use Rattle.netting_graph.specs.NetView.{obligations_of_net};
+ghost use Rattle.residual_state.specs.Excesses.{excess_of};
 ghost use Rattle.residual_state.specs.States.{IsStateOf};
 
 use crate::flow::{Flow, flow_at_rest};
@@ -41,7 +41,7 @@ impl Solver for PlainSolver {
 // The state when no node has an excess above 0.
 fn solved(alloc: Global, net: &Net) -> Result<State, AllocError>
     ensures state { IfOk result (IsStateOf (obligations_of_net net.now)) }
-    ensures rest { IfOk result (λ state. (v : ℕ) → v < length state.excess.items → price_at state.excess.items v ≤ℤ pos 0) }
+    ensures rest { IfOk result (λ state. (v : ℕ) → v < length state.excess.items → excess_of state.excess.items v ≤ℤ pos 0) }
 {
     let mut state = state_at_start(alloc, net)?;
     loop {

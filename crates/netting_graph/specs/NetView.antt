@@ -1,5 +1,6 @@
 -- What contracts see of a net.
 use Rattle.std.specs.Prelude.{◌≡◌, ◌≢◌, ◌⊎◌, ◌<◌, ◌≤◌, ℕ, ◌+◌, List, [], ◌∷◌, ◌++◌, length, map, slice_index_or, slice_set, All, AllPairs}
+use Rattle.setoff_model.specs.Limits.{most_firms, most_claims, most_window}
 use Rattle.setoff_model.specs.declared.cut.Party.{Party}
 use Rattle.setoff_model.specs.Setoff.{Obligations, total_of}
 use Rattle.setoff_model.specs.CutView.{spends, rooms}
@@ -61,10 +62,10 @@ pub record IsArcAmong (parties : List Party) (a : Arc) : Type 0 where
 
 -- what holds of every net
 pub record IsNet (net : NetView) : Type 0 where
-  pub few_parties : length net.parties ≤ 16384
-  pub few_arcs : length net.arcs ≤ 262144
+  pub few_parties : length net.parties ≤ most_firms
+  pub few_arcs : length net.arcs ≤ most_claims
   pub pairs : AllPairs (λ a b. a.debtor ≡ b.debtor → a.creditor ≢ b.creditor) net.arcs
   pub arcs : All (IsArcAmong net.parties) net.arcs
   pub total : total_of (arc_amounts net.arcs) ≤ 262143999999737856
-  pub spends : All (λ f. f.spend ≤ 2000000000000000) net.parties
-  pub rooms : All (λ f. f.room ≤ 2000000000000000) net.parties
+  pub spends : All (λ f. f.spend ≤ most_window) net.parties
+  pub rooms : All (λ f. f.room ≤ most_window) net.parties

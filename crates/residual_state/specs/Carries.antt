@@ -1,8 +1,10 @@
 -- Steps over arcs with gain 0, and states that are no worse than others.
 use Rattle.std.specs.Prelude.{◌≡◌, ◌≢◌, ◌⊎◌, ℕ, zero, suc, Bool, true, false, set, slice_index_or, ◌+◌, ◌-◌, ◌<◌, ◌≤◌, ◌^◌, List, length, slice_index, ℤ, pos, neg_ℤ, ◌+ℤ◌, ◌<ℤ◌, ◌≤ℤ◌}
-use Rattle.setoff_model.specs.Setoff.{Obligations, price_at}
+use Rattle.setoff_model.specs.Limits.{most_firms}
+use Rattle.setoff_model.specs.Setoff.{Obligations}
 use Rattle.setoff_model.specs.Squeezing.{IsSqueezed, IsNear}
 use Rattle.residual_network.specs.Network.{Arcs, arc_gain, IsMoved, ArcSlack}
+use Rattle.residual_state.specs.Excesses.{excess_of}
 use Rattle.residual_state.specs.declared.state.State.{State}
 use Rattle.residual_state.specs.Edges.{graph}
 use Rattle.residual_state.specs.States.{IsStateOf, IsRepriced, surplus}
@@ -20,9 +22,9 @@ pub record IsFit (e : List ℤ) (step : Step) (amount : ℕ) : Type 0 where
   pub apart : step.from ≢ step.to
   pub from : step.from < length e
   pub to : step.to < length e
-  pub above : neg_ℤ (pos (2 ^ 80)) ≤ℤ price_at e step.from
-  pub below : price_at e step.to ≤ℤ pos (2 ^ 80)
-  pub level : (pos amount ≤ℤ price_at e step.from) ⊎ ((price_at e step.to +ℤ pos amount) ≤ℤ pos 0)
+  pub above : neg_ℤ (pos (2 ^ 80)) ≤ℤ excess_of e step.from
+  pub below : excess_of e step.to ≤ℤ pos (2 ^ 80)
+  pub level : (pos amount ≤ℤ excess_of e step.from) ⊎ ((excess_of e step.to +ℤ pos amount) ≤ℤ pos 0)
 
 -- the arc is full where its gain is above 0, and empty where it is below
 pub record IsFactKept (arcs : Arcs) (x : List ℕ) (p : List ℤ) (a : ℕ) : Type 0 where
@@ -42,7 +44,7 @@ pub record IsStepped (old : State) (a amount : ℕ) (step : Step) (new : State) 
   pub prices : new.prices ≡ old.prices
   pub flows : new.flows.items ≡ set old.flows.items a step.flow
   pub each : length new.excess.items ≡ length old.excess.items
-  pub moved : IsMoved (price_at old.excess.items) (price_at new.excess.items) step.from step.to amount
+  pub moved : IsMoved (excess_of old.excess.items) (excess_of new.excess.items) step.from step.to amount
 
 -- the push was made where it may be, and else nothing was changed
 abbrev pub IsCarried : State → Push → State → Type 0
@@ -62,7 +64,7 @@ IsDrawn p q = (q ≡ p) ⊎ IsSqueezed p q
 -- the prices may be taken in place of the state's
 pub record CanTake (w : State) (p : List ℤ) : Type 0 where
   pub one_each : length p ≡ length w.prices.items
-  pub near : IsNear 16384 p
+  pub near : IsNear most_firms p
   pub slack : ArcSlack (graph w.edges.items) w.flows.items p
 
 -- they were taken where they may be, and else nothing was changed

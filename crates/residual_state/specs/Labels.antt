@@ -1,10 +1,10 @@
 -- The labels of a search, by columns.
 use Rattle.std.specs.Prelude.{◌≡◌, ◌⊎◌, ℕ, ◌-◌, ◌<◌, ◌≤◌, List, [], ◌∷◌, ◌++◌, Bool, true, length, map, min, slice_index, slice_set, ℤ, pos, ◌≤ℤ◌, ◌<ℤ◌}
-use Rattle.setoff_model.specs.Setoff.{price_at}
 use Rattle.setoff_model.specs.Sums.{sum_below}
 use Rattle.residual_network.specs.Network.{Arcs, arc_gain}
 use Rattle.residual_network.specs.Labels.{mark}
 use Rattle.residual_network.specs.Steps.{LabelColumns, IsForest}
+use Rattle.residual_state.specs.Excesses.{excess_of}
 use Rattle.residual_state.specs.declared.crossing.Crossing.{Crossing}
 use Rattle.residual_state.specs.declared.label.Label.{Label}
 use Rattle.residual_state.specs.declared.label.Labels.{Labels}
@@ -45,7 +45,7 @@ AreEven graph p found =
 pub record HasRoots (e : List ℤ) (found : List Label) : Type 0 where
   pub node : (k : ℕ) → k < length found → slice_index (nodes found) k < length e
   pub some : (k : ℕ) → k < length found → 0 < slice_index (rooms found) k
-  pub held : (k : ℕ) → k < length found → slice_index (backs found) k ≡ k → pos (slice_index (rooms found) k) ≤ℤ price_at e (slice_index (nodes found) k)
+  pub held : (k : ℕ) → k < length found → slice_index (backs found) k ≡ k → pos (slice_index (rooms found) k) ≤ℤ excess_of e (slice_index (nodes found) k)
 
 -- the labels, the marks of the n nodes and the places of their labels agree
 pub record Agree (n : ℕ) (found : List Label) (labelled : List Bool) (places : List ℕ) : Type 0 where
@@ -72,8 +72,8 @@ pub record AreBegun (e : List ℤ) (m : ℕ) (found : List Label) (labelled : Li
   pub own : (k : ℕ) → k < length found → slice_index (backs found) k ≡ k
   pub apart : (j k : ℕ) → j < length found → k < length found → slice_index (nodes found) j ≡ slice_index (nodes found) k → j ≡ k
   pub within : (k : ℕ) → k < length found → slice_index (nodes found) k < m
-  pub above : (v : ℕ) → mark labelled v ≡ 1 → pos 0 <ℤ price_at e v
-  pub others : (v : ℕ) → v < m → mark labelled v ≡ 0 → price_at e v ≤ℤ pos 0
+  pub above : (v : ℕ) → mark labelled v ≡ 1 → pos 0 <ℤ excess_of e v
+  pub others : (v : ℕ) → v < m → mark labelled v ≡ 0 → excess_of e v ≤ℤ pos 0
 
 abbrev pub IsBegun : List ℤ → ℕ → Labels → Type 0
 IsBegun e m labels = AreBegun e m labels.found.items labels.labelled.items labels.places.items
@@ -90,9 +90,9 @@ IsSearch graph x p e labels = AreSearched graph x p e labels.found.items labels.
 
 -- no labelled node wants excess
 abbrev pub IsUnmet : List ℤ → Labels → Type 0
-IsUnmet e labels = (v : ℕ) → mark labels.labelled.items v ≡ 1 → pos 0 ≤ℤ price_at e v
+IsUnmet e labels = (v : ℕ) → mark labels.labelled.items v ≡ 1 → pos 0 ≤ℤ excess_of e v
 
 -- the label at place k stands at a node that wants excess
 pub record IsWanting (e : List ℤ) (labels : Labels) (k : ℕ) : Type 0 where
   pub within : k < length labels.found.items
-  pub wants : price_at e (slice_index (nodes labels.found.items) k) <ℤ pos 0
+  pub wants : excess_of e (slice_index (nodes labels.found.items) k) <ℤ pos 0

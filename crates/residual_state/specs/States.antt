@@ -1,10 +1,12 @@
 -- A solver's state: the arcs with a flow on each, the excess of each node and the price of each party.
 use Rattle.std.specs.Prelude.{◌≡◌, ℕ, ◌+◌, ◌<◌, ◌≤◌, ◌^◌, List, length, ℤ, unsigned_abs}
+use Rattle.setoff_model.specs.Limits.{most_firms}
 use Rattle.setoff_model.specs.Sums.{sum_below, above_zero}
-use Rattle.setoff_model.specs.Setoff.{Obligations, price_at}
+use Rattle.setoff_model.specs.Setoff.{Obligations}
 use Rattle.setoff_model.specs.Squeezing.{IsNear}
 use Rattle.residual_network.specs.Network.{IsFlow, ArcSlack, excess_at}
 use Rattle.residual_network.specs.NetworkOf.{IsNetworkOf, IsAmongParties}
+use Rattle.residual_state.specs.Excesses.{excess_of}
 use Rattle.residual_state.specs.declared.label.Labels.{Labels}
 use Rattle.residual_state.specs.declared.state.State.{State}
 use Rattle.residual_state.specs.Edges.{AreAmong, network_of, graph}
@@ -16,9 +18,9 @@ pub record IsSound (w : State) : Type 0 where
   pub flow : IsFlow (graph w.edges.items) w.flows.items
   pub slack : ArcSlack (graph w.edges.items) w.flows.items w.prices.items
   pub price_each : length w.excess.items ≡ length w.prices.items + 1
-  pub few : length w.prices.items ≤ 16384
-  pub near : IsNear 16384 w.prices.items
-  pub small : (v : ℕ) → v < length w.excess.items → unsigned_abs (price_at w.excess.items v) ≤ 2 ^ 100
+  pub few : length w.prices.items ≤ most_firms
+  pub near : IsNear most_firms w.prices.items
+  pub small : (v : ℕ) → v < length w.excess.items → unsigned_abs (excess_of w.excess.items v) ≤ 2 ^ 100
 
 -- the state is on the network of the obligations, and each node has its excess
 pub record IsStateOf (o : Obligations) (w : State) : Type 0 where
@@ -26,7 +28,7 @@ pub record IsStateOf (o : Obligations) (w : State) : Type 0 where
   pub network : IsNetworkOf o (network_of o.spends w.edges.items)
   pub among : IsAmongParties o
   pub node_each : length w.excess.items ≡ length o.spends + 1
-  pub balanced : (v : ℕ) → v < length w.excess.items → price_at w.excess.items v ≡ excess_at (network_of o.spends w.edges.items) w.flows.items v
+  pub balanced : (v : ℕ) → v < length w.excess.items → excess_of w.excess.items v ≡ excess_at (network_of o.spends w.edges.items) w.flows.items v
 
 -- the labels are a search at this state
 abbrev pub IsSearchOf : State → Labels → Type 0
@@ -45,4 +47,4 @@ pub record IsGrown (old new : Labels) : Type 0 where
 
 -- the sum of the excesses above 0
 abbrev pub surplus : List ℤ → ℕ
-surplus e = sum_below (length e) (λ v. above_zero (price_at e v))
+surplus e = sum_below (length e) (λ v. above_zero (excess_of e v))

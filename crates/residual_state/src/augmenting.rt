@@ -1,10 +1,11 @@
 //! Excess moved along the labels of a search.
 ghost use Rattle.std.specs.Prelude.{◌≡◌, ◌+◌, ◌<◌, ◌≤◌, ◌^◌, ℕ, ℤ, List, pos, IfOk, OnOk, MatchOption, length, slice_index, IsTrue, ◌<ℤ◌, ◌≤ℤ◌};
-ghost use Rattle.setoff_model.specs.Setoff.{Obligations, price_at};
+ghost use Rattle.setoff_model.specs.Setoff.{Obligations};
 ghost use Rattle.setoff_model.specs.Squeezing.{IsSqueezed};
 ghost use Rattle.residual_network.specs.Network.{arc_gain};
 ghost use Rattle.residual_network.specs.Labels.{IsRaised, IsBelowRaises};
 ghost use Rattle.residual_network.specs.Steps.{LeadsOut, IsForest};
+ghost use Rattle.residual_state.specs.Excesses.{excess_of};
 ghost use Rattle.residual_state.specs.Edges.{graph};
 ghost use Rattle.residual_state.specs.Labels.{AreEven, HasRoots, IsUnmet, IsWanting, columns, nodes, unlabelled};
 ghost use Rattle.residual_state.specs.States.{IsSound, IsStateOf, IsSearchOf, IsRepriced, IsGrown, surplus};
@@ -28,7 +29,7 @@ pub fn augment(alloc: Global, state: &mut State) -> Result<bool, AllocError>
     requires { (o : Obligations) × IsStateOf o state.old }
     ensures state { OnOk result ((o : Obligations) → IsStateOf o state.old → IsStateOf o state.new) }
     ensures falls { IfOk result (λ moved. IsTrue moved → surplus state.new.excess.items < surplus state.old.excess.items) }
-    ensures rest { IfOk result (λ moved. (IsTrue moved → ⊥) → (v : ℕ) → v < length state.new.excess.items → price_at state.new.excess.items v ≤ℤ pos 0) }
+    ensures rest { IfOk result (λ moved. (IsTrue moved → ⊥) → (v : ℕ) → v < length state.new.excess.items → excess_of state.new.excess.items v ≤ℤ pos 0) }
 {
     let mut labels = labels_at_surplus(alloc, &state.excess)?;
     if labels.found.is_empty() {
@@ -195,7 +196,7 @@ fn move_to_label(state: &mut State, found: &[Label], place: usize)
     requires even { AreEven (graph state.old.edges.items) state.old.prices.items found.now }
     requires roots { HasRoots state.old.excess.items found.now }
     requires within { place < length found.now }
-    requires wants { price_at state.old.excess.items (slice_index (nodes found.now) place) <ℤ pos 0 }
+    requires wants { excess_of state.old.excess.items (slice_index (nodes found.now) place) <ℤ pos 0 }
     ensures state { (o : Obligations) → IsStateOf o state.old → IsStateOf o state.new }
     ensures falls { surplus state.new.excess.items < surplus state.old.excess.items }
 {

@@ -1,5 +1,6 @@
 //! The arcs of the solver's network.
 ghost use Rattle.std.specs.Prelude.{◌≡◌, ◌+◌, ◌<◌, ◌≤◌, ◌^◌, ℕ, length, map, All, IfOk};
+ghost use Rattle.setoff_model.specs.Limits.{most_window};
 ghost use Rattle.setoff_model.specs.CutView.{spends};
 ghost use Rattle.netting_graph.specs.NetView.{obligations_of_net};
 ghost use Rattle.residual_network.specs.NetworkOf.{IsNetworkOf};
@@ -45,8 +46,8 @@ fn claim_edges(alloc: Global, arcs: &[Arc]) -> Result<Vec<Edge>, AllocError>
 }
 
 fn window_edges(alloc: Global, parties: &[Party]) -> Result<Vec<Edge>, AllocError>
-    requires spends { All (λ f. f.spend ≤ 2000000000000000) parties.now }
-    requires rooms { All (λ f. f.room ≤ 2000000000000000) parties.now }
+    requires spends { All (λ f. f.spend ≤ most_window) parties.now }
+    requires rooms { All (λ f. f.room ≤ most_window) parties.now }
     ensures { IfOk result (λ edges. AreWindows parties.now (length parties.now) edges.items) }
 {
     let mut edges = Vec::new(alloc);

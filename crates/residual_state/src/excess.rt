@@ -1,13 +1,13 @@
 //! The excesses of nodes.
 ghost use Rattle.std.specs.Prelude.{◌≡◌, ◌≢◌, ◌<◌, ◌≤◌, ◌^◌, pos, ◌<ℤ◌, ◌≤ℤ◌, ◌+ℤ◌, ◌↔◌, length, unsigned_abs, IsTrue};
-ghost use Rattle.setoff_model.specs.Setoff.{price_at};
 ghost use Rattle.residual_network.specs.Network.{IsMoved};
+ghost use Rattle.residual_state.specs.Excesses.{excess_of};
 ghost use Rattle.residual_state.specs.Starts.{IsChanged};
 
 // Whether the node has less than it owes.
 pub(crate) fn wants_at(excess: &[i128], node: usize) -> bool
     requires { node < length excess.now }
-    ensures { IsTrue result ↔ (price_at excess.now node <ℤ pos 0) }
+    ensures { IsTrue result ↔ (excess_of excess.now node <ℤ pos 0) }
 {
     excess[node] < 0
 }
@@ -15,11 +15,11 @@ pub(crate) fn wants_at(excess: &[i128], node: usize) -> bool
 // How much less the node has than it owes, or the largest number of the type.
 pub(crate) fn wanted_at(excess: &[i128], node: usize) -> u64
     requires within { node < length excess.now }
-    requires wants { price_at excess.now node <ℤ pos 0 }
-    requires small { unsigned_abs (price_at excess.now node) ≤ 2 ^ 100 }
+    requires wants { excess_of excess.now node <ℤ pos 0 }
+    requires small { unsigned_abs (excess_of excess.now node) ≤ 2 ^ 100 }
     ensures some { 0 < result }
-    ensures most { (price_at excess.now node +ℤ pos result) ≤ℤ pos 0 }
-    ensures whole { result < 18446744073709551615 → price_at excess.now node +ℤ pos result ≡ pos 0 }
+    ensures most { (excess_of excess.now node +ℤ pos result) ≤ℤ pos 0 }
+    ensures whole { result < 18446744073709551615 → excess_of excess.now node +ℤ pos result ≡ pos 0 }
 {
     clamped(-excess[node])
 }
@@ -43,10 +43,10 @@ pub(crate) fn move_excess(excess: &mut [i128], from: usize, to: usize, amount: u
     requires from { from < length excess.old }
     requires to { to < length excess.old }
     requires apart { from ≢ to }
-    requires held { unsigned_abs (price_at excess.old from) ≤ 2 ^ 100 }
-    requires wanted { unsigned_abs (price_at excess.old to) ≤ 2 ^ 100 }
+    requires held { unsigned_abs (excess_of excess.old from) ≤ 2 ^ 100 }
+    requires wanted { unsigned_abs (excess_of excess.old to) ≤ 2 ^ 100 }
     ensures one_each { length excess.new ≡ length excess.old }
-    ensures moved { IsMoved (price_at excess.old) (price_at excess.new) from to amount }
+    ensures moved { IsMoved (excess_of excess.old) (excess_of excess.new) from to amount }
 {
     change(excess, to, amount as i128);
     change(excess, from, -(amount as i128));
@@ -55,7 +55,7 @@ pub(crate) fn move_excess(excess: &mut [i128], from: usize, to: usize, amount: u
 // Changes one number.
 pub(crate) fn change(excess: &mut [i128], node: usize, by: i128)
     requires within { node < length excess.old }
-    requires old { unsigned_abs (price_at excess.old node) ≤ 2 ^ 100 }
+    requires old { unsigned_abs (excess_of excess.old node) ≤ 2 ^ 100 }
     requires by { unsigned_abs by ≤ 2 ^ 100 }
     ensures { IsChanged excess.old excess.new node by }
 {

@@ -1,6 +1,5 @@
 //! The labelled nodes of a search.
 ghost use Rattle.std.specs.Prelude.{◌≡◌, ◌<◌, ◌≤◌, ◌+◌, ℕ, length, slice_index, IfOk, OnOk, pos, ◌≤ℤ◌, ◌<ℤ◌};
-ghost use Rattle.setoff_model.specs.Setoff.{price_at};
 ghost use Rattle.residual_state.specs.Labels.{IsLabelAt, IsLabelled, IsBegun};
 
 use crate::crossing::Crossing;

@@ -1,5 +1,6 @@
 //! Prices put in place of others.
 ghost use Rattle.std.specs.Prelude.{◌≡◌, ◌<◌, ◌↔◌, ℕ, ℤ, List, length, IsTrue, OnOk};
+ghost use Rattle.setoff_model.specs.Limits.{most_firms};
 ghost use Rattle.setoff_model.specs.Setoff.{Obligations};
 ghost use Rattle.setoff_model.specs.Squeezing.{IsNear};
 ghost use Rattle.residual_network.specs.Network.{ArcSlack};
@@ -11,6 +12,7 @@ use crate::edge::{Edge, edge_at};
 use crate::price::gain_of;
 use crate::state::State;
 use price_squeezing::squeeze;
+use setoff_model::limits::MOST_FIRMS;
 use std::alloc::{AllocError, Global};
 
 /// Takes the prices, as they are or squeezed, in place of the state's, where each arc keeps its facts at them.
@@ -57,12 +59,13 @@ fn draw_near(alloc: Global, prices: &mut Vec<i64>) -> Result<(), AllocError>
     Ok(())
 }
 
-// Whether each price is within 16384 of 0.
+// Whether each price is as near 0 as there may be firms.
 fn are_near(prices: &[i64]) -> bool
-    ensures { IsTrue result ↔ IsNear 16384 prices.now }
+    ensures { IsTrue result ↔ IsNear most_firms prices.now }
 {
+    let most = MOST_FIRMS as i64;
     for place in 0..prices.len() {
-        if prices[place] < -16_384 || 16_384 < prices[place] {
+        if prices[place] < -most || most < prices[place] {
             return false;
         }
     }
@@ -73,7 +76,7 @@ fn are_near(prices: &[i64]) -> bool
 fn facts_are_kept(edges: &[Edge], flows: &[u64], prices: &[i64]) -> bool
     requires one_each { length flows.now ≡ length edges.now }
     requires among { (n : ℕ) × AreAmong n edges.now }
-    requires near { IsNear 16384 prices.now }
+    requires near { IsNear most_firms prices.now }
     ensures { IsTrue result ↔ ArcSlack (graph edges.now) flows.now prices.now }
 {
     for arc in 0..edges.len() {
@@ -89,7 +92,7 @@ fn fact_is_kept(edges: &[Edge], flows: &[u64], prices: &[i64], arc: usize) -> bo
     requires within { arc < length edges.now }
     requires one_each { length flows.now ≡ length edges.now }
     requires among { (n : ℕ) × AreAmong n edges.now }
-    requires near { IsNear 16384 prices.now }
+    requires near { IsNear most_firms prices.now }
     ensures { IsTrue result ↔ IsFactKept (graph edges.now) flows.now prices.now arc }
 {
     let gain = gain_of(edges, prices, arc);

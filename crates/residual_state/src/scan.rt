@@ -1,5 +1,6 @@
 //! The arc that a label passes over after the least raise.
 ghost use Rattle.std.specs.Prelude.{◌≡◌, ◌+◌, ◌<◌, ℕ, length};
+ghost use Rattle.setoff_model.specs.Limits.{most_firms};
 ghost use Rattle.setoff_model.specs.Squeezing.{IsNear};
 ghost use Rattle.residual_state.specs.Edges.{AreAmong, graph};
 ghost use Rattle.residual_state.specs.Crossings.{IsBest};
@@ -24,7 +25,7 @@ pub(crate) fn next_arc(
 ) -> Option<Next>
     requires one_each { length flows.now ≡ length edges.now }
     requires among { AreAmong (length labelled.now) edges.now }
-    requires near { IsNear 16384 prices.now }
+    requires near { IsNear most_firms prices.now }
     ensures { IsBest (graph edges.now) flows.now prices.now labelled.now (length edges.now) result }
 {
     let mut best: Option<Next> = None;
@@ -46,7 +47,7 @@ fn better(
     requires within { arc < length edges.now }
     requires one_each { length flows.now ≡ length edges.now }
     requires among { AreAmong (length labelled.now) edges.now }
-    requires near { IsNear 16384 prices.now }
+    requires near { IsNear most_firms prices.now }
     requires best { IsBest (graph edges.now) flows.now prices.now labelled.now arc best }
     ensures { IsBest (graph edges.now) flows.now prices.now labelled.now (arc + 1) result }
 {

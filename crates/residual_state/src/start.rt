@@ -1,8 +1,9 @@
 //! Where the solver begins: each claim's arc is full, and no balance changes.
 ghost use Rattle.std.specs.Prelude.{◌≡◌, ◌+◌, ◌≤◌, ℕ, pos, length, IfOk};
-ghost use Rattle.setoff_model.specs.Setoff.{price_at};
+ghost use Rattle.setoff_model.specs.Limits.{most_claims};
 ghost use Rattle.netting_graph.specs.NetView.{obligations_of_net};
 ghost use Rattle.residual_network.specs.NetworkOf.{full_flow};
+ghost use Rattle.residual_state.specs.Excesses.{excess_of};
 ghost use Rattle.residual_state.specs.Starts.{AreInRange, IsDifference};
 
 use crate::excess::change;
@@ -39,9 +40,9 @@ pub(crate) fn excess_at_start(alloc: Global, net: &Net) -> Result<Vec<i128>, All
 
 // Moves the amount of each arc from its debtor to its creditor.
 fn add_full(excess: &mut [i128], arcs: &[Arc])
-    requires zero { (v : ℕ) → price_at excess.old v ≡ pos 0 }
+    requires zero { (v : ℕ) → excess_of excess.old v ≡ pos 0 }
     requires arcs { AreInRange (length excess.old) arcs.now }
-    requires few { length arcs.now ≤ 262144 }
+    requires few { length arcs.now ≤ most_claims }
     ensures { IsDifference arcs.now excess.new (length arcs.now) }
 {
     for arc in arcs {
