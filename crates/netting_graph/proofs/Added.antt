@@ -1,5 +1,5 @@
 -- One claim more, added to the arcs.
-use Rattle.std.specs.Prelude.{slice_index, map, if◌then◌else◌, ◌==◌, ◌&&◌}
+use Rattle.std.specs.Prelude.{slice_index, if◌then◌else◌, ◌==◌, ◌&&◌}
 use Rattle.std.specs.List.{All}
 use Rattle.std.proofs.Common.{◌≡◌, ℕ, Bool, true, false, zero, suc, ◌+◌, ◌*◌, ◌<◌, ◌≤◌, List, [], ◌∷◌, ◌++◌, length, set, get_or, refl, sym, ◌∙◌, ap, inl, inr, add-one, arith}
 use Rattle.std.proofs.Math.Seq.{get_or-append_seam, map-set_same}
@@ -9,6 +9,7 @@ use Rattle.setoff_model.specs.declared.cut.CutClaim.{CutClaim}
 use Rattle.setoff_model.specs.declared.cut.Party.{Party}
 use Rattle.setoff_model.specs.Sums.{sum_below}
 use Rattle.setoff_model.proofs.Columns.{no_claim}
+use Rattle.setoff_model.proofs.Flows.{column}
 use Rattle.setoff_model.specs.CutView.{obligations_of, debtors, creditors, amounts}
 use Rattle.netting_graph.specs.declared.arc.Arc.{Arc}
 use Rattle.netting_graph.specs.Pairs.{Pairs, IsPairAt}
@@ -26,10 +27,6 @@ pairs_kept arcs a arc cents is =
   where
     two : List ℕ → List ℕ → Pairs
     two ds cs = record { debtors = ds; creditors = cs }
-
--- what a column has of a claim that was read
-column : (f : CutClaim → ℕ) (claims : List CutClaim) (i : ℕ) (x : CutClaim) → x ≡ get_or claims i x → i < length claims → slice_index (map f claims) i ≡ f x
-column f claims i x is in' = get_or-map f claims i x 0 in' ∙ ap f (sym is)
 
 amounts_long : (arcs : List Arc) → length (arc_amounts arcs) ≡ length arcs
 amounts_long arcs = length-map arcs (λ (x : Arc). x.amount)

@@ -4,15 +4,14 @@ use Rattle.std.specs.List.{All}
 use Rattle.std.proofs.Common.{◌≡◌, ℕ, zero, suc, ◌*◌, ◌<◌, ◌≤◌, List, length, get_or, refl, sym, ◌∙◌, ap, inl, inr, subst, arith}
 use Rattle.std.proofs.lemmas.Bool.{cases_eq}
 use Rattle.std.proofs.lemmas.List.{get_or-map}
+use Rattle.setoff_model.specs.Limits.{most_claims, most_amount, most_window}
 use Rattle.setoff_model.specs.declared.cut.CutClaim.{CutClaim}
 use Rattle.setoff_model.specs.declared.cut.Party.{Party}
-use Rattle.setoff_model.specs.declared.kind.Kind.{Kind}
-use Rattle.setoff_model.specs.declared.kind.Kind.TheVariants.{Plain, Funded}
 use Rattle.setoff_model.specs.Sums.{sum_below}
 use Rattle.setoff_model.specs.Setoff.{total_of}
-use Rattle.setoff_model.specs.CutView.{CutView, WellFormed, window_limit, obligations, debtors, creditors, amounts}
+use Rattle.setoff_model.specs.CutView.{CutView, WellFormed, obligations, debtors, creditors, amounts}
 use Rattle.setoff_model.proofs.Circulation.{sum_below-le, sum_below-all}
-use Rattle.setoff_model.proofs.Columns.{no_claim, claims_long, amount_small}
+use Rattle.setoff_model.proofs.Columns.{limit_small, no_claim, claims_long, amount_small}
 use Rattle.netting_graph.specs.declared.arc.Arc.{Arc}
 use Rattle.netting_graph.specs.NetView.{NetView, IsArcAmong, IsNet, obligations_of_net, arc_debtors, arc_creditors, arc_amounts}
 use Rattle.netting_graph.specs.Merging.{IsNetOf}
@@ -56,11 +55,11 @@ module _ (cut : CutView) (net : NetView) (formed : WellFormed cut) (is : IsNetOf
       omega (arith, all, ones n, ones m, sum_below-le n (λ _. 1) (λ a. 1 * sum_below m (hit a)) counted, arcs_long net)
 
   -- all arcs have what all claims have
-  small_total : total_of (arc_amounts net.arcs) ≤ 262143999999737856
+  small_total : total_of (arc_amounts net.arcs) ≤ most_claims * most_amount
   small_total =
       let same = same_total (obligations cut) (obligations_of_net net) (amounts cut.claims) (arc_amounts net.arcs) (net_merged cut net is) (net_merged cut net is).amount refl refl in
       let all = sum_below-all (amounts cut.claims) (length cut.claims) (claims_long cut) in
-      omega (arith, same, all, formed.few_claims, sum_below_limit (length cut.claims) 999999999999 (λ c. slice_index (amounts cut.claims) c) (λ c l. amount_small cut c formed l))
+      omega (arith, same, all, formed.few_claims, sum_below_limit (length cut.claims) most_amount (λ c. slice_index (amounts cut.claims) c) (λ c l. amount_small cut c formed l))
 
   -- an arc is between the parties of its claims
   among : (k : ℕ) (d : Arc) → k < length net.arcs → IsArcAmong net.parties (get_or net.arcs k d)
@@ -100,14 +99,10 @@ module _ (cut : CutView) (net : NetView) (formed : WellFormed cut) (is : IsNetOf
         creditor = get_or-map (λ (a : Arc). a.creditor) net.arcs i d 0 (omega arith) ∙ creditor ∙ sym (get_or-map (λ (a : Arc). a.creditor) net.arcs j d 0 l);
       })
 
-  limit_small : (kind : Kind) → window_limit kind ≤ 2000000000000000
-  limit_small Plain = omega arith
-  limit_small Funded = omega arith
-
-  small_spends : All (λ (f : Party). f.spend ≤ 2000000000000000) cut.parties
+  small_spends : All (λ (f : Party). f.spend ≤ most_window) cut.parties
   small_spends k d l = omega (arith, limit_small cut.kind, (formed.windows k d l).0)
 
-  small_rooms : All (λ (f : Party). f.room ≤ 2000000000000000) cut.parties
+  small_rooms : All (λ (f : Party). f.room ≤ most_window) cut.parties
   small_rooms k d l = omega (arith, limit_small cut.kind, (formed.windows k d l).1)
 
   pub sound : IsNet net
@@ -117,6 +112,6 @@ module _ (cut : CutView) (net : NetView) (formed : WellFormed cut) (is : IsNetOf
     pairs = pairs_differ;
     arcs = among;
     total = small_total;
-    spends = subst (λ (ps : List Party). All (λ (f : Party). f.spend ≤ 2000000000000000) ps) (sym is.parties) small_spends;
-    rooms = subst (λ (ps : List Party). All (λ (f : Party). f.room ≤ 2000000000000000) ps) (sym is.parties) small_rooms;
+    spends = subst (λ (ps : List Party). All (λ (f : Party). f.spend ≤ most_window) ps) (sym is.parties) small_spends;
+    rooms = subst (λ (ps : List Party). All (λ (f : Party). f.room ≤ most_window) ps) (sym is.parties) small_rooms;
   }
