@@ -1,4 +1,5 @@
 -- The one row of a table that passes a test.
+use Rattle.setoff_model.proofs.Lists.{position_none}
 use Rattle.std.specs.Prelude.{map, set, find, position, Option, Some, None, is_some, sum_by, count_by, if◌then◌else◌}
 use Rattle.std.specs.List.{list_any, position_or_len, slice_get}
 use Rattle.std.proofs.Common.{◌≡◌, ℕ, zero, suc, ◌+◌, ◌<◌, ◌≤◌, Bool, true, false, cond, ◌||◌, List, [], ◌∷◌, nat_lt, length, get_or, refl, sym, ◌∙◌, ap, ap₂, subst, true≢false, arith}
@@ -27,15 +28,6 @@ found_step false x rest any h = h
 pub found_any : {X : Type 0} (p : X → Bool) (xs : List X) → is_some (find p xs) ≡ list_any p xs
 found_any p [] = refl
 found_any p (x ∷ xs) = found_step (p x) x (find p xs) (list_any p xs) (found_any p xs)
-
-no_place : (a b : ℕ) (t : Bool) → nat_lt a b ≡ t → cond t (Some a) None ≡ None → b ≤ a
-no_place a b true e none = absurd (true≢false (ap is_some none))
-no_place a b false e none = ltb-false a b e
-
-pub position_none : {X : Type 0} (p : X → Bool) (xs : List X) → position p xs ≡ None → list_any p xs ≡ false
-position_none p xs none =
-    let long : length xs ≤ position_or_len p xs = no_place (position_or_len p xs) (length xs) (nat_lt (position_or_len p xs) (length xs)) refl none in
-    list_any_none p xs (λ k d lt. fails_before_first p xs k d (omega (arith, lt, long)))
 
 -- ---- at most one passes
 
@@ -89,10 +81,6 @@ set_is_map p step (x ∷ xs) (suc i) d lt here once leaves =
 pub map_map : {X Y : Type 0} (h : Y → Y) (f g : X → Y) (xs : List X) → ((x : X) → h (f x) ≡ g x) → map h (map f xs) ≡ map g xs
 map_map h f g [] same = refl
 map_map h f g (x ∷ xs) same = ap₂ (λ y ys. y ∷ ys) (same x) (map_map h f g xs same)
-
-pub list_any-map : {X Y : Type 0} (q : Y → Bool) (f : X → Y) (xs : List X) → list_any q (map f xs) ≡ list_any (λ x. q (f x)) xs
-list_any-map q f [] = refl
-list_any-map q f (x ∷ xs) = ap (λ b. q (f x) || b) (list_any-map q f xs)
 
 pub sum_by-map : {X Y : Type 0} (m : Y → ℕ) (f : X → Y) (xs : List X) → sum_by m (map f xs) ≡ sum_by (λ x. m (f x)) xs
 sum_by-map m f [] = refl

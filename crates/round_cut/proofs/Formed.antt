@@ -9,6 +9,7 @@ use Rattle.std.proofs.lemmas.List.Sums.{passes_at_first, length-filter, count_by
 use Rattle.std.proofs.lemmas.List.Filters.{length-filter_both}
 use Rattle.std.proofs.lemmas.List.Kept.{AllPairs-cons, AllPairs-filter}
 use Rattle.std.proofs.lemmas.List.Elements.{All-nil, All-cons, All-head, All-tail, All-map, All-filter, All-weaker, filter_passes}
+use Rattle.setoff_model.proofs.Lists.{any_within}
 use Rattle.setoff_model.specs.declared.name.Key.{Key}
 use Rattle.setoff_model.specs.declared.kind.Kind.{Kind}
 use Rattle.setoff_model.specs.declared.kind.Kind.TheVariants.{Plain, Funded}
@@ -27,7 +28,6 @@ use Rattle.claim_history.proofs.Rows.{name_is, and_true}
 use Rattle.setoff_model.specs.Windows.{Window}
 use Rattle.round_cut.specs.Windows.{KeepsLimits, window_of}
 use Rattle.round_cut.specs.CutOfFacts.{takes_part, claims_due, firms_in, window_or_none, party_in, claim_among, cut_of_facts, has_account, IsClaimOf, AreFacts}
-use Rattle.round_cut.proofs.Places.{any_within}
 use Rattle.claim_history.proofs.Rows.{name_same}
 use Rattle.round_cut.proofs.Growth.{two_names, AreAmong, all_among}
 use Rattle.round_cut.proofs.Pairs.{pairs_map, at_most_one, All-flat_map, found_all}

@@ -6,6 +6,7 @@ use Rattle.std.proofs.lemmas.Bool.{or_right}
 use Rattle.std.proofs.lemmas.List.{append_assoc, append-nil, map-append}
 use Rattle.std.proofs.lemmas.List.Concat.{flat_map-append}
 use Rattle.std.proofs.lemmas.List.Elements.{All-nil, All-cons, All-head, All-tail, All-weaker, filter_more}
+use Rattle.setoff_model.proofs.Lists.{list_any-map, place_map}
 use Rattle.setoff_model.specs.declared.kind.Kind.{Kind}
 use Rattle.setoff_model.specs.declared.cut.Party.{Party}
 use Rattle.setoff_model.specs.declared.cut.CutClaim.{CutClaim}
@@ -15,7 +16,7 @@ use Rattle.claim_history.specs.declared.fact.AccountFact.{AccountFact}
 use Rattle.claim_history.specs.Cut.{distinct}
 use Rattle.round_cut.specs.CutOfFacts.{takes_part, claims_due, firms_in, party_in, claim_among, parties_in, claims_in}
 use Rattle.round_cut.specs.Growing.{is_party, with_party, with_parties_of, placed}
-use Rattle.round_cut.proofs.Places.{list_any-map, or_left, place_map, place_stays, any_stays}
+use Rattle.round_cut.proofs.Places.{or_left, place_stays, any_stays}
 use Rattle.round_cut.proofs.Distinct.{any_distinct, with_name, distinct_push}
 use Rattle.claim_history.proofs.Rows.{name_same}
 

@@ -9,6 +9,7 @@ use Rattle.std.proofs.lemmas.Int.{ints}
 use Rattle.std.proofs.lemmas.List.{length-map, length-reverse, reverse-append}
 use Rattle.std.proofs.lemmas.List.Folds.{flat_map-map, list_any-append}
 use Rattle.std.proofs.lemmas.List.Elements.{All-head, All-tail, All-map, All-filter}
+use Rattle.setoff_model.proofs.Lists.{filter-map, find-map, list_any-map}
 use Rattle.setoff_model.specs.Limits.{most_amount}
 use Rattle.setoff_model.specs.declared.name.Key.{Key}
 use Rattle.setoff_model.specs.declared.kind.Kind.{Kind}
@@ -34,7 +35,6 @@ use Rattle.setoff_model.proofs.SumsBounded.{above_zero_is}
 use Rattle.round_cut.specs.Windows.{KeepsLimits, window_of, WindowsLaw}
 use Rattle.round_cut.specs.CutOfFacts.{takes_part, claims_due, firms_in, window_or_none, window_in, party_in, claim_among, parties_in, claims_in, cut_of_facts, has_account, IsClaimOf, AreFacts}
 use Rattle.round_cut.specs.CutLaw.{CutLaw, FactsLaw, FormedLaw}
-use Rattle.round_cut.proofs.Places.{list_any-map}
 use Rattle.round_cut.proofs.Growth.{two_names, map_same}
 use Rattle.round_cut.proofs.Pairs.{pairs_map, pairs_reverse}
 use Rattle.claim_history.proofs.Pasts.{all_reverse}
@@ -76,10 +76,6 @@ accounts_are l n = list_any-map (λ (a : AccountFact). same_name n a.firm) (acco
 map_step : {X Y : Type 0} (b : Bool) (f : X → Y) (x : X) (rest : Option Y) (found : Option X) → rest ≡ option_map f found → cond b (Some (f x)) rest ≡ option_map f (cond b (Some x) found)
 map_step true f x rest found e = refl
 map_step false f x rest found e = e
-
-pub find-map : {X Y : Type 0} (q : Y → Bool) (f : X → Y) (xs : List X) → find q (map f xs) ≡ option_map f (find (λ x. q (f x)) xs)
-find-map q f [] = refl
-find-map q f (x ∷ xs) = map_step (q (f x)) f x (find q (map f xs)) (find (λ y. q (f y)) xs) (find-map q f xs)
 
 name_step : (n x : List ℕ) (rest : Option (List ℕ)) (any b : Bool) → same_name n x ≡ b → (b || any) ≡ true → (any ≡ true → rest ≡ Some n) → cond b (Some x) rest ≡ Some n
 name_step n x rest any true is e later = ap Some (sym (name_is n x is))
@@ -143,14 +139,6 @@ facts_are l is limited =
     }
 
 -- ---- the cut of a ledger
-
-filter_step : {X Y : Type 0} (b : Bool) (f : X → Y) (x : X) (rest : List X) (kept : List Y) → kept ≡ map f rest → cond b (f x ∷ kept) kept ≡ map f (cond b (x ∷ rest) rest)
-filter_step true f x rest kept e = ap (λ ys. f x ∷ ys) e
-filter_step false f x rest kept e = e
-
-pub filter-map : {X Y : Type 0} (q : Y → Bool) (f : X → Y) (xs : List X) → filter q (map f xs) ≡ map f (filter (λ x. q (f x)) xs)
-filter-map q f [] = refl
-filter-map q f (x ∷ xs) = filter_step (q (f x)) f x (filter (λ y. q (f y)) xs) (filter q (map f xs)) (filter-map q f xs)
 
 map-map : {X Y Z : Type 0} (g : Y → Z) (f : X → Y) (xs : List X) → map g (map f xs) ≡ map (λ x. g (f x)) xs
 map-map g f [] = refl

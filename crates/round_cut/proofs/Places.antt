@@ -7,34 +7,15 @@ use Rattle.std.proofs.lemmas.List.Sums.{fails_before_first}
 use Rattle.std.proofs.lemmas.List.Folds.{list_any_none, list_any_at, list_any-append, find_at}
 use Rattle.std.proofs.lemmas.Option.{cond_some, slice_get-get_or}
 use Rattle.std.proofs.lemmas.List.Quantifiers.{position-Some}
+use Rattle.setoff_model.proofs.Lists.{or_rest}
 
 -- ---- whether
-
-pub list_any-map : {X Y : Type 0} (q : Y → Bool) (f : X → Y) (xs : List X) → list_any q (map f xs) ≡ list_any (λ x. q (f x)) xs
-list_any-map q f [] = refl
-list_any-map q f (x ∷ xs) = ap (λ b. q (f x) || b) (list_any-map q f xs)
 
 pub or_left : (a b : Bool) → a ≡ true → (a || b) ≡ true
 or_left true b e = refl
 or_left false b e = absurd (true≢false (sym e))
 
-or_rest : (a b : Bool) → (a || b) ≡ true → a ≡ false → b ≡ true
-or_rest true b e f = absurd (true≢false f)
-or_rest false b e f = e
-
 -- ---- where
-
-within_step : (b : Bool) (n m : ℕ) → (b ≡ false → n < m) → cond (not b) (1 + n) 0 < suc m
-within_step true n m h = omega arith
-within_step false n m h = omega (arith, h refl)
-
-pub any_within : {X : Type 0} (p : X → Bool) (xs : List X) → list_any p xs ≡ true → position_or_len p xs < length xs
-any_within p [] e = absurd (true≢false (sym e))
-any_within p (x ∷ xs) e = within_step (p x) (position_or_len p xs) (length xs) (λ f. any_within p xs (or_rest (p x) (list_any p xs) e f))
-
-pub place_map : {X Y : Type 0} (h : X → Y) (p : Y → Bool) (xs : List X) → position_or_len p (map h xs) ≡ position_or_len (λ x. p (h x)) xs
-place_map h p [] = refl
-place_map h p (x ∷ xs) = ap (λ (n : ℕ). cond (not (p (h x))) (1 + n) 0) (place_map h p xs)
 
 stay_step : (b : Bool) (n m : ℕ) → (b ≡ false → n ≡ m) → cond (not b) (1 + n) 0 ≡ cond (not b) (1 + m) 0
 stay_step true n m h = refl
@@ -74,15 +55,6 @@ any_joined p true xs y e here = e
 any_joined p false xs y e here = list_any-append p xs (y ∷ []) ∙ or_right (list_any p xs) (list_any p (y ∷ [])) (or_left (p y) false here)
 
 -- ---- what
-
-no_place : (a b : ℕ) (t : Bool) → nat_lt a b ≡ t → cond t (Some a) None ≡ None → b ≤ a
-no_place a b true e none = absurd (true≢false (ap is_some none))
-no_place a b false e none = ltb-false a b e
-
-pub position_none : {X : Type 0} (p : X → Bool) (xs : List X) → position p xs ≡ None → list_any p xs ≡ false
-position_none p xs none =
-    let long : length xs ≤ position_or_len p xs = no_place (position_or_len p xs) (length xs) (nat_lt (position_or_len p xs) (length xs)) refl none in
-    list_any_none p xs (λ k d lt. fails_before_first p xs k d (omega (arith, lt, long)))
 
 pub position_any : {X : Type 0} (p : X → Bool) (xs : List X) (i : ℕ) (d : X) → position p xs ≡ Some i → list_any p xs ≡ true
 position_any p xs i d found = let at = position-Some p xs i d found in list_any_at p xs i d at.0 at.1
