@@ -3,7 +3,7 @@ use Rattle.std.proofs.Common.{◌≡◌, ℕ, ◌^◌, ◌<◌, ◌≤◌, Bool,
 use Rattle.std.specs.Prelude.{ℤ, ◌&&◌, nat_le, nat_lt, unsigned_abs}
 use Rattle.std.specs.Int.{w32, w64}
 use Rattle.std.specs.List.{list_all, AllByRecursion}
-use Rattle.std.proofs.lemmas.Bool.{eqb-true, leb-true, ltb-true}
+use Rattle.std.proofs.lemmas.Bool.{eqb-true, leb-true, ltb-true, and_parts}
 use Rattle.std.proofs.lemmas.List.{append-nil, nil_from_length}
 use Rattle.setoff_model.specs.Limits.{most_amount, most_claims, most_firms}
 use Rattle.setoff_model.specs.declared.name.Key.{Key}
@@ -16,7 +16,7 @@ use Rattle.claim_history.specs.Acts.{is_valid, is_key, is_amount, is_claim_amoun
 use Rattle.act_bodies.specs.Bodies.{four, eight, name_bytes, key_bytes, outcome_bytes, fields_of, body_of, is_keepable}
 use Rattle.act_bodies.specs.Laws.{OneCallLaw}
 use Rattle.act_bodies.specs.Reading.{◌>>=◌, both_at, made_at, number_at, name_at, day_at, kind_at, key_at, claim_at, account_at, outcome_at, firm_at, file_at, confirm_at, dispute_at, withdraw_at, receive_at, fund_at, draw_at, limit_at, offer_at, position_at, close_at, publish_at, fields_at, act_at, call_at}
-use Rattle.act_bodies.proofs.Keepable.{both, caller_fits, act_valid}
+use Rattle.act_bodies.proofs.Keepable.{caller_fits, act_valid}
 use Rattle.act_bodies.proofs.Readers.{IsBytes, IsBytes-rest, bind_some, given, some_is, Takes, then, IsField, field32, field64, both_field}
 use Rattle.act_bodies.proofs.Values.{passed, made_again, Named, name_field, Dated, day_field, kind_bytes, AnyKind, kind_field, HasNames, key_field, claim_bytes, IsClaim, claim_field, IsMoney, account_bytes, IsAccount, account_field, HasLists, outcome_field, near_stored, IsStored}
 
@@ -146,43 +146,43 @@ money : (cents : ℕ) → is_amount cents ≡ true → IsMoney cents
 money cents h = omega (arith, leb-true cents most_amount h)
 
 claim_money : (cents : ℕ) → is_claim_amount cents ≡ true → IsMoney cents
-claim_money cents h = money cents (both (nat_le 1 cents) (is_amount cents) h).1
+claim_money cents h = money cents (and_parts (nat_le 1 cents) (is_amount cents) h).1
 
 names : (key : Key) → is_key key ≡ true → HasNames key
-names key h = both (is_name key.creditor) (is_name key.invoice) h
+names key h = and_parts (is_name key.creditor) (is_name key.invoice) h
 
 claim : (key : Key) (debtor : List ℕ) → (is_key key && is_name debtor) ≡ true → IsClaim (key, debtor)
 claim key debtor h =
-    let c = both (is_key key) (is_name debtor) h in
+    let c = and_parts (is_key key) (is_name debtor) h in
     (names key c.0, c.1)
 
 account : (firm : List ℕ) (cents : ℕ) → (is_name firm && is_claim_amount cents) ≡ true → IsAccount (firm, cents)
 account firm cents h =
-    let c = both (is_name firm) (is_claim_amount cents) h in
+    let c = and_parts (is_name firm) (is_claim_amount cents) h in
     (c.0, claim_money cents c.1)
 
 offered : (firm : List ℕ) (cents : ℕ) → (is_name firm && is_amount cents) ≡ true → IsAccount (firm, cents)
 offered firm cents h =
-    let c = both (is_name firm) (is_amount cents) h in
+    let c = and_parts (is_name firm) (is_amount cents) h in
     (c.0, money cents c.1)
 
 monies : (list : List ℕ) → list_all is_amount list ≡ true → AllByRecursion IsMoney list
 monies [] h = tt
 monies (x ∷ xs) h =
-    let c = both (is_amount x) (list_all is_amount xs) h in
+    let c = and_parts (is_amount x) (list_all is_amount xs) h in
     (money x c.0, monies xs c.1)
 
 stored : (n : ℕ) → n ≤ most_firms → (list : List ℤ) → list_all (λ p. nat_le (unsigned_abs p) n) list ≡ true → AllByRecursion (IsStored n) list
 stored n few [] h = tt
 stored n few (x ∷ xs) h =
-    let c = both (nat_le (unsigned_abs x) n) (list_all (λ p. nat_le (unsigned_abs p) n) xs) h in
+    let c = and_parts (nat_le (unsigned_abs x) n) (list_all (λ p. nat_le (unsigned_abs p) n) xs) h in
     (near_stored n x (leb-true (unsigned_abs x) n c.0) few, stored n few xs c.1)
 
 lists : (outcome : OutcomeView) → is_outcome outcome ≡ true → HasLists outcome
 lists outcome h =
-    let near = both (nat_le (length outcome.discharges) most_claims && nat_le (length outcome.prices) most_firms && list_all is_amount outcome.discharges) (list_all (λ p. nat_le (unsigned_abs p) (length outcome.prices)) outcome.prices) h in
-    let cents = both (nat_le (length outcome.discharges) most_claims && nat_le (length outcome.prices) most_firms) (list_all is_amount outcome.discharges) near.0 in
-    let counts = both (nat_le (length outcome.discharges) most_claims) (nat_le (length outcome.prices) most_firms) cents.0 in
+    let near = and_parts (nat_le (length outcome.discharges) most_claims && nat_le (length outcome.prices) most_firms && list_all is_amount outcome.discharges) (list_all (λ p. nat_le (unsigned_abs p) (length outcome.prices)) outcome.prices) h in
+    let cents = and_parts (nat_le (length outcome.discharges) most_claims && nat_le (length outcome.prices) most_firms) (list_all is_amount outcome.discharges) near.0 in
+    let counts = and_parts (nat_le (length outcome.discharges) most_claims) (nat_le (length outcome.prices) most_firms) cents.0 in
     let c : length outcome.discharges ≤ most_claims = leb-true (length outcome.discharges) most_claims counts.0 in
     let n : length outcome.prices ≤ most_firms = leb-true (length outcome.prices) most_firms counts.1 in
     ((omega arith, monies outcome.discharges cents.1), (omega arith, stored (length outcome.prices) n outcome.prices near.1))
@@ -191,27 +191,27 @@ act_again : (a : Act) (rest : List ℕ) → is_valid a ≡ true → act_at (fiel
 unfolding fields_of act_at fields_at firm_at file_at confirm_at dispute_at withdraw_at receive_at fund_at draw_at limit_at offer_at position_at close_at publish_at
 act_again (act.Firm firm) rest h = made_again name_bytes Named name_at name_field (λ f. act.Firm f) firm rest h
 act_again (act.File key debtor amount due) rest h =
-    let dated = both (is_key key && is_name debtor && is_claim_amount amount) (is_day due) h in
-    let paid = both (is_key key && is_name debtor) (is_claim_amount amount) dated.0 in
+    let dated = and_parts (is_key key && is_name debtor && is_claim_amount amount) (is_day due) h in
+    let paid = and_parts (is_key key && is_name debtor) (is_claim_amount amount) dated.0 in
     made_again _ _ _ file_field (λ (((k, d), c), u). act.File k d c u) (((key, debtor), amount), due) rest ((claim key debtor paid.0, claim_money amount paid.1), dated.1)
 act_again (act.Confirm key debtor) rest h = made_again claim_bytes IsClaim claim_at claim_field (λ (k, d). act.Confirm k d) (key, debtor) rest (claim key debtor h)
 act_again (act.Dispute key debtor) rest h = made_again claim_bytes IsClaim claim_at claim_field (λ (k, d). act.Dispute k d) (key, debtor) rest (claim key debtor h)
 act_again (act.Withdraw key) rest h = made_again key_bytes HasNames key_at key_field (λ k. act.Withdraw k) key rest (names key h)
 act_again (act.Receive key amount) rest h =
-    let paid = both (is_key key) (is_claim_amount amount) h in
+    let paid = and_parts (is_key key) (is_claim_amount amount) h in
     made_again _ _ _ receive_field (λ (k, c). act.Receive k c) (key, amount) rest (names key paid.0, claim_money amount paid.1)
 act_again (act.Fund firm amount) rest h = made_again account_bytes IsAccount account_at account_field (λ (f, c). act.Fund f c) (firm, amount) rest (account firm amount h)
 act_again (act.Draw firm amount) rest h = made_again account_bytes IsAccount account_at account_field (λ (f, c). act.Draw f c) (firm, amount) rest (account firm amount h)
 act_again (act.Limit firm credit ceiling) rest h =
-    let high = both (is_name firm && is_amount credit) (is_amount ceiling) h in
+    let high = and_parts (is_name firm && is_amount credit) (is_amount ceiling) h in
     made_again _ _ _ limit_field (λ ((f, c), d). act.Limit f c d) ((firm, credit), ceiling) rest (offered firm credit high.0, money ceiling high.1)
 act_again (act.Offer firm amount) rest h = made_again account_bytes IsAccount account_at account_field (λ (f, c). act.Offer f c) (firm, amount) rest (offered firm amount h)
 act_again (act.Position firm) rest h = made_again name_bytes Named name_at name_field (λ f. act.Position f) firm rest h
 act_again (act.Close kind horizon) rest h = made_again _ _ _ close_field (λ (k, d). act.Close k d) (kind, horizon) rest (tt, h)
 act_again act.Abandon rest h = refl
 act_again (act.Publish round outcome) rest h =
-    let found = both (is_round round) (is_outcome outcome) h in
-    let small : round < 2 ^ 32 = ltb-true round (2 ^ 32) (both (nat_le 1 round) (nat_lt round (2 ^ 32)) found.0).1 in
+    let found = and_parts (is_round round) (is_outcome outcome) h in
+    let small : round < 2 ^ 32 = ltb-true round (2 ^ 32) (and_parts (nat_le 1 round) (nat_lt round (2 ^ 32)) found.0).1 in
     made_again _ _ _ publish_field (λ (r, o). act.Publish r o) (round, outcome) rest (small, lists outcome found.1)
 
 -- ---- whole calls
@@ -225,7 +225,7 @@ call_takes bytes caller a fits e =
     let u = bind_some (number_at w32 bytes) (λ u. act_at u.1 >>= ended u.0) (caller, a) e in
     let v = bind_some (act_at u.0.1) (ended u.0.0) (caller, a) u.2 in
     let g = passed (eqb (length v.0.1) 0 && is_keepable u.0.0 v.0.0) (u.0.0, v.0.0) (caller, a) v.2 in
-    let kept = both (eqb (length v.0.1) 0) (is_keepable u.0.0 v.0.0) g.0 in
+    let kept = and_parts (eqb (length v.0.1) 0) (is_keepable u.0.0 v.0.0) g.0 in
     let s = field32.takes bytes u.0.0 u.0.1 fits u.1 in
     let t = act_takes u.0.1 v.0.0 v.0.1 s.0.rest_fits v.1 in
     let nothing : v.0.1 ≡ [] = nil_from_length v.0.1 (eqb-true _ _ kept.0) in

@@ -1,5 +1,6 @@
 -- What the tables of a book keep, and how a book grows by one entry.
 use Rattle.std.specs.Prelude.{reverse, count_by, map, Option, Some, None, IsSome, IfSome, if◌then◌else◌, All}
+use Rattle.setoff_model.proofs.SameNames.{key_same}
 use Rattle.std.proofs.Common.{◌≡◌, ℕ, ◌^◌, ◌<◌, ◌≤◌, ◌+◌, Bool, true, false, cond, List, [], ◌∷◌, ◌++◌, ◌-◌, length, get_or, refl, sym, ◌∙◌, ap, ap₂, subst, true≢false, arith}
 use Rattle.std.proofs.lemmas.List.{reverse-append, length-map}
 use Rattle.std.proofs.lemmas.List.Elements.{All-map, All-push}
@@ -37,7 +38,6 @@ use Rattle.claim_book.specs.declared.round.KeptRound.{KeptRound}
 use Rattle.claim_book.specs.Book.{BookParts, ledger_of, round_kept, is_abandoned, IsClose, IsBook}
 use Rattle.fact_tables.specs.Settling.{settled_claim, settled_account}
 use Rattle.fact_tables.specs.Tables.{accounts_after, accounts_with, claims_after, claims_with, FirmsOnce, KeysOnce, AreSmall, AreAccounts}
-use Rattle.claim_history.proofs.Rows.{key_same}
 use Rattle.fact_tables.proofs.Places.{find_once, sum_by-map}
 use Rattle.claim_book.proofs.Sound.{IsSound, sound}
 use Rattle.claim_book.proofs.Tables.{tables, settled_with, settled_tables}

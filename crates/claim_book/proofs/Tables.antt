@@ -1,5 +1,6 @@
 -- The tables of a history with one more accepted act.
 use Rattle.std.specs.Prelude.{map, reverse, filter_map, is_some, if◌then◌else◌, ℤ, pos, ◌+ℤ◌, ◌-ℤ◌}
+use Rattle.setoff_model.proofs.SameNames.{key_same}
 use Rattle.std.specs.List.{list_any}
 use Rattle.std.proofs.Common.{◌≡◌, ℕ, ◌+◌, ◌-◌, Bool, true, false, List, [], ◌∷◌, ◌++◌, All, sum, sum_by, refl, sym, ◌∙◌, ap, ap₂, true≢false, arith}
 use Rattle.std.proofs.lemmas.Int.{ints}
@@ -21,7 +22,7 @@ use Rattle.claim_history.specs.Facts.{Ledger, Filing, firms, is_registered, fili
 use Rattle.claim_history.specs.States.{State, with_act}
 use Rattle.claim_history.specs.History.{answer, Refusals, refused_or, is_no_refusal, firm_refusals, file_refusals}
 use Rattle.claim_history.specs.declared.entry.Reply.TheVariants as reply
-use Rattle.claim_history.proofs.Rows.{NoneApplies, key_same}
+use Rattle.claim_history.proofs.Rows.{NoneApplies}
 use Rattle.fact_tables.specs.Tables.{funded, drawn, limited, offered, accounts_after, with_status, with_receipt, new_claim, claims_after}
 use Rattle.claim_book.proofs.Names.{name_flip, key_flip}
 use Rattle.setoff_model.specs.CutView.{OutcomeView}

@@ -1,5 +1,6 @@
 -- What the calls of a history bound.
 use Rattle.std.specs.Prelude.{count_by, filter, filter_map, flat_map, map, reverse, Option, if◌then◌else◌}
+use Rattle.setoff_model.proofs.SameNames.{name_same}
 use Rattle.std.specs.List.{cons_option, list_any, sum_by}
 use Rattle.std.specs.Cmp.{IsEquivalence}
 use Rattle.std.proofs.Common.{◌≡◌, ◌≢◌, ◌∙◌, ⊎_elim, ℕ, ◌+◌, ◌≤◌, Bool, true, false, not, cond, ◌||◌, List, [], ◌∷◌, ◌++◌, length, All, AllPairs, refl, sym, ap, subst, true≢false, arith}
@@ -25,7 +26,7 @@ use Rattle.claim_history.specs.Callers.{accepted_acts, call_of}
 use Rattle.claim_history.specs.Needs.{is_counted, record_length_of}
 use Rattle.claim_history.specs.Bounds.{CutBoundLaw, UseBoundLaw}
 use Rattle.claim_history.proofs.Pasts.{all_reverse, legal_first}
-use Rattle.claim_history.proofs.Rows.{name_is, name_same, not_true}
+use Rattle.claim_history.proofs.Rows.{name_is, not_true}
 use Rattle.claim_history.proofs.Opening.{any_distinct, two_names}
 use Rattle.claim_history.proofs.Growth.{past_acts}
 use Rattle.claim_history.proofs.Registered.{IsFiling, orderly}

@@ -26,6 +26,7 @@ pub mod Calls
 pub mod Published
 pub mod OneCut
 pub mod Open
+pub mod Valid
 mod WorkedRounds
 mod WorkedNeeds
 pub mod Room

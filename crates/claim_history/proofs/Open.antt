@@ -12,16 +12,16 @@ use Rattle.claim_history.specs.declared.entry.Entry.{Entry}
 use Rattle.claim_history.specs.declared.entry.Reply.{Reply}
 use Rattle.claim_history.specs.declared.entry.Reply.TheVariants as reply
 use Rattle.claim_history.specs.Acts.{is_abandonment, is_publication}
-use Rattle.claim_history.specs.States.{OpenRound, State, after, number_of, state, state_of}
+use Rattle.claim_history.specs.States.{OpenRound, State, after, number_of, open_as, state, state_of}
 use Rattle.claim_history.specs.History.{IsLegal, IsLegalPast, IsReply, abandon_answer, abandon_refusals, answer, close_answer, close_refusals, failed, is_no_refusal, is_opening, publish_answer, publish_refusals, replied}
 use Rattle.claim_history.specs.Rounds.{ends_round, has_end}
 use Rattle.claim_history.specs.Laws.{NoneOpenLaw, OpenLaw}
 use Rattle.claim_history.proofs.Pasts.{legal_first, reverse_parts}
 use Rattle.claim_history.proofs.Histories.{answer_cases}
 use Rattle.claim_history.proofs.Rows.{by_rows, or_false}
-use Rattle.claim_history.proofs.Rounds.{none_open}
+use Rattle.claim_history.proofs.Rounds.{none_open, same_open}
 use Rattle.claim_history.proofs.Replies.{IsOpening, opens}
-use Rattle.claim_history.proofs.Agreement.{cut_law, reply_counts}
+use Rattle.claim_history.proofs.Agreement.{cut_law, reply_counts, same_number}
 
 -- ---- an entry that ends a round is told so
 
@@ -79,12 +79,25 @@ opened_is : (s : State) (caller : ℕ) (a : Act) (r : Reply) → IsOpening s a r
 opened_is s caller a r o =
     subst₂ (λ (b : Act) (q : Reply). (number_of (after caller b q s).open_round ≡ s.openings + 1) × ((after caller b q s).openings ≡ s.openings + 1)) (sym o.act_is) (sym o.reply_is) (refl, refl)
 
-told_number : Reply → ℕ
-told_number (reply.Opened number) = number
-told_number _ = 0
-
 opens_as : (number : ℕ) (r : Reply) → r ≡ reply.Opened number → is_opening r ≡ true
 opens_as number r is = ap is_opening is
+
+-- the open round has a number from 1
+opened_from : (caller : ℕ) (a : Act) (s : State) → ((round : OpenRound) → s.open_round ≡ Some round → 1 ≤ round.cut.round) → (round : OpenRound) → (open_as caller a s).open_round ≡ Some round → 1 ≤ round.cut.round
+opened_from caller (act.Close kind horizon) s was round e =
+    let from : 1 ≤ s.openings + 1 = omega arith in
+    subst (λ (r : OpenRound). 1 ≤ r.cut.round) (same_open _ round e) from
+opened_from caller a s was round e = was round e
+
+number_after : (caller : ℕ) (a : Act) (r : Reply) (s : State) → ((round : OpenRound) → s.open_round ≡ Some round → 1 ≤ round.cut.round) → (round : OpenRound) → (after caller a r s).open_round ≡ Some round → 1 ≤ round.cut.round
+number_after caller a (reply.Opened number) s was round e = opened_from caller a s was round e
+number_after caller a (reply.Published total) s was round e = absurd (none_open round e)
+number_after caller a (reply.Abandoned number) s was round e = absurd (none_open round e)
+number_after caller a r s was round e = was round e
+
+pub number_from : (past : List Entry) (round : OpenRound) → (state past).open_round ≡ Some round → 1 ≤ round.cut.round
+number_from [] round e = absurd (none_open round e)
+number_from (e ∷ past) round is = number_after e.caller e.act e.reply (state past) (number_from past) round is
 
 -- ---- a past
 
@@ -93,8 +106,7 @@ module _ (before : List Entry) (opening : Entry) (number : ℕ) (is : opening.re
   o = opens (state before) _ opening.caller opening.act opening.reply legal.0 (opens_as number opening.reply is)
 
   number_is : number ≡ (state before).openings + 1
-  unfolding told_number
-  number_is = ap told_number (sym is ∙ o.reply_is)
+  number_is = same_number number ((state before).openings + 1) (sym is ∙ o.reply_is)
 
   first : number_of (state (opening ∷ before)).open_round ≡ number
   first = (opened_is (state before) opening.caller opening.act opening.reply o).0 ∙ sym number_is

@@ -2,7 +2,7 @@
 use Rattle.std.specs.Prelude.{reverse, if◌then◌else◌, Option, Some, None, ◌||◌, ◌↔◌}
 use Rattle.std.specs.List.{sum_by}
 use Rattle.std.proofs.Common.{◌≡◌, ℕ, ◌+◌, ◌≤◌, cond, nat_lt, Bool, true, false, not, ◌&&◌, List, [], ◌∷◌, ◌++◌, length, All, refl, sym, ◌∙◌, ap, subst, true≢false, arith}
-use Rattle.std.proofs.lemmas.Bool.{ltb-false, le-ltb}
+use Rattle.std.proofs.lemmas.Bool.{ltb-false, le-ltb, and_parts}
 use Rattle.std.proofs.lemmas.List.{reverse-append, reverse-reverse, length-map}
 use Rattle.std.proofs.lemmas.List.Elements.{All-head, All-tail}
 use Rattle.std.proofs.lemmas.List.Sums.{sum_by-cons}
@@ -27,7 +27,7 @@ use Rattle.claim_history.specs.History.{IsLegalPast, IsReply, Call, Refusals, ab
 use Rattle.claim_history.specs.Callers.{accepted_acts}
 use Rattle.claim_history.specs.Needs.{EndingsLaw, CallsLaw, FitsPast, FullLaw, NeedsLaw, IsWithinLimitsPast, RecordsLaw, RoomLaw, UseLaw, body_length_of, endings_bytes, endings_entries, is_counted, is_of_device, needed_bytes, needed_entries, own_bytes, record_length_of, used_bytes, used_entries}
 use Rattle.claim_history.proofs.Pasts.{all_reverse, entry_of}
-use Rattle.claim_history.proofs.Rows.{and_true, not_true}
+use Rattle.claim_history.proofs.Rows.{not_true}
 use Rattle.claim_history.proofs.Greatest.{IsPublishedOf, reply_published}
 
 -- ---- one more entry
@@ -160,7 +160,7 @@ name_no_device (row ∷ rows) = not (is_of_device (reply.Refused row.1)) && name
 no_device : (rows : Refusals) (otherwise : Reply) → name_no_device rows ≡ true → is_of_device otherwise ≡ false → is_of_device (refused_or rows otherwise) ≡ false
 no_device [] otherwise e last = last
 no_device (row ∷ rows) otherwise e last =
-    let both = and_true (not (is_of_device (reply.Refused row.1))) (name_no_device rows) e in
+    let both = and_parts (not (is_of_device (reply.Refused row.1))) (name_no_device rows) e in
     no_device_row row.0 row.1 (refused_or rows otherwise) (not_true _ both.0) (no_device rows otherwise both.1 last)
 
 close_no_device : (n : ℕ) (o : Option OpenRound) (caller : ℕ) (kind : Kind) (horizon : ℕ) → is_of_device (close_answer n o caller kind horizon) ≡ false

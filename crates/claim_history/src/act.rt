@@ -168,6 +168,7 @@ pub fn each_act_has_its_own_text()
     ensures law { ActTextsLaw }
 {}
 
+// A name is valid by its type, which the call tells.
 fn firm_is_valid(firm: &Name) -> bool
     ensures { result ≡ is_name firm.now }
 {
@@ -181,6 +182,7 @@ fn file_is_valid(key: &Key, debtor: &Name, amount: u64, due: &Day) -> bool
     confirm_is_valid(key, debtor) && is_payment(amount) && day_is_valid(due)
 }
 
+// A day is in its range by its type, which the call tells.
 fn day_is_valid(day: &Day) -> bool
     ensures { result ≡ is_day day.now }
 {

@@ -1,8 +1,8 @@
 -- A line and its fields.
-use Rattle.std.proofs.Common.{◌≡◌, ℕ, ◌<◌, ◌≤◌, ◌+◌, ◌/◌, ◌%◌, Bool, true, false, List, [], ◌∷◌, ◌++◌, length, refl, sym, ap, ◌∙◌, arith}
+use Rattle.std.proofs.Common.{◌≡◌, ℕ, ◌≤◌, ◌+◌, ◌/◌, ◌%◌, true, List, [], ◌∷◌, ◌++◌, refl, sym, ap, ◌∙◌, arith}
 use Rattle.std.specs.Prelude.{◌&&◌, nat_le, codes, get_or, Result, Ok, Err, IfOk, OnErr}
 use Rattle.std.specs.List.{AllByRecursion}
-use Rattle.std.proofs.lemmas.Bool.{leb-true}
+use Rattle.std.proofs.lemmas.Bool.{leb-true, and_parts}
 use Rattle.setoff_model.specs.Limits.{most_amount}
 use Rattle.setoff_model.specs.declared.name.Key.{Key}
 use Rattle.setoff_model.specs.Names.{is_name}
@@ -20,13 +20,9 @@ use Rattle.claim_history.specs.Acts.{is_request, is_key, is_amount, is_claim_amo
 use Rattle.request_text.specs.declared.error.LineCause.{LineCause}
 use Rattle.request_text.specs.Grammar.{AreNoArgs, AreFields, AreNoFields, IsLine, IsNoLine, line_fields}
 
-pub both : (a b : Bool) → (a && b) ≡ true → (a ≡ true) × (b ≡ true)
-both true b h = (refl, h)
-both false b h = absurd cc
-
 amount_within : (cents : ℕ) → is_claim_amount cents ≡ true → (1 ≤ cents) × (cents ≤ most_amount)
 amount_within cents h =
-    let p : (nat_le 1 cents ≡ true) × (nat_le cents most_amount ≡ true) = both _ _ h in
+    let p : (nat_le 1 cents ≡ true) × (nat_le cents most_amount ≡ true) = and_parts _ _ h in
     (leb-true 1 cents p.0, leb-true cents most_amount p.1)
 
 -- an amount of a claim is not that of nothing
@@ -35,16 +31,6 @@ not_nothing cents h e =
     let w = amount_within cents h in
     let zero : 0 ≡ cents = spelling_law.cents 0 cents (omega arith) (omega (arith, w.1)) e in
     absurd (omega (arith, w.0))
-
--- a list of five
-pub five : {X : Type 0} (d : X) (xs : List X) → 5 ≤ length xs → length xs < 6 → xs ≡ get_or xs 0 d ∷ get_or xs 1 d ∷ get_or xs 2 d ∷ get_or xs 3 d ∷ get_or xs 4 d ∷ []
-five d [] low high = absurd (omega arith)
-five d (a ∷ []) low high = absurd (omega arith)
-five d (a ∷ b ∷ []) low high = absurd (omega arith)
-five d (a ∷ b ∷ c ∷ []) low high = absurd (omega arith)
-five d (a ∷ b ∷ c ∷ e ∷ []) low high = absurd (omega arith)
-five d (a ∷ b ∷ c ∷ e ∷ f ∷ []) low high = refl
-five d (a ∷ b ∷ c ∷ e ∷ f ∷ g ∷ xs) low high = absurd (omega arith)
 
 -- the limits of an account, of which the second is no amount
 pub no_ceiling : (firm credit ceiling : List ℕ) → ((cents : ℕ) → is_amount cents ≡ true → ceiling ≡ cents_text cents → ⊥) → AreNoArgs (codes "LIMIT") (firm ∷ credit ∷ ceiling ∷ [])
@@ -56,7 +42,7 @@ no_ceiling firm credit ceiling h (act.Withdraw key₂) valid e = absurd cc
 no_ceiling firm credit ceiling h (act.Receive key₂ amount₂) valid e = absurd cc
 no_ceiling firm credit ceiling h (act.Fund firm₂ amount₂) valid e = absurd cc
 no_ceiling firm credit ceiling h (act.Draw firm₂ amount₂) valid e = absurd cc
-no_ceiling firm credit ceiling h (act.Limit f c d) valid e = h d (both (is_name f && is_amount c) (is_amount d) valid).1 (ap (λ (fs : List (List ℕ)). get_or fs 3 []) e)
+no_ceiling firm credit ceiling h (act.Limit f c d) valid e = h d (and_parts (is_name f && is_amount c) (is_amount d) valid).1 (ap (λ (fs : List (List ℕ)). get_or fs 3 []) e)
 no_ceiling firm credit ceiling h (act.Offer firm₂ amount₂) valid e = absurd cc
 no_ceiling firm credit ceiling h (act.Position firm₂) valid e = absurd cc
 no_ceiling firm credit ceiling h (act.Close kind₂ horizon₂) valid e = absurd cc
@@ -82,14 +68,14 @@ day_visible n =
 
 key_visible : VisibleLaw → (key : Key) → is_key key ≡ true → IsVisible key.creditor × IsVisible key.invoice
 key_visible law key h =
-    let k = both (is_name key.creditor) (is_name key.invoice) h in
+    let k = and_parts (is_name key.creditor) (is_name key.invoice) h in
     (law.names key.creditor k.0, law.names key.invoice k.1)
 
 amount_visible : VisibleLaw → (cents : ℕ) → is_amount cents ≡ true → IsVisible (cents_text cents)
 amount_visible law cents h = law.cents cents (omega (arith, leb-true cents most_amount h))
 
 claim_amount_visible : VisibleLaw → (cents : ℕ) → is_claim_amount cents ≡ true → IsVisible (cents_text cents)
-claim_amount_visible law cents h = amount_visible law cents (both (nat_le 1 cents) (is_amount cents) h).1
+claim_amount_visible law cents h = amount_visible law cents (and_parts (nat_le 1 cents) (is_amount cents) h).1
 
 kind_visible : (kind : Kind) → IsVisible (kind_text kind)
 kind_visible Plain = known (codes "PLAIN") refl
@@ -98,38 +84,38 @@ kind_visible Funded = known (codes "FUNDED") refl
 pub fields_visible : VisibleLaw → (a : Act) → is_request a ≡ true → AllByRecursion IsVisible (act_fields a)
 fields_visible law (act.Firm firm) h = (known (codes "FIRM") refl, (law.names firm h, tt))
 fields_visible law (act.File key debtor amount due) h =
-    let p = both (is_key key && is_name debtor && is_claim_amount amount) (is_day due) h in
-    let q = both (is_key key && is_name debtor) (is_claim_amount amount) p.0 in
-    let r = both (is_key key) (is_name debtor) q.0 in
+    let p = and_parts (is_key key && is_name debtor && is_claim_amount amount) (is_day due) h in
+    let q = and_parts (is_key key && is_name debtor) (is_claim_amount amount) p.0 in
+    let r = and_parts (is_key key) (is_name debtor) q.0 in
     let k = r.0 in
     (known (codes "FILE") refl, ((key_visible law key k).0, ((key_visible law key k).1, (law.names debtor r.1, (claim_amount_visible law amount q.1, (day_visible due, tt))))))
 fields_visible law (act.Confirm key debtor) h =
-    let r = both (is_key key) (is_name debtor) h in
+    let r = and_parts (is_key key) (is_name debtor) h in
     let k = r.0 in
     (known (codes "CONFIRM") refl, ((key_visible law key k).0, ((key_visible law key k).1, (law.names debtor r.1, tt))))
 fields_visible law (act.Dispute key debtor) h =
-    let r = both (is_key key) (is_name debtor) h in
+    let r = and_parts (is_key key) (is_name debtor) h in
     let k = r.0 in
     (known (codes "DISPUTE") refl, ((key_visible law key k).0, ((key_visible law key k).1, (law.names debtor r.1, tt))))
 fields_visible law (act.Withdraw key) h =
     let k = h in
     (known (codes "WITHDRAW") refl, ((key_visible law key k).0, ((key_visible law key k).1, tt)))
 fields_visible law (act.Receive key amount) h =
-    let r = both (is_key key) (is_claim_amount amount) h in
+    let r = and_parts (is_key key) (is_claim_amount amount) h in
     let k = r.0 in
     (known (codes "RECEIVE") refl, ((key_visible law key k).0, ((key_visible law key k).1, (claim_amount_visible law amount r.1, tt))))
 fields_visible law (act.Fund firm amount) h =
-    let r = both (is_name firm) (is_claim_amount amount) h in
+    let r = and_parts (is_name firm) (is_claim_amount amount) h in
     (known (codes "FUND") refl, (law.names firm r.0, (claim_amount_visible law amount r.1, tt)))
 fields_visible law (act.Draw firm amount) h =
-    let r = both (is_name firm) (is_claim_amount amount) h in
+    let r = and_parts (is_name firm) (is_claim_amount amount) h in
     (known (codes "DRAW") refl, (law.names firm r.0, (claim_amount_visible law amount r.1, tt)))
 fields_visible law (act.Limit firm credit ceiling) h =
-    let r = both (is_name firm && is_amount credit) (is_amount ceiling) h in
-    let q = both (is_name firm) (is_amount credit) r.0 in
+    let r = and_parts (is_name firm && is_amount credit) (is_amount ceiling) h in
+    let q = and_parts (is_name firm) (is_amount credit) r.0 in
     (known (codes "LIMIT") refl, (law.names firm q.0, (amount_visible law credit q.1, (amount_visible law ceiling r.1, tt))))
 fields_visible law (act.Offer firm amount) h =
-    let r = both (is_name firm) (is_amount amount) h in
+    let r = and_parts (is_name firm) (is_amount amount) h in
     (known (codes "OFFER") refl, (law.names firm r.0, (amount_visible law amount r.1, tt)))
 fields_visible law (act.Position firm) h = (known (codes "POSITION") refl, (law.names firm h, tt))
 fields_visible law (act.Close kind horizon) h = (known (codes "CLOSE") refl, (kind_visible kind, (day_visible horizon, tt)))
@@ -159,7 +145,3 @@ found_line law line parts (Err cause) e h = tt
 pub bad_line : JoinLaw → VisibleLaw → (line : List ℕ) (parts : List (List ℕ)) (r : Result Act LineCause) → parts ≡ fields line → OnErr r (AreNoFields parts) → OnErr r (IsNoLine line)
 bad_line law visible line parts (Ok a) e h = tt
 bad_line law visible line parts (Err cause) e h = is_no_line law visible line (λ a valid same. h a valid (e ∙ same))
-
-pub on_err : {T E : Type 0} (r : Result T E) (P : Type 0) → P → OnErr r P
-on_err (Ok t) P h = tt
-on_err (Err e) P h = h

@@ -1,5 +1,6 @@
 -- Names, each once, in order of first appearance.
 use Rattle.std.specs.Prelude.{filter, if◌then◌else◌}
+use Rattle.setoff_model.proofs.SameNames.{name_same}
 use Rattle.std.specs.List.{list_any}
 use Rattle.std.proofs.Common.{◌≡◌, ℕ, Bool, true, false, not, cond, ◌||◌, List, [], ◌∷◌, ◌++◌, refl, sym, ◌∙◌, ap}
 use Rattle.std.proofs.lemmas.List.{append-nil}
@@ -7,7 +8,7 @@ use Rattle.std.proofs.lemmas.List.Elements.{filter-append}
 use Rattle.std.proofs.lemmas.Map.Views.{any-filter_same}
 use Rattle.setoff_model.specs.Same.{same_name}
 use Rattle.claim_history.specs.Cut.{distinct}
-use Rattle.claim_history.proofs.Rows.{name_is, name_same, name_other}
+use Rattle.claim_history.proofs.Rows.{name_is, name_other}
 
 -- whether a name is among them, of those that are not x
 any_other : (n x : List ℕ) (xs : List (List ℕ)) → same_name n x ≡ false → list_any (same_name n) (filter (λ y. not (same_name x y)) xs) ≡ list_any (same_name n) xs

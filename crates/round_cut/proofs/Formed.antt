@@ -1,8 +1,9 @@
 -- The cut of facts is well formed.
 use Rattle.std.specs.Prelude.{map, filter, flat_map, find, nat_le, Option, Some, None, IfSome, pos, negsuc, ℤ, neg_ℤ, ◌≤ℤ◌}
+use Rattle.setoff_model.proofs.SameNames.{name_same}
 use Rattle.std.specs.List.{list_any, position_or_len}
 use Rattle.std.proofs.Common.{◌≡◌, ◌≢◌, ℕ, ◌<◌, ◌≤◌, Bool, true, false, not, ◌&&◌, ◌||◌, List, [], ◌∷◌, length, get_or, slice_index_or, All, AllPairs, refl, sym, ◌∙◌, ap, true≢false, arith}
-use Rattle.std.proofs.lemmas.Bool.{leb-true, false≢true}
+use Rattle.std.proofs.lemmas.Bool.{leb-true, false≢true, and_parts}
 use Rattle.std.proofs.lemmas.Int.{ints, clamps}
 use Rattle.std.proofs.lemmas.List.{get_or-map, length-map}
 use Rattle.std.proofs.lemmas.List.Sums.{passes_at_first, length-filter, count_by-le-length}
@@ -24,11 +25,10 @@ use Rattle.claim_history.specs.declared.fact.AccountFact.{AccountFact}
 use Rattle.claim_history.specs.Facts.{is_confirmed}
 use Rattle.claim_history.specs.Cut.{distinct}
 use Rattle.claim_history.specs.Laws.{IsWithin}
-use Rattle.claim_history.proofs.Rows.{name_is, and_true}
+use Rattle.claim_history.proofs.Rows.{name_is}
 use Rattle.setoff_model.specs.Windows.{Window}
 use Rattle.round_cut.specs.Windows.{KeepsLimits, window_of}
 use Rattle.round_cut.specs.CutOfFacts.{takes_part, claims_due, firms_in, window_or_none, party_in, claim_among, cut_of_facts, has_account, IsClaimOf, AreFacts}
-use Rattle.claim_history.proofs.Rows.{name_same}
 use Rattle.round_cut.proofs.Growth.{two_names, AreAmong, all_among}
 use Rattle.round_cut.proofs.Pairs.{pairs_map, at_most_one, All-flat_map, found_all}
 
@@ -123,8 +123,8 @@ name_at name firms e =
 
 part_left : (horizon : ℕ) (c : ClaimFact) → takes_part horizon c ≡ true → 1 ≤ c.left
 part_left horizon c e =
-    let first = and_true (is_confirmed c.status && nat_le 1 c.left) (nat_le c.due horizon) e in
-    leb-true 1 c.left (and_true (is_confirmed c.status) (nat_le 1 c.left) first.0).1
+    let first = and_parts (is_confirmed c.status && nat_le 1 c.left) (nat_le c.due horizon) e in
+    leb-true 1 c.left (and_parts (is_confirmed c.status) (nat_le 1 c.left) first.0).1
 
 claim_formed : (accounts : List AccountFact) (kind : Kind) (firms : List (List ℕ)) (c : ClaimFact) → AreAmong firms c → IsClaimOf accounts c → 1 ≤ c.left → IsClaimAmong (map (party_in accounts kind) firms) (claim_among firms c)
 claim_formed accounts kind firms c among of some =

@@ -1,5 +1,6 @@
 -- The parties and the claims of a cut, with one more claim.
 use Rattle.std.specs.Prelude.{map, flat_map, take, cond, if◌then◌else◌}
+use Rattle.setoff_model.proofs.SameNames.{name_same}
 use Rattle.std.specs.List.{list_any, position_or_len}
 use Rattle.std.proofs.Common.{◌≡◌, ℕ, ◌+◌, ◌<◌, Bool, true, false, List, [], ◌∷◌, ◌++◌, length, get_or, slice_index_or, All, refl, sym, ◌∙◌, ap, ap₂}
 use Rattle.std.proofs.lemmas.Bool.{or_right}
@@ -18,7 +19,6 @@ use Rattle.round_cut.specs.CutOfFacts.{takes_part, claims_due, firms_in, party_i
 use Rattle.round_cut.specs.Growing.{is_party, with_party, with_parties_of, placed}
 use Rattle.round_cut.proofs.Places.{or_left, place_stays, any_stays}
 use Rattle.round_cut.proofs.Distinct.{any_distinct, with_name, distinct_push}
-use Rattle.claim_history.proofs.Rows.{name_same}
 
 -- ---- the firms of claims are among their firms
 

@@ -1,5 +1,6 @@
 -- What a look-up says of the account of a firm, and of its party.
 use Rattle.std.specs.Prelude.{position, Some, None, if◌then◌else◌}
+use Rattle.setoff_model.proofs.SameNames.{name_same}
 use Rattle.std.specs.List.{list_any, position_or_len}
 use Rattle.std.proofs.Common.{◌≡◌, ℕ, Bool, true, false, List, [], ◌∷◌, ◌++◌, length, get_or, refl, sym, ◌∙◌, ap, ap₂}
 use Rattle.setoff_model.proofs.Lists.{position_none}
@@ -12,7 +13,6 @@ use Rattle.round_cut.specs.Windows.{window_of}
 use Rattle.round_cut.specs.CutOfFacts.{window_or_none, window_in, party_in}
 use Rattle.round_cut.specs.Growing.{is_party, with_party, placed}
 use Rattle.round_cut.proofs.Places.{found_at, find_none, position_any, place_last, place_stays, any_joined}
-use Rattle.claim_history.proofs.Rows.{name_same}
 
 -- ---- accounts
 

@@ -1,6 +1,6 @@
 -- A line and its fields.
 use Rattle.std.specs.Prelude.{codes, ℤ, pos, negsuc, unsigned_abs, Option, Some, None, IfNone}
-use Rattle.std.proofs.Common.{◌≡◌, ℕ, suc, ◌<◌, ◌≤◌, ◌^◌, List, [], ◌∷◌, length, get_or, refl, sym, ap, ◌∙◌, arith, decimal}
+use Rattle.std.proofs.Common.{◌≡◌, ℕ, suc, ◌<◌, ◌≤◌, ◌^◌, List, [], ◌∷◌, get_or, refl, sym, ap, ◌∙◌, arith, decimal}
 use Rattle.setoff_model.specs.Limits.{most_window}
 use Rattle.setoff_model.specs.declared.kind.Kind.{Kind}
 use Rattle.setoff_model.specs.declared.kind.Kind.TheVariants.{Plain, Funded}
@@ -37,16 +37,6 @@ no_discharge creditor invoice debtor amount discharge bad (line.Head round kind)
 no_discharge creditor invoice debtor amount discharge bad (line.Party f p) r e = absurd cc
 no_discharge creditor invoice debtor amount discharge bad (line.Claim key name cents d) r e = bad d r.5 (ap (λ (fs : List (List ℕ)). get_or fs 5 []) e)
 no_discharge creditor invoice debtor amount discharge bad line.End r e = absurd cc
-
--- a list of five
-pub five : {X : Type 0} (d : X) (xs : List X) → 5 ≤ length xs → length xs < 6 → xs ≡ get_or xs 0 d ∷ get_or xs 1 d ∷ get_or xs 2 d ∷ get_or xs 3 d ∷ get_or xs 4 d ∷ []
-five d [] low high = absurd (omega arith)
-five d (a ∷ []) low high = absurd (omega arith)
-five d (a ∷ b ∷ []) low high = absurd (omega arith)
-five d (a ∷ b ∷ c ∷ []) low high = absurd (omega arith)
-five d (a ∷ b ∷ c ∷ e ∷ []) low high = absurd (omega arith)
-five d (a ∷ b ∷ c ∷ e ∷ f ∷ []) low high = refl
-five d (a ∷ b ∷ c ∷ e ∷ f ∷ g ∷ xs) low high = absurd (omega arith)
 
 -- ---- the fields of a line have no space
 

@@ -4,7 +4,7 @@ use Rattle.std.proofs.Common.{◌≡◌, ◌≢◌, ℕ, suc, ◌+◌, ◌-◌, 
 use Rattle.std.specs.List.{AllByRecursion, list_all}
 use Rattle.std.specs.Str.Lines.{lines, strip_carriage_return}
 use Rattle.std.proofs.Math.Seq.{drop-append_seam, take-append_seam, get_or-append_seam}
-use Rattle.std.proofs.lemmas.Bool.{ne_eqb, leb-true}
+use Rattle.std.proofs.lemmas.Bool.{ne_eqb, leb-true, and_parts}
 use Rattle.std.proofs.lemmas.Bool.Decides.{nat_tests}
 use Rattle.std.proofs.lemmas.Fmt.{decimal_by_steps}
 use Rattle.std.proofs.lemmas.List.{length-append, get_or_append_left}
@@ -69,18 +69,14 @@ append_plain a b h k = All-append (λ x. 32 ≤ x) a b h k
 name_byte_plain : (b : ℕ) → is_name_byte b ≡ true → 32 ≤ b
 name_byte_plain b h = grind (arith, nat_tests)
 
-both : (a b : Bool) → (a && b) ≡ true → (a ≡ true) × (b ≡ true)
-both true b h = (refl, h)
-both false b h = absurd cc
-
 letter_is_name_byte : (c : ℕ) → is_letter c ≡ true → is_name_byte c ≡ true
 letter_is_name_byte c h = ap (λ (b : Bool). b || (nat_le 48 c && nat_le c 57) || c == 45) h
 
 name_plain : (text : List ℕ) → is_name text ≡ true → IsPlain text
 name_plain [] h = absurd cc
 name_plain (c ∷ cs) h =
-    let p : ((is_letter c && nat_le (length cs) 15) ≡ true) × (list_all is_name_byte cs ≡ true) = both _ _ h in
-    let q : (is_letter c ≡ true) × (nat_le (length cs) 15 ≡ true) = both _ _ p.0 in
+    let p : ((is_letter c && nat_le (length cs) 15) ≡ true) × (list_all is_name_byte cs ≡ true) = and_parts _ _ h in
+    let q : (is_letter c ≡ true) × (nat_le (length cs) 15 ≡ true) = and_parts _ _ p.0 in
     All-cons (λ x. 32 ≤ x) c cs (name_byte_plain c (letter_is_name_byte c q.0))
     (All-weaker (λ b. is_name_byte b ≡ true) (λ b. 32 ≤ b) name_byte_plain cs (AllPass-from_list_all is_name_byte cs p.1))
 

@@ -1,7 +1,7 @@
 use Rattle.std.proofs.Common.{List, ℕ, Bor, map, ap, subst, sym, [], arith}
 use Rattle.std.specs.Prelude.{codes, OnErr}
 use Rattle.request_text.specs.Grammar.{AreNoArgs}
-use Rattle.request_text.proofs.Words.{five}
+use Rattle.setoff_model.proofs.Lists.{five}
 use Rattle.request_text.proofs.fields.file_act.Goals as goal
 
 pub returns-clause-bad : goal.returns-clause-bad

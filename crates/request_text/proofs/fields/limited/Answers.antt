@@ -1,4 +1,5 @@
-use Rattle.request_text.proofs.Words.{no_ceiling, on_err}
+use Rattle.setoff_model.proofs.Lists.{on_err}
+use Rattle.request_text.proofs.Words.{no_ceiling}
 use Rattle.request_text.proofs.fields.limited.Goals as goal
 
 pub returns-in_err-ceiling-clause-bad : goal.returns-in_err-ceiling-clause-bad

@@ -1,7 +1,7 @@
 use Rattle.std.proofs.Common.{List, ℕ, Bor, map, ap, subst, sym, [], ◌∷◌, arith}
 use Rattle.std.specs.Prelude.{codes, IfNone}
 use Rattle.statement_text.specs.Lines.{AreNoFields}
-use Rattle.statement_text.proofs.Words.{five}
+use Rattle.setoff_model.proofs.Lists.{five}
 use Rattle.statement_text.proofs.fields.claim_of.Goals as goal
 
 pub returns-clause-none : goal.returns-clause-none
