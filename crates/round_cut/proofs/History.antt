@@ -1,5 +1,5 @@
 -- The facts of a legal history of valid acts, and its cut.
-use Rattle.std.specs.Prelude.{◌≢◌, map, filter, find, reverse, Option, Some, ℤ, pos, neg_ℤ, ◌+ℤ◌, ◌-ℤ◌}
+use Rattle.std.specs.Prelude.{◌≢◌, map, find, reverse, Option, Some, ℤ, pos, neg_ℤ, ◌+ℤ◌, ◌-ℤ◌}
 use Rattle.std.specs.Int.{int_min}
 use Rattle.std.specs.List.{list_any}
 use Rattle.std.specs.Option.{option_map}

@@ -1,10 +1,9 @@
 -- What a test finds in a list: whether, where, and what.
-use Rattle.std.specs.Prelude.{map, find, position, Option, Some, None, is_some, if◌then◌else◌}
+use Rattle.std.specs.Prelude.{find, position, Option, Some, None, if◌then◌else◌}
 use Rattle.std.specs.List.{list_any, position_or_len, slice_get}
-use Rattle.std.proofs.Common.{◌≡◌, ℕ, suc, ◌+◌, ◌<◌, ◌≤◌, Bool, true, false, not, cond, ◌||◌, List, [], ◌∷◌, ◌++◌, nat_lt, length, get_or, refl, sym, ◌∙◌, ap, true≢false, arith}
-use Rattle.std.proofs.lemmas.Bool.{or_parts, or_right, ltb-false}
-use Rattle.std.proofs.lemmas.List.Sums.{fails_before_first}
-use Rattle.std.proofs.lemmas.List.Folds.{list_any_none, list_any_at, list_any-append, find_at}
+use Rattle.std.proofs.Common.{◌≡◌, ℕ, suc, ◌+◌, Bool, true, false, not, cond, ◌||◌, List, [], ◌∷◌, ◌++◌, nat_lt, length, get_or, refl, sym, ◌∙◌, ap, true≢false, arith}
+use Rattle.std.proofs.lemmas.Bool.{or_parts, or_right}
+use Rattle.std.proofs.lemmas.List.Folds.{list_any_at, list_any-append, find_at}
 use Rattle.std.proofs.lemmas.Option.{cond_some, slice_get-get_or}
 use Rattle.std.proofs.lemmas.List.Quantifiers.{position-Some}
 use Rattle.setoff_model.proofs.Lists.{or_rest}
