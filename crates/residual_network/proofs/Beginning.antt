@@ -41,10 +41,10 @@ are_among o net is among = record {
 
 -- ---- the flow of the empty set-off
 
-empty_claim : (o : Obligations) (c : ℕ) → c < length o.amounts → slice_index (empty_flow o) c ≡ 0
+pub empty_claim : (o : Obligations) (c : ℕ) → c < length o.amounts → slice_index (empty_flow o) c ≡ 0
 empty_claim o c lt = get_or_append_left (replicate (length o.amounts) 0) o.spends 0 c (omega (arith, length-replicate {A = ℕ} (length o.amounts) 0)) ∙ get_or-replicate {A = ℕ} (length o.amounts) c 0 0 lt
 
-empty_window : (o : Obligations) (f : ℕ) → slice_index (empty_flow o) (length o.amounts + f) ≡ slice_index o.spends f
+pub empty_window : (o : Obligations) (f : ℕ) → slice_index (empty_flow o) (length o.amounts + f) ≡ slice_index o.spends f
 empty_window o f =
     let long : length (replicate (length o.amounts) 0) ≡ length o.amounts = length-replicate {A = ℕ} (length o.amounts) 0 in
     ap (λ (k : ℕ). slice_index (empty_flow o) (k + f)) (sym long) ∙ get_or-append-add (replicate (length o.amounts) 0) o.spends f 0
@@ -57,7 +57,7 @@ empty_is_flow o net is = record {
       (λ f lt. let e = empty_window o f in let w = is.window f lt in omega (arith, e, w)) a (omega (arith, is.arcs, in'));
 }
 
-nothing : (a b x : ℕ) → x ≡ 0 → (if a == b then x else 0) ≡ 0
+pub nothing : (a b x : ℕ) → x ≡ 0 → (if a == b then x else 0) ≡ 0
 nothing a b x e = grind (arith, nat_tests)
 
 -- what is discharged at a party where nothing is
@@ -103,10 +103,10 @@ empty_rests o net is v in' =
 
 -- ---- the flow at which a solver begins
 
-full_claim : (o : Obligations) (c : ℕ) → c < length o.amounts → slice_index (full_flow o) c ≡ slice_index o.amounts c
+pub full_claim : (o : Obligations) (c : ℕ) → c < length o.amounts → slice_index (full_flow o) c ≡ slice_index o.amounts c
 full_claim o c lt = get_or_append_left o.amounts o.spends 0 c lt
 
-full_window : (o : Obligations) (f : ℕ) → slice_index (full_flow o) (length o.amounts + f) ≡ slice_index o.spends f
+pub full_window : (o : Obligations) (f : ℕ) → slice_index (full_flow o) (length o.amounts + f) ≡ slice_index o.spends f
 full_window o f = get_or-append-add o.amounts o.spends f 0
 
 full_is_flow : (o : Obligations) (net : Network) → IsNetworkOf o net → IsFlow net.arcs (full_flow o)

@@ -1,9 +1,8 @@
 -- The state at the beginning.
-use Rattle.std.specs.Prelude.{slice_index, if◌then◌else◌, ◌==◌, replicate, pos, ◌-ℤ◌}
-use Rattle.std.proofs.Common.{◌≡◌, ℕ, ◌+◌, ◌<◌, List, [], ◌∷◌, ◌++◌, length, sym, ◌∙◌, ap, inl, inr, arith, length-append}
-use Rattle.std.proofs.lemmas.Bool.{cases_eq}
+use Rattle.std.specs.Prelude.{slice_index, if◌then◌else◌, ◌==◌, pos, ◌-ℤ◌}
+use Rattle.std.proofs.Common.{◌≡◌, ℕ, ◌+◌, ◌<◌, List, [], ◌∷◌, ◌++◌, length, sym, ◌∙◌, ap, arith, length-append}
 use Rattle.std.proofs.lemmas.Int.{ints}
-use Rattle.std.proofs.lemmas.List.{length-map, length-replicate, get_or-replicate, get_or_append_left, get_or-append-add}
+use Rattle.std.proofs.lemmas.List.{length-map}
 use Rattle.setoff_model.specs.declared.cut.Party.{Party}
 use Rattle.setoff_model.specs.Setoff.{Obligations, price_at, flow_at}
 use Rattle.setoff_model.specs.CutView.{spends}
@@ -12,8 +11,8 @@ use Rattle.netting_graph.specs.declared.arc.Arc.{Arc}
 use Rattle.netting_graph.specs.NetView.{NetView, IsNet, obligations_of_net, arc_amounts, arc_creditors, arc_debtors}
 use Rattle.residual_network.specs.Network.{Network, IsFlow, ArcSlack, AreArcsAmong, excess_at}
 use Rattle.residual_network.specs.NetworkOf.{IsNetworkOf, empty_flow, full_flow}
-use Rattle.residual_network.proofs.Sums.{sum_below-split, sum_below-none, choose_yes, choose_no}
-use Rattle.residual_network.proofs.Beginning.{network_law}
+use Rattle.residual_network.proofs.Sums.{sum_below-split, sum_below-none}
+use Rattle.residual_network.proofs.Beginning.{nothing, empty_claim, empty_window, full_claim, full_window, network_law}
 use Rattle.residual_state.specs.declared.edge.Edge.{Edge}
 use Rattle.residual_state.specs.declared.state.State.{State}
 use Rattle.residual_state.specs.Edges.{AreAmong, capacities, network_of, graph}
@@ -24,16 +23,12 @@ use Rattle.residual_state.proofs.Starting.{in_range, difference_small}
 
 -- ---- excesses of the full flow
 
-chosen_zero : (a b x : ℕ) → x ≡ 0 → (if a == b then x else 0) ≡ 0
-chosen_zero a b x e =
-    elim (cases_eq a b) as (λ _. (if a == b then x else 0) ≡ 0) [ inl s ↦ choose_yes a b x s ∙ e | inr ne ↦ choose_no a b x ne ]
-
 -- what the first m arcs bring is what a flow has beyond one that has nothing there, and the same elsewhere
 beyond : (m n : ℕ) (places x z : List ℕ) (v : ℕ) → ((c : ℕ) → c < m → slice_index z c ≡ 0) → ((k : ℕ) → k < n → slice_index x (m + k) ≡ slice_index z (m + k)) → flow_at (m + n) places x v ≡ flow_at (m + n) places z v + flow_at m places x v
 beyond m n places x z v none same =
     let sx = sum_below-split m n (λ c. if slice_index places c == v then slice_index x c else 0) in
     let sz = sum_below-split m n (λ c. if slice_index places c == v then slice_index z c else 0) in
-    let zero = sum_below-none m (λ c. if slice_index places c == v then slice_index z c else 0) (λ c lt. chosen_zero (slice_index places c) v (slice_index z c) (none c lt)) in
+    let zero = sum_below-none m (λ c. if slice_index places c == v then slice_index z c else 0) (λ c lt. nothing (slice_index places c) v (slice_index z c) (none c lt)) in
     let rest = sum_below-same n (λ k. if slice_index places (m + k) == v then slice_index x (m + k) else 0) (λ k. if slice_index places (m + k) == v then slice_index z (m + k) else 0)
     (λ k lt. ap (λ y. if slice_index places (m + k) == v then y else 0) (same k lt)) in
     omega (arith, sx, sz, zero, rest)
@@ -45,27 +40,12 @@ same_flow_at m ps qs xs ys v p x =
     (λ c lt. ap (λ k. if k == v then slice_index xs c else 0) (p c lt) ∙ ap (λ y. if slice_index qs c == v then y else 0) (x c lt))
 
 module _ (o : Obligations) (net : Network) (is : IsNetworkOf o net) where
-  full_claim : (c : ℕ) → c < length o.amounts → slice_index (full_flow o) c ≡ slice_index o.amounts c
-  full_claim c lt = get_or_append_left o.amounts o.spends 0 c lt
-
-  full_window : (f : ℕ) → slice_index (full_flow o) (length o.amounts + f) ≡ slice_index o.spends f
-  full_window f = get_or-append-add o.amounts o.spends f 0
-
-  zeros : length {A = ℕ} (replicate (length o.amounts) 0) ≡ length o.amounts
-  zeros = length-replicate {A = ℕ} (length o.amounts) 0
-
-  empty_claim : (c : ℕ) → c < length o.amounts → slice_index (empty_flow o) c ≡ 0
-  empty_claim c lt = get_or_append_left (replicate (length o.amounts) 0) o.spends 0 c (omega (arith, zeros)) ∙ get_or-replicate {A = ℕ} (length o.amounts) c 0 0 lt
-
-  empty_window : (f : ℕ) → slice_index (empty_flow o) (length o.amounts + f) ≡ slice_index o.spends f
-  empty_window f = ap (λ k. slice_index (empty_flow o) (k + f)) (sym zeros) ∙ get_or-append-add (replicate (length o.amounts) 0) o.spends f 0
-
   -- at the nodes where claims stand
   full_at : (places claims : List ℕ) (v : ℕ) → ((c : ℕ) → c < length o.amounts → slice_index places c ≡ slice_index claims c) →
       flow_at (length net.arcs.capacities) places (full_flow o) v ≡ flow_at (length net.arcs.capacities) places (empty_flow o) v + flow_at (length o.amounts) claims o.amounts v
   full_at places claims v same =
-      let split = beyond (length o.amounts) (length o.spends) places (full_flow o) (empty_flow o) v empty_claim (λ k lt. full_window k ∙ sym (empty_window k)) in
-      let claim = same_flow_at (length o.amounts) places claims (full_flow o) o.amounts v same full_claim in
+      let split = beyond (length o.amounts) (length o.spends) places (full_flow o) (empty_flow o) v (empty_claim o) (λ k lt. full_window o k ∙ sym (empty_window o k)) in
+      let claim = same_flow_at (length o.amounts) places claims (full_flow o) o.amounts v same (full_claim o) in
       let one = ap (λ k. flow_at k places (full_flow o) v) is.arcs in
       let two = ap (λ k. flow_at k places (empty_flow o) v) is.arcs in
       omega (arith, split, claim, one, two)

@@ -1,7 +1,6 @@
 -- The solver's arcs make the network of the net's obligations.
 use Rattle.std.specs.Prelude.{slice_index, map, replicate, sum}
-use Rattle.std.proofs.Common.{◌≡◌, ℕ, ◌+◌, ◌<◌, List, [], ◌∷◌, ◌++◌, length, get_or, refl, sym, ◌∙◌, ap, subst, inl, inr, arith, length-append}
-use Rattle.std.proofs.lemmas.Bool.{cases_eq}
+use Rattle.std.proofs.Common.{◌≡◌, ℕ, ◌+◌, ◌<◌, List, [], ◌∷◌, ◌++◌, length, get_or, refl, sym, ◌∙◌, ap, arith, length-append}
 use Rattle.std.proofs.lemmas.List.{length-map, get_or-map, get_or_append_left, get_or-append-add, get_or_push, length-replicate, get_or-replicate}
 use Rattle.std.proofs.lemmas.List.Elements.{All-get_or}
 use Rattle.setoff_model.specs.declared.cut.Party.{Party}
@@ -11,14 +10,10 @@ use Rattle.netting_graph.specs.NetView.{NetView, IsNet, IsArcAmong, obligations_
 use Rattle.residual_network.specs.NetworkOf.{IsNetworkOf, IsAmongParties}
 use Rattle.residual_state.specs.declared.edge.Edge.{Edge}
 use Rattle.residual_state.specs.Edges.{tails, heads, capacities, rewards, network_of, claim_edge, AreWindows}
+use Rattle.residual_state.proofs.Labelling.{by_last}
 use Rattle.residual_state.proofs.Pushed.{pushed_kept, pushed_last}
 
 -- ---- one window more
-
--- what holds of each place before the last, and of the last
-by_last : (m : ℕ) (P : ℕ → Type 0) → ((f : ℕ) → f < m → P f) → P m → (f : ℕ) → f < m + 1 → P f
-by_last m P before last f lt =
-    elim (cases_eq f m) as (λ _. P f) [ inl e ↦ subst P (sym e) last | inr ne ↦ before f (omega arith) ]
 
 pub windows_more : (parties : List Party) (m : ℕ) (edges : List Edge) (w : Edge) → AreWindows parties m edges → w.tail ≡ m → w.head ≡ length parties → w.capacity ≡ slice_index (spends parties) m + slice_index (rooms parties) m → w.reward ≡ 0 →
     AreWindows parties (m + 1) (edges ++ w ∷ [])

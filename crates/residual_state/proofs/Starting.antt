@@ -1,28 +1,23 @@
 -- Excesses at the beginning.
 use Rattle.std.specs.Prelude.{slice_index, if◌then◌else◌, ◌==◌, ℤ, pos, ◌+ℤ◌, ◌-ℤ◌, neg_ℤ, unsigned_abs}
-use Rattle.std.proofs.Common.{◌≡◌, ℕ, zero, suc, ◌+◌, ◌*◌, ◌<◌, ◌≤◌, ◌^◌, List, length, get_or, refl, sym, ◌∙◌, ap, subst, inl, inr, arith}
+use Rattle.std.proofs.Common.{◌≡◌, ℕ, suc, ◌+◌, ◌*◌, ◌<◌, ◌≤◌, ◌^◌, List, length, get_or, refl, sym, ◌∙◌, ap, subst, inl, inr, arith}
 use Rattle.std.proofs.lemmas.Bool.{cases_eq}
 use Rattle.std.proofs.lemmas.Int.{ints}
 use Rattle.std.proofs.lemmas.List.{get_or-map}
 use Rattle.std.proofs.lemmas.List.Elements.{All-get_or}
-use Rattle.setoff_model.specs.Sums.{sum_below}
 use Rattle.setoff_model.specs.Setoff.{price_at, flow_at}
+use Rattle.setoff_model.proofs.SumsBounded.{sum_below-most}
 use Rattle.netting_graph.specs.declared.arc.Arc.{Arc}
 use Rattle.netting_graph.specs.NetView.{NetView, IsNet, IsArcAmong, arc_debtors, arc_creditors, arc_amounts}
 use Rattle.residual_network.proofs.Sums.{choose_yes, choose_no}
 use Rattle.residual_state.specs.Starts.{IsChanged, IsDifference, AreInRange}
-
--- a sum of numbers that are at most u
-sum_below_most : (m u : ℕ) (g : ℕ → ℕ) → ((k : ℕ) → k < m → g k ≤ u) → sum_below m g ≤ m * u
-sum_below_most zero u g le = omega arith
-sum_below_most (suc m) u g le = omega (arith, sum_below_most m u g (λ k lt. le k (omega arith)), le m (omega arith))
 
 chosen_most : (a b x u : ℕ) → x ≤ u → (if a == b then x else 0) ≤ u
 chosen_most a b x u le =
     elim (cases_eq a b) as (λ _. (if a == b then x else 0) ≤ u) [ inl e ↦ omega (arith, choose_yes a b x e) | inr ne ↦ omega (arith, choose_no a b x ne) ]
 
 flow_most : (m u : ℕ) (places x : List ℕ) (v : ℕ) → ((k : ℕ) → k < m → slice_index x k ≤ u) → flow_at m places x v ≤ m * u
-flow_most m u places x v le = sum_below_most m u (λ c. if slice_index places c == v then slice_index x c else 0) (λ k lt. chosen_most (slice_index places k) v (slice_index x k) u (le k lt))
+flow_most m u places x v le = sum_below-most m u (λ c. if slice_index places c == v then slice_index x c else 0) (λ k lt. chosen_most (slice_index places k) v (slice_index x k) u (le k lt))
 
 -- differences of sums of so few amounts are small
 pub difference_small : (n m : ℕ) (arcs : List Arc) (e : List ℤ) (v : ℕ) → AreInRange n arcs → m ≤ length arcs → length arcs ≤ 262144 → v < length e → IsDifference arcs e m → unsigned_abs (price_at e v) ≤ 2 ^ 90

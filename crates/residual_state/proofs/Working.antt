@@ -1,8 +1,8 @@
 -- The solver's steps, at its state.
-use Rattle.std.specs.Prelude.{slice_index, replicate, unsigned_abs, Bool, ℤ, pos, ◌≤ℤ◌, ◌<ℤ◌}
-use Rattle.std.proofs.Common.{◌≡◌, ℕ, ◌+◌, ◌<◌, List, [], ◌∷◌, ◌++◌, length, ◌∙◌, ap, inl, inr, arith, length-append}
+use Rattle.std.specs.Prelude.{slice_index, unsigned_abs, Bool, ℤ, pos, ◌≤ℤ◌, ◌<ℤ◌}
+use Rattle.std.proofs.Common.{◌≡◌, ℕ, ◌+◌, ◌<◌, List, length, ◌∙◌, ap, inl, inr, arith, length-append}
 use Rattle.std.proofs.lemmas.Int.{ints}
-use Rattle.std.proofs.lemmas.List.{length-map, length-replicate}
+use Rattle.std.proofs.lemmas.List.{length-map}
 use Rattle.setoff_model.specs.Setoff.{price_at}
 use Rattle.setoff_model.specs.Squeezing.{IsSqueezed}
 use Rattle.residual_network.specs.Network.{arc_gain, ArcSlack, AreArcsAmong}

@@ -1,5 +1,5 @@
 -- The labels of a search, by columns.
-use Rattle.std.specs.Prelude.{◌≡◌, ◌⊎◌, ℕ, ◌-◌, ◌<◌, ◌≤◌, List, [], ◌∷◌, ◌++◌, Bool, true, length, map, min, slice_index, slice_set, ℤ, pos, ◌≤ℤ◌, ◌<ℤ◌}
+use Rattle.std.specs.Prelude.{◌≡◌, ℕ, ◌-◌, ◌<◌, List, [], ◌∷◌, ◌++◌, Bool, true, length, map, min, slice_index, slice_set, ℤ, pos, ◌≤ℤ◌, ◌<ℤ◌}
 use Rattle.setoff_model.specs.Sums.{sum_below}
 use Rattle.residual_network.specs.Network.{Arcs, arc_gain}
 use Rattle.residual_network.specs.Labels.{mark}
