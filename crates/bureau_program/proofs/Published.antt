@@ -6,7 +6,7 @@ use Rattle.std.proofs.Common.{◌≡◌, ℕ, ◌<◌, ◌≤◌, ◌^◌, Bool,
 use Rattle.std.proofs.lemmas.Bool.{eq-eqb, le-leb, lt-ltb}
 use Rattle.std.proofs.lemmas.List.Elements.{All-head, All-tail, All-from_get_or, All-weaker}
 use Rattle.std.proofs.lemmas.Option.{same_Some}
-use Rattle.setoff_model.specs.Limits.{most_amount}
+use Rattle.setoff_model.specs.Limits.{most_amount, most_claims, most_firms}
 use Rattle.setoff_model.specs.CutView.{CutView, OutcomeView, WellFormed, obligations}
 use Rattle.setoff_model.specs.Setoff.{Proves, IsOldestFirst, total_of}
 use Rattle.setoff_model.specs.ProofTest.{is_proved}
@@ -20,7 +20,7 @@ use Rattle.claim_history.specs.declared.entry.Why.{Why}
 use Rattle.claim_history.specs.declared.entry.Entry.{Entry}
 use Rattle.claim_history.specs.Acts.{is_valid, is_amount, is_outcome, is_round}
 use Rattle.claim_history.specs.States.{OpenRound, State, state_of}
-use Rattle.claim_history.specs.History.{answer, publish_answer, refused_or}
+use Rattle.claim_history.specs.History.{answer, answer_of, publish_answer, refused_or}
 use Rattle.bureau_program.specs.Serving.{IsPublicationAfter}
 use Rattle.bureau_program.specs.Closing.{IsOutcomeDue, Owns}
 use Rattle.printed_text.proofs.Printing.{number_from}
@@ -37,7 +37,7 @@ list_true {X = X} p (x ∷ xs) h = both (p x) (list_all p xs) (All-head (λ (y :
 
 amounts_valid : (cut : CutView) (outcome : OutcomeView) → WellFormed cut → Proves (obligations cut) outcome.discharges outcome.prices → list_all is_amount outcome.discharges ≡ true
 amounts_valid cut outcome formed proved =
-    list_true is_amount outcome.discharges (All-weaker (λ d. d ≤ 999999999999) (λ d. is_amount d ≡ true) (λ d le. le-leb d most_amount le) outcome.discharges (lawful_fits.small cut outcome.discharges formed proved.lawful))
+    list_true is_amount outcome.discharges (All-weaker (λ d. d ≤ most_amount) (λ d. is_amount d ≡ true) (λ d le. le-leb d most_amount le) outcome.discharges (lawful_fits.small cut outcome.discharges formed proved.lawful))
 
 prices_valid : (cut : CutView) (outcome : OutcomeView) → Proves (obligations cut) outcome.discharges outcome.prices → list_all (λ p. nat_le (unsigned_abs p) (length outcome.prices)) outcome.prices ≡ true
 prices_valid cut outcome proved =
@@ -47,13 +47,13 @@ prices_valid cut outcome proved =
 
 outcome_valid : (cut : CutView) (outcome : OutcomeView) → WellFormed cut → Proves (obligations cut) outcome.discharges outcome.prices → is_outcome outcome ≡ true
 outcome_valid cut outcome formed proved =
-    let few_discharges = nat_le (length outcome.discharges) 262144 in
-    let few_prices = nat_le (length outcome.prices) 16384 in
+    let few_discharges = nat_le (length outcome.discharges) most_claims in
+    let few_prices = nat_le (length outcome.prices) most_firms in
     let discharges = list_all is_amount outcome.discharges in
     let prices = list_all (λ p. nat_le (unsigned_abs p) (length outcome.prices)) outcome.prices in
     both (few_discharges && few_prices && discharges) prices (both (few_discharges && few_prices) discharges (both few_discharges few_prices
-    (le-leb (length outcome.discharges) 262144 (omega (arith, claims_long cut, proved.lawful.one_each, formed.few_claims)))
-    (le-leb (length outcome.prices) 16384 (omega (arith, parties_long cut, proved.price_each, formed.few_parties))))
+    (le-leb (length outcome.discharges) most_claims (omega (arith, claims_long cut, proved.lawful.one_each, formed.few_claims)))
+    (le-leb (length outcome.prices) most_firms (omega (arith, parties_long cut, proved.price_each, formed.few_parties))))
     (amounts_valid cut outcome formed proved))
     (prices_valid cut outcome proved)
 
@@ -79,16 +79,17 @@ publication_due s caller number outcome due =
 -- and the entry is the publication of the open round
 pub publication_after : (history : List Entry) (caller number total : ℕ) (outcome : OutcomeView) → IsOutcomeDue (state_of history) caller number outcome → total ≡ total_of outcome.discharges
     → IsPublicationAfter history caller (record { caller = caller; act = act.Publish number outcome; reply = reply.Published total })
-publication_after history caller number total outcome due is = record {
-  round = due.round;
-  outcome = outcome;
-  was_open = due.owned.is_open;
-  call = record { by = refl; asks = ap (λ (n : ℕ). act.Publish n outcome) due.number_is };
-  reply_is = ap reply.Published is;
-  proved = due.proved;
-  greatest = weak_duality.proved_is_greatest _ _ _ due.proved;
-  oldest_first = due.oldest_first;
-}
+publication_after history caller number total outcome due is =
+    let asks : act.Publish number outcome ≡ act.Publish due.round.cut.round outcome = ap (λ (n : ℕ). act.Publish n outcome) due.number_is in record {
+      round = due.round;
+      outcome = outcome;
+      was_open = due.owned.is_open;
+      answer = record { by = refl; asks = asks; reply_is = ap reply.Published is ∙ publication_due (state_of history) caller number outcome due ∙ ap (answer_of history caller) asks };
+      total_is = ap reply.Published is;
+      proved = due.proved;
+      greatest = weak_duality.proved_is_greatest _ _ _ due.proved;
+      oldest_first = due.oldest_first;
+    }
 
 -- ---- the round of the open cut
 

@@ -11,7 +11,7 @@ use Rattle.claim_history.specs.declared.act.Act.TheVariants as act
 use Rattle.claim_history.specs.declared.entry.Reply.{Reply}
 use Rattle.claim_history.specs.declared.entry.Reply.TheVariants as reply
 use Rattle.claim_history.specs.declared.entry.Entry.{Entry}
-use Rattle.claim_history.specs.Acts.{is_publication}
+use Rattle.claim_history.specs.Acts.{is_close}
 use Rattle.claim_history.specs.Facts.{Settled, claim_facts, account_facts}
 use Rattle.claim_history.specs.Cut.{cut_of}
 use Rattle.claim_history.specs.States.{State, after, open_as, state, state_of}
@@ -24,51 +24,17 @@ use Rattle.claim_history.proofs.Greatest.{reply_published}
 use Rattle.round_cut.specs.CutOfFacts.{cut_of_facts}
 use Rattle.round_cut.proofs.History.{cut_law}
 use Rattle.bureau_program.specs.declared.closing.Closed.TheVariants.{Accepted}
-use Rattle.printed_text.specs.Printing.{cuts_of}
-use Rattle.bureau_program.specs.Serving.{EndsAtOnce, IsAnswered, IsCall, IsPublicationAfter, is_close, left_open, published, unserved}
+use Rattle.claim_history.specs.Rounds.{cuts_of}
+use Rattle.bureau_program.specs.Serving.{EndsAtOnce, IsAnswerTo, IsAnswered, IsPublicationAfter, left_open, published, unserved}
 use Rattle.bureau_program.specs.Serving.{replied as one_reply}
 use Rattle.bureau_program.specs.Closing.{IsClosed, IsPublished, Owns}
-
--- ---- the rounds of one entry more
-
-state_next : (history : List Entry) (e : Entry) → state_of (history ++ e ∷ []) ≡ after e.caller e.act e.reply (state_of history)
-state_next history e = ap state (reverse-append history (e ∷ []))
-
--- the reply publishes
-abbrev is_published : Reply → Bool
-is_published (reply.Published total) = true
-is_published _ = false
-
-open_rounds : (caller : ℕ) (a : Act) (s : State) → (open_as caller a s).ledger.rounds ≡ s.ledger.rounds
-open_rounds caller (act.Close kind horizon) s = refl
-open_rounds caller a s = refl
-
-rounds_kept : (caller : ℕ) (a : Act) (r : Reply) (s : State) → is_published r ≡ false → (after caller a r s).ledger.rounds ≡ s.ledger.rounds
-rounds_kept caller a (reply.Published total) s e = absurd (true≢false e)
-rounds_kept caller a (reply.Opened number) s e = open_rounds caller a s
-rounds_kept caller a r s e = refl
-
-only_published : (r : Reply) → ((total : ℕ) → r ≡ reply.Published total → ⊥) → is_published r ≡ false
-only_published (reply.Published total) h = absurd (h total refl)
-only_published r h = refl
-
-none_published : (history : List Entry) (e : Entry) → MayFollow history e → is_publication e.act ≡ false → is_published e.reply ≡ false
-none_published history e may apart =
-    only_published e.reply (λ total is. true≢false (sym (ap is_publication (reply_published (state_of history) _ e.caller e.act e.reply total may is).asks) ∙ apart))
-
--- an entry that publishes nothing keeps the cuts
-pub cuts_kept : (history new : List Entry) (e : Entry) → new ≡ history ++ e ∷ [] → MayFollow history e → is_publication e.act ≡ false → cuts_of new ≡ cuts_of history
-cuts_kept history new e is may apart =
-    ap cuts_of is
-    ∙ ap (λ (s : State). reverse (map (λ (r : Settled). r.cut) s.ledger.rounds)) (state_next history e)
-    ∙ ap (λ (rounds : List Settled). reverse (map (λ (r : Settled). r.cut) rounds)) (rounds_kept e.caller e.act e.reply (state_of history) (none_published history e may apart))
 
 -- ---- what a request adds
 
 pub answered_nothing : (before after' : List Entry) (caller : ℕ) (a : Act) → after' ≡ before → IsAnswered before after' caller a false
 answered_nothing before after' caller a is = record { added = []; parts = is ∙ sym (append-nil before); adds = unserved }
 
-pub answered_one : (before after' : List Entry) (caller : ℕ) (a : Act) (e : Entry) → after' ≡ before ++ e ∷ [] → IsCall caller a e → EndsAtOnce a e → IsAnswered before after' caller a true
+pub answered_one : (before after' : List Entry) (caller : ℕ) (a : Act) (e : Entry) → after' ≡ before ++ e ∷ [] → IsAnswerTo before caller a e → EndsAtOnce a e → IsAnswered before after' caller a true
 answered_one before after' caller a e is call ends = record { added = e ∷ []; parts = is; adds = one_reply e call ends }
 
 pub ends_other : (a : Act) (e : Entry) → is_close a ≡ false → EndsAtOnce a e

@@ -9,7 +9,7 @@ use Rattle.claim_history.specs.History.{is_accepted}
 use Rattle.claim_history.specs.Laws.{IsOwned}
 use Rattle.bureau_program.specs.declared.closing.Closed.{Closed}
 use Rattle.bureau_program.specs.declared.closing.Closed.TheVariants.{Unserved, Refused, Accepted}
-use Rattle.bureau_program.specs.Serving.{IsCall, IsAcceptedCall, IsPublicationAfter}
+use Rattle.bureau_program.specs.Serving.{IsAnswerTo, IsAcceptedCall, IsPublicationAfter}
 
 -- a round is open, and the caller owns it
 abbrev pub Owns : ℕ → State → Type 0
@@ -18,8 +18,8 @@ Owns caller s = (round : OpenRound) × IsOwned caller s round
 -- the entry of a Close, where there was the memory for it; where it is accepted, its round is open and the caller's
 abbrev pub IsClosed : List Entry → List Entry → ℕ → Act → Closed → Type 0
 IsClosed before after caller a Unserved = after ≡ before
-IsClosed before after caller a Refused = (e : Entry) × (after ≡ before ++ e ∷ []) × IsCall caller a e × (is_accepted e ≡ false)
-IsClosed before after caller a Accepted = (e : Entry) × (after ≡ before ++ e ∷ []) × IsAcceptedCall caller a e × Owns caller (state_of after)
+IsClosed before after caller a Refused = (e : Entry) × (after ≡ before ++ e ∷ []) × IsAnswerTo before caller a e × (is_accepted e ≡ false)
+IsClosed before after caller a Accepted = (e : Entry) × (after ≡ before ++ e ∷ []) × IsAcceptedCall before caller a e × Owns caller (state_of after)
 
 -- room for the publication of a round
 abbrev pub HasRoomIfAccepted : Closed → ℕ → Type 0

@@ -6,6 +6,7 @@ use Rattle.bureau_edge.specs.Streams.{TakesAll}
 use Rattle.request_text.specs.declared.request.Request.{Request}
 use Rattle.request_text.specs.declared.error.LineCause.{LineCause}
 use Rattle.request_text.specs.Grammar.{IsRequestText, IsNoRequestText, IsFirstBadLine}
+use Rattle.setoff_model.specs.Limits.{most_input_bytes}
 use Rattle.setoff_model.specs.CutView.{CutView, OutcomeView}
 use Rattle.setoff_checker.specs.declared.verdict.Verdict.{Verdict}
 use Rattle.setoff_checker.specs.Verdicts.{IsVerdict}
@@ -14,10 +15,6 @@ use Rattle.statement_text.specs.Statements as statements
 use Rattle.printed_text.specs.Texts.{bad_line_text, bad_statement_text, verdict_text, verdict_status}
 use Rattle.bureau_program.specs.Serving.{IsServedRun}
 use Rattle.printed_text.specs.Writing.{Wrote}
-
--- the most bytes of an input: 2^26
-abbrev pub most_bytes : ℕ
-most_bytes = 67108864
 
 abbrev pub AreRun : List (List ℕ) → Type 0
 AreRun words = words ≡ codes "run" ∷ []
@@ -46,14 +43,18 @@ pub data IsCheckDue (input : List ℕ) : ℕ → List ℕ → Type 0 where
 pub data IsReadDue (IsInputDue : List ℕ → ℕ → List ℕ → Type 0) (left_old left_new : Option (List ℕ)) : ℕ → List ℕ → Type 0 where
   no_input_memory : IsReadDue IsInputDue left_old left_new 9 (codes "fault memory\n")
   read_fault : IsReadDue IsInputDue left_old left_new 3 (codes "fault read\n")
-  too_long : (taken : List ℕ) → Consumes left_old left_new taken → length taken ≡ most_bytes + 1 → IsReadDue IsInputDue left_old left_new 7 (codes "fault input too long\n")
-  input_read : (input : List ℕ) → TakesAll most_bytes left_old left_new input → (status : ℕ) (text : List ℕ) → IsInputDue input status text → IsReadDue IsInputDue left_old left_new status text
+  too_long : (taken : List ℕ) → Consumes left_old left_new taken → length taken ≡ most_input_bytes + 1 → IsReadDue IsInputDue left_old left_new 7 (codes "fault input too long\n")
+  input_read : (input : List ℕ) → TakesAll most_input_bytes left_old left_new input → (status : ℕ) (text : List ℕ) → IsInputDue input status text → IsReadDue IsInputDue left_old left_new status text
 
 -- the status and the text that are due for the words; with other words nothing is read
 pub data IsDue (words : List (List ℕ)) (left_old left_new : Option (List ℕ)) : ℕ → List ℕ → Type 0 where
   bad_words : (AreRun words → ⊥) → (AreCheck words → ⊥) → left_old ≡ left_new → IsDue words left_old left_new 2 (codes "fault words\n")
   run_words : AreRun words → (status : ℕ) (text : List ℕ) → IsReadDue IsRunDue left_old left_new status text → IsDue words left_old left_new status text
   check_words : AreCheck words → (status : ℕ) (text : List ℕ) → IsReadDue IsCheckDue left_old left_new status text → IsDue words left_old left_new status text
+
+-- the status and the text that are due where there was no memory for the words
+pub data IsMemoryDue : ℕ → List ℕ → Type 0 where
+  no_word_memory : IsMemoryDue 9 (codes "fault memory\n")
 
 -- the whole run: what was due for the words and the input was written
 abbrev pub Ran : List (List ℕ) → Option (List ℕ) → Option (List ℕ) → Option (List ℕ) → Option (List ℕ) → ℕ → Type 0

@@ -7,20 +7,17 @@ use Rattle.claim_history.specs.declared.act.Act.{Act}
 use Rattle.claim_history.specs.declared.act.Act.TheVariants as act
 use Rattle.claim_history.specs.declared.entry.Entry.{Entry}
 use Rattle.claim_history.specs.declared.entry.Reply.TheVariants as reply
+use Rattle.claim_history.specs.Acts.{is_close}
 use Rattle.claim_history.specs.States.{OpenRound, state_of}
-use Rattle.claim_history.specs.History.{IsLegal, is_accepted}
+use Rattle.claim_history.specs.History.{IsLegal, answer_of, is_accepted}
 use Rattle.request_text.specs.declared.request.Request.{Request}
 use Rattle.printed_text.specs.Printing.{printed_of}
 
--- the caller's call of the act
-pub record IsCall (caller : ℕ) (a : Act) (e : Entry) : Type 0 where
+-- the caller's call of the act after a history, with the one reply of that history
+pub record IsAnswerTo (history : List Entry) (caller : ℕ) (a : Act) (e : Entry) : Type 0 where
   pub by : e.caller ≡ caller
   pub asks : e.act ≡ a
-
--- the act is a Close
-abbrev pub is_close : Act → Bool
-is_close (act.Close kind horizon) = true
-is_close _ = false
+  pub reply_is : e.reply ≡ answer_of history caller a
 
 -- a call that is refused, or of another verb than Close
 abbrev pub EndsAtOnce : Act → Entry → Type 0
@@ -28,8 +25,8 @@ EndsAtOnce (act.Close kind horizon) e = is_accepted e ≡ false
 EndsAtOnce _ e = Unit {0}
 
 -- an accepted Close
-pub record IsAcceptedCall (caller : ℕ) (a : Act) (e : Entry) : Type 0 where
-  pub call : IsCall caller a e
+pub record IsAcceptedCall (history : List Entry) (caller : ℕ) (a : Act) (e : Entry) : Type 0 where
+  pub answer : IsAnswerTo history caller a e
   pub closes : is_close a ≡ true
   pub accepted : is_accepted e ≡ true
 
@@ -39,8 +36,8 @@ pub record IsPublicationAfter (history : List Entry) (caller : ℕ) (e : Entry) 
   pub round : OpenRound
   pub outcome : OutcomeView
   pub was_open : (state_of history).open_round ≡ Some round
-  pub call : IsCall caller (act.Publish round.cut.round outcome) e
-  pub reply_is : e.reply ≡ reply.Published (total_of outcome.discharges)
+  pub answer : IsAnswerTo history caller (act.Publish round.cut.round outcome) e
+  pub total_is : e.reply ≡ reply.Published (total_of outcome.discharges)
   pub proved : Proves (obligations round.cut) outcome.discharges outcome.prices
   pub greatest : IsGreatest (obligations round.cut) outcome.discharges
   pub oldest_first : IsOldestFirst (obligations round.cut) outcome.discharges
@@ -48,10 +45,10 @@ pub record IsPublicationAfter (history : List Entry) (caller : ℕ) (e : Entry) 
 -- what one request adds to the entries before it. Where it was served: one entry or, where it is a Close that is accepted, this
 -- and the publication of its round. Where it was not, for want of memory: nothing, or a Close alone that is accepted
 pub data Adds (before : List Entry) (caller : ℕ) (a : Act) : Bool → List Entry → Type 0 where
-  replied : (e : Entry) → IsCall caller a e → EndsAtOnce a e → Adds before caller a true (e ∷ [])
-  published : (e publication : Entry) → IsAcceptedCall caller a e → IsPublicationAfter (before ++ e ∷ []) caller publication → Adds before caller a true (e ∷ publication ∷ [])
+  replied : (e : Entry) → IsAnswerTo before caller a e → EndsAtOnce a e → Adds before caller a true (e ∷ [])
+  published : (e publication : Entry) → IsAcceptedCall before caller a e → IsPublicationAfter (before ++ e ∷ []) caller publication → Adds before caller a true (e ∷ publication ∷ [])
   unserved : Adds before caller a false []
-  left_open : (e : Entry) → IsAcceptedCall caller a e → Adds before caller a false (e ∷ [])
+  left_open : (e : Entry) → IsAcceptedCall before caller a e → Adds before caller a false (e ∷ [])
 
 -- the entries after one request, from those before it
 pub record IsAnswered (before after : List Entry) (caller : ℕ) (a : Act) (mark : Bool) : Type 0 where

@@ -7,7 +7,7 @@ ghost use Rattle.claim_history.specs.States.{state_of};
 ghost use Rattle.claim_history.specs.History.{IsLegal, answer_of, is_opening};
 ghost use Rattle.claim_history.specs.declared.act.Act.TheVariants as acts;
 ghost use Rattle.claim_history.specs.declared.entry.Reply.TheVariants as replies;
-ghost use Rattle.printed_text.specs.Printing.{cuts_of};
+ghost use Rattle.claim_history.specs.Rounds.{cuts_of};
 ghost use Rattle.bureau_program.specs.Serving.{IsAnswered};
 ghost use Rattle.bureau_program.specs.Closing.{Owns, IsClosed, HasRoomIfAccepted, IsPublished, IsOutcomeDue, IsPublishedAs};
 

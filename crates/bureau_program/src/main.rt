@@ -1,4 +1,15 @@
-//! A bureau for the multilateral set-off of trade credit.
+//! A bureau for the multilateral set-off of trade credit: the program.
+//!
+//! `bureau` is the whole program over a source and a sink, and `main` calls nothing else. The word `run` reads requests
+//! and serves them in order over a book that begins empty, and that ends with the run. The word `check` reads a statement
+//! and judges it.
+//!
+//! - The input is read whole before anything is served, and all is served before anything is printed.
+//! - Each reply is the one reply of the entries before it.
+//! - A Close that is accepted is followed by the publication of its round: solved, certified, and never without a proof.
+//! - A request for which there was no memory is marked. It added nothing, or it is a Close whose round it left open, which
+//!   its caller's next Close of that kind and horizon continues.
+//! - What is printed is one fault line, or all entries and a line for each request that was marked.
 #![tactic(auto)]
 
 mod check;
@@ -11,28 +22,31 @@ mod tests;
 mod top;
 
 use bureau_edge::{StandardIn, StandardOut};
+use std::alloc::AllocError;
 use std::env;
+use std::io::ErrorKind;
 use std::process::ExitCode;
 pub use top::{Ended, bureau};
 
-// The words after the program's name; None where they cannot be had.
-fn words(rt: &HostRuntime) -> Option<Vec<String>> {
+// The words after the program's name. Where one of them is no text, there are none, and no list of the program's words is that.
+// The only error is that memory is missing.
+fn words(rt: &HostRuntime) -> Result<Vec<String>, AllocError> {
     let mut words = Vec::new(rt.alloc());
-    let mut args = env::args(rt).ok()?;
+    let mut args = match env::args(rt) {
+        Ok(args) => args,
+        Err(error) if error.kind() == ErrorKind::OutOfMemory => return Err(AllocError),
+        Err(_) => return Ok(words),
+    };
     let _program = args.next();
     for word in args {
-        words.push(word).ok()?;
+        words.push(word)?;
     }
-    Some(words)
+    Ok(words)
 }
 
 fn main(rt: HostRuntime) -> ExitCode {
-    let words = match words(&rt) {
-        Some(words) => words,
-        None => Vec::new(rt.alloc()),
-    };
     let source = StandardIn::new(&rt);
     let sink = StandardOut::new(&rt);
-    let ended = bureau(&rt, rt.alloc(), words, source, sink);
+    let ended = bureau(&rt, rt.alloc(), words(&rt), source, sink);
     ExitCode::from(ended.status)
 }

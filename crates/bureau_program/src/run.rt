@@ -3,7 +3,7 @@ ghost use Rattle.std.specs.Prelude.{◌≡◌, ◌≢◌, ◌≤◌, ◌+◌, []
 ghost use Rattle.fault_count.specs.Counts.{HasRisen};
 ghost use Rattle.claim_history.specs.Acts.{is_request};
 ghost use Rattle.request_text.specs.Grammar.{IsFirstBadLine, IsNoRequestText};
-ghost use Rattle.printed_text.specs.Printing.{cuts_of};
+ghost use Rattle.claim_history.specs.Rounds.{cuts_of};
 ghost use Rattle.bureau_program.specs.Serving.{IsServed, IsServedRun};
 ghost use Rattle.printed_text.specs.Writing.{Wrote};
 ghost use Rattle.bureau_program.specs.Headline.{IsBatchDue, IsRunDue};

@@ -1,12 +1,12 @@
 //! Serving requests over a book.
 ghost use Rattle.std.specs.Prelude.{◌≡◌, ◌<◌, ◌≤◌, true, false, All, IfOk, IsTrue, length, vec_len};
 ghost use Rattle.std.specs.List.{list_all};
-ghost use Rattle.claim_history.specs.Acts.{is_valid, is_request, is_publication};
+ghost use Rattle.claim_history.specs.Acts.{is_close, is_valid, is_request, is_publication};
 ghost use Rattle.claim_history.specs.States.{state_of};
 ghost use Rattle.claim_history.specs.History.{IsLegal, AreValid};
 ghost use Rattle.claim_book.specs.Book.{room_for};
-ghost use Rattle.printed_text.specs.Printing.{cuts_of};
-ghost use Rattle.bureau_program.specs.Serving.{IsServed, IsAnswered, is_close, end_status};
+ghost use Rattle.claim_history.specs.Rounds.{cuts_of};
+ghost use Rattle.bureau_program.specs.Serving.{IsServed, IsAnswered, end_status};
 
 use crate::closing::serve_close;
 use claim_book::Book;

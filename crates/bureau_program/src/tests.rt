@@ -33,7 +33,7 @@ fn words_of(alloc: Global, texts: &[&str]) -> Result<Vec<String>, AllocError> {
 
 #[test]
 fn runs(rt: HostRuntime) -> Result<(), Fail> {
-    let cases: [(&[&str], &[u8], u8, &[u8]); 15] = [
+    let cases: [(&[&str], &[u8], u8, &[u8]); 16] = [
         (&["run"], FOUR_LINES, 0, FOUR_ENTRIES),
         (&["run"], b"", 0, b""),
         (&["run", "now"], b"1 FIRM A\n", 2, b"fault words\n"),
@@ -53,6 +53,7 @@ fn runs(rt: HostRuntime) -> Result<(), Fail> {
         ),
         (&["run"], b"1 FIRM A\n\n", 6, b"fault line 2 lane\n"),
         (&["run"], b"1  FIRM A\n", 6, b"fault line 1 verb\n"),
+        (&["run"], b"1 FIRM\n", 6, b"fault line 1 fields\n"),
         (&["run"], b"1 FIRM A\r", 6, b"fault line 1 field 1\n"),
         (
             &["run"],
@@ -78,7 +79,13 @@ fn runs(rt: HostRuntime) -> Result<(), Fail> {
     for (texts, input, status, output) in cases {
         let source = SureSource::new(Vec::from_slice(rt.alloc(), input)?);
         let sink = BytesSink::new(rt.alloc(), Vec::new(rt.alloc()));
-        let ended = bureau(&rt, rt.alloc(), words_of(rt.alloc(), texts)?, source, sink);
+        let ended = bureau(
+            &rt,
+            rt.alloc(),
+            Ok(words_of(rt.alloc(), texts)?),
+            source,
+            sink,
+        );
         assert!(rt; ended.status == status);
         assert!(rt; ended.sink.bytes() == output);
     }
@@ -103,7 +110,7 @@ fn a_failing_call(rt: HostRuntime) -> Result<(), Fail> {
         let ended = bureau(
             &rt,
             rt.alloc(),
-            words_of(rt.alloc(), &["run"])?,
+            Ok(words_of(rt.alloc(), &["run"])?),
             source,
             sink,
         );
@@ -244,7 +251,7 @@ fn an_input_in_pieces_of_one_byte(rt: HostRuntime) -> Result<(), Fail> {
     let ended = bureau(
         &rt,
         rt.alloc(),
-        words_of(rt.alloc(), &["run"])?,
+        Ok(words_of(rt.alloc(), &["run"])?),
         source,
         sink,
     );
@@ -253,15 +260,73 @@ fn an_input_in_pieces_of_one_byte(rt: HostRuntime) -> Result<(), Fail> {
     Ok(())
 }
 
+// A source of so many bytes 0.
+#[derive(Drop)]
+struct Zeros {
+    left: usize,
+}
+
+impl Source for Zeros {
+    ghost use Rattle.std.specs.Prelude.{None};
+
+    ghost left = { λ _. None };
+
+    ghost faults = { λ _. 0 };
+
+    fn read(&mut self, into: &mut [u8]) -> Result<usize, Failed> {
+        let count = self.left.min(into.len());
+        self.left -= count;
+        Ok(count)
+    }
+}
+
+// An input of 2^26 bytes is read, and one byte more is too much.
 #[test]
-fn a_line_of_a_million_bytes(rt: HostRuntime) -> Result<(), Fail> {
-    let mut input = Vec::from_slice(rt.alloc(), b"1 FIRM ")?;
-    for _ in 0..1_000_000 {
-        input.push(b'A')?;
+fn the_longest_input(rt: HostRuntime) -> Result<(), Fail> {
+    let cases: [(usize, u8, &[u8]); 2] = [
+        (67_108_864, 6, b"fault line 1 lane\n"),
+        (67_108_865, 7, b"fault input too long\n"),
+    ];
+    for (left, status, output) in cases {
+        let sink = BytesSink::new(rt.alloc(), Vec::new(rt.alloc()));
+        let ended = bureau(
+            &rt,
+            rt.alloc(),
+            Ok(words_of(rt.alloc(), &["run"])?),
+            Zeros { left },
+            sink,
+        );
+        assert!(rt; ended.status == status);
+        assert!(rt; ended.sink.bytes() == output);
+    }
+    Ok(())
+}
+
+#[test]
+fn a_run_of_100_000_lines(rt: HostRuntime) -> Result<(), Fail> {
+    let mut input = Vec::from_slice(rt.alloc(), b"1 FIRM A\n")?;
+    let mut output = Vec::from_slice(rt.alloc(), b"1 FIRM A = ok\n")?;
+    for _ in 0..100_000 {
+        input.extend_from_slice(b"1 POSITION A\n")?;
+        output.extend_from_slice(b"1 POSITION A = balance 0.00 receivable 0.00 payable 0.00\n")?;
     }
     let ended = ended_for(&rt, "run", input)?;
+    assert!(rt; ended.status == 0);
+    assert!(rt; ended.sink.bytes() == output.as_slice());
+    Ok(())
+}
+
+// The party after the most of a statement is told as that, also where it repeats one.
+#[test]
+fn a_statement_of_too_many_parties(rt: HostRuntime) -> Result<(), Fail> {
+    let mut statement = String::from_str(rt.alloc(), "ROUND 1 PLAIN\n")?;
+    for party in 0..16_384 {
+        statement.push_str(&format!(in rt.alloc(); "PARTY F-{party} 0.00 0.00 0\n")?)?;
+    }
+    statement.push_str("PARTY F-0 0.00 0.00 0\n")?;
+    let ended = ended_for(&rt, "check", statement.into_bytes())?;
     assert!(rt; ended.status == 6);
-    assert!(rt; ended.sink.bytes() == b"fault line 1 field 1\n".as_slice());
+    assert!(rt; ended.sink.bytes() == b"fault line 16386 limit\n".as_slice());
     Ok(())
 }
 
@@ -347,7 +412,7 @@ fn ended_for(
     word: &str,
     input: Vec<u8>,
 ) -> Result<Ended<SureSource, BytesSink>, AllocError> {
-    let words = words_of(rt.alloc(), &[word])?;
+    let words = Ok(words_of(rt.alloc(), &[word])?);
     let source = SureSource::new(input);
     let sink = BytesSink::new(rt.alloc(), Vec::new(rt.alloc()));
     Ok(bureau(rt, rt.alloc(), words, source, sink))

@@ -1,8 +1,8 @@
 //! The top call: words, source and sink.
-ghost use Rattle.std.specs.Prelude.{◌≡◌, ◌≢◌, map, string_bytes};
+ghost use Rattle.std.specs.Prelude.{◌≡◌, ◌≢◌, IfOk, IsErr, OnErr, map, string_bytes};
 ghost use Rattle.fault_count.specs.Counts.{HasRisen};
 ghost use Rattle.printed_text.specs.Writing.{Wrote};
-ghost use Rattle.bureau_program.specs.Headline.{IsReadDue, Ran};
+ghost use Rattle.bureau_program.specs.Headline.{IsMemoryDue, IsReadDue, Ran};
 ghost use Rattle.bureau_program.specs.Commands.{AreNoWords, IsInputDue};
 ghost use Rattle.bureau_program.specs.Completeness.{Completes};
 
@@ -11,10 +11,8 @@ use crate::command::{Command, command_of};
 use crate::run::run_input;
 use bureau_edge::{ReadEnd, Sink, Source, read_whole};
 use printed_text::told;
-use std::alloc::Global;
-
-/// The most bytes of an input: 2^26.
-const MOST_BYTES: u64 = 67_108_864;
+use setoff_model::limits::MOST_INPUT_BYTES;
+use std::alloc::{AllocError, Global};
 
 /// What a run ends with: the status of the process, and the source and the sink as they are then.
 #[derive(Drop)]
@@ -47,7 +45,7 @@ fn answer_source<S: Source, K: Sink>(
     ensures read_fault { result ≡ 3 → HasRisen (S.faults source.old) (S.faults source.new) }
     ensures write_fault { result ≡ 4 → HasRisen (K.faults sink.old) (K.faults sink.new) }
 {
-    match read_whole(alloc, source, MOST_BYTES) {
+    match read_whole(alloc, source, MOST_INPUT_BYTES) {
         Ok(input) => answer_input(alloc, command, input.as_slice(), sink),
         Err(ReadEnd::Memory) => told(sink, 9, b"fault memory\n"),
         Err(ReadEnd::Failed) => told(sink, 3, b"fault read\n"),
@@ -73,12 +71,14 @@ fn answer_words<S: Source, K: Sink>(
     }
 }
 
-/// Runs the words after the program's name over a source and a sink, and ends with a status.
+/// Runs the words after the program's name over a source and a sink, and ends with a status. The words are an error where there
+/// was no memory for them.
 ///
-/// The words are `run` or `check`. Both read the source whole. For `run` its requests are served in order, and the sink takes a
-/// line for each entry, at once after each publication the statement of its round, and then a line for each request that was
-/// not served for want of memory. Where neither counts a fault and the input is in the grammar, all of it is written, or
-/// memory was missing. For `check` its statement is judged, and the sink takes the line of the verdict. The status is
+/// The words are `run` or `check`. Both read the source whole. For `run` its requests are served in order, each with the one
+/// reply of the entries before it, and the sink takes a line for each entry, at once after each publication the statement of its
+/// round, and then a line for each request that was not served for want of memory. For `check` its statement is judged, and the
+/// sink takes the line of the verdict. Where neither counts a fault and the input is in the grammar, all of the text is written,
+/// or memory was missing. The status is
 ///
 /// - 0 where none of the others comes;
 /// - 1 exactly where `check` read a statement and its verdict is not that the set-off is greatest;
@@ -91,20 +91,34 @@ fn answer_words<S: Source, K: Sink>(
 pub fn bureau<R, S: Source, K: Sink>(
     _rt: &R,
     alloc: Global,
-    words: Vec<String>,
+    words: Result<Vec<String>, AllocError>,
     mut source: S,
     mut sink: K,
 ) -> Ended<S, K>
-    ensures ran { Ran (map (λ w. string_bytes w) words.items) (S.left source) (S.left result.source) (K.held sink) (K.held result.sink) result.status }
+    ensures ran { IfOk words (λ ws. Ran (map (λ w. string_bytes w) ws.items) (S.left source) (S.left result.source) (K.held sink) (K.held result.sink) result.status) }
+    ensures no_memory { OnErr words (Wrote IsMemoryDue (K.held sink) (K.held result.sink) result.status) }
     ensures read_fault { result.status ≡ 3 → HasRisen (S.faults source) (S.faults result.source) }
     ensures write_fault { result.status ≡ 4 → HasRisen (K.faults sink) (K.faults result.sink) }
-    ensures unread { AreNoWords (map (λ w. string_bytes w) words.items) → result.source ≡ source }
-    ensures complete { Completes (map (λ w. string_bytes w) words.items) (S.left source) (K.held sink) (K.held result.sink) (HasRisen (S.faults source) (S.faults result.source)) (HasRisen (K.faults sink) (K.faults result.sink)) result.status }
+    ensures unread { IfOk words (λ ws. AreNoWords (map (λ w. string_bytes w) ws.items) → result.source ≡ source) }
+    ensures unread_without { IsErr words → result.source ≡ source }
+    ensures complete { IfOk words (λ ws. Completes (map (λ w. string_bytes w) ws.items) (S.left source) (K.held sink) (K.held result.sink) (HasRisen (S.faults source) (S.faults result.source)) (HasRisen (K.faults sink) (K.faults result.sink)) result.status) }
 {
-    let status = answer_words(alloc, words.as_slice(), &mut source, &mut sink);
-    Ended {
-        status,
-        source,
-        sink,
+    match words {
+        Ok(words) => {
+            let status = answer_words(alloc, words.as_slice(), &mut source, &mut sink);
+            Ended {
+                status,
+                source,
+                sink,
+            }
+        }
+        Err(_) => {
+            let status = told(&mut sink, 9, b"fault memory\n");
+            Ended {
+                status,
+                source,
+                sink,
+            }
+        }
     }
 }

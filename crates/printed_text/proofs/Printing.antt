@@ -11,6 +11,7 @@ use Rattle.setoff_model.specs.declared.kind.Kind.{Kind}
 use Rattle.setoff_model.specs.declared.kind.Kind.TheVariants.{Plain, Funded}
 use Rattle.setoff_model.specs.declared.cut.Party.{Party}
 use Rattle.setoff_model.specs.declared.cut.CutClaim.{CutClaim}
+use Rattle.setoff_model.specs.Limits.{most_amount, most_window}
 use Rattle.setoff_model.specs.CutView.{CutView, OutcomeView, window_limit}
 use Rattle.setoff_model.proofs.Columns.{claims_long, parties_long, lawful_fits}
 use Rattle.claim_history.specs.declared.act.Act.{Act}
@@ -19,21 +20,22 @@ use Rattle.claim_history.specs.declared.entry.Entry.{Entry}
 use Rattle.claim_history.specs.declared.entry.Reply.{Reply}
 use Rattle.claim_history.specs.declared.entry.Reply.TheVariants as reply
 use Rattle.claim_history.specs.Acts.{is_valid}
-use Rattle.claim_history.specs.Facts.{Settled}
-use Rattle.claim_history.specs.States.{OpenRound, State, after, discharges_of, open_as, settle, state}
+use Rattle.claim_history.specs.States.{OpenRound, State, after, open_as, state}
 use Rattle.claim_history.specs.History.{IsLegal, IsLegalPast, AreValid}
+use Rattle.claim_history.specs.Rounds.{cut_published, cuts_of, past_cuts}
 use Rattle.claim_history.proofs.Greatest.{greatest_law}
 use Rattle.claim_history.proofs.Pasts.{reverse_parts, legal_rest}
+use Rattle.claim_history.proofs.Published.{later_cuts, past_cuts_longer, past_cuts_more}
 use Rattle.round_cut.proofs.OpenCut.{open_formed_law}
 use Rattle.request_text.specs.declared.request.Request.{Request}
 use Rattle.statement_text.specs.declared.line.Line.{Line}
 use Rattle.statement_text.specs.declared.line.Line.TheVariants as line
 use Rattle.statement_text.specs.Lines.{line_text}
-use Rattle.statement_text.specs.Entries.{entry_line}
+use Rattle.entry_text.specs.Entries.{entry_line}
 use Rattle.statement_text.specs.Statements.{party_lines, claim_line, claim_lines, front_of, statement_bytes}
 use Rattle.bureau_edge.specs.Streams.{AppendsPart}
 use Rattle.printed_text.specs.Writing.{Passes}
-use Rattle.printed_text.specs.Printing.{IsPrintable, IsPrintableAt, cuts_of, entry_text, history_text, line_bytes, lines_bytes, open_cut, past_cuts, past_text, rounds_in, statement_of, unserved_line, unserved_text}
+use Rattle.printed_text.specs.Printing.{IsPrintable, IsPrintableAt, entry_text, history_text, line_bytes, lines_bytes, open_cut, past_text, rounds_in, statement_of, unserved_line, unserved_text}
 use Rattle.printed_text.proofs.Passing.{pass_then, part_then, part_more}
 
 -- ---- requests that were not served
@@ -106,14 +108,14 @@ breaks_at_fourth v w x y z a b c d t₁ t₂ t₃ t₄ all is p₁ p₂ p₃ q =
     (part_then v w z a b t₁ (t₂ ++ (t₃ ++ t₄)) p₁ (part_then w x z b c t₂ (t₃ ++ t₄) p₂ (part_then x y z c d t₃ t₄ p₃ q)))
 
 -- what the writers ask for
-limit_fits : (kind : Kind) → window_limit kind ≤ 2000000000000000
+limit_fits : (kind : Kind) → window_limit kind ≤ most_window
 limit_fits Plain = omega arith
 limit_fits Funded = omega arith
 
-pub spends_fit : (cut : CutView) (outcome : OutcomeView) → IsPrintable cut outcome → All (λ f. f.spend ≤ 2000000000000000) cut.parties
+pub spends_fit : (cut : CutView) (outcome : OutcomeView) → IsPrintable cut outcome → All (λ f. f.spend ≤ most_window) cut.parties
 spends_fit cut outcome is = λ k none within. omega (arith, limit_fits cut.kind, (is.well_formed.windows k none within).0)
 
-pub rooms_fit : (cut : CutView) (outcome : OutcomeView) → IsPrintable cut outcome → All (λ f. f.room ≤ 2000000000000000) cut.parties
+pub rooms_fit : (cut : CutView) (outcome : OutcomeView) → IsPrintable cut outcome → All (λ f. f.room ≤ most_window) cut.parties
 rooms_fit cut outcome is = λ k none within. omega (arith, limit_fits cut.kind, (is.well_formed.windows k none within).1)
 
 pub prices_fit : (cut : CutView) (outcome : OutcomeView) → IsPrintable cut outcome → All (λ p. unsigned_abs p < 10 ^ 9) outcome.prices
@@ -127,7 +129,7 @@ price_each cut outcome is = is.proved.price_each ∙ parties_long cut
 
 pub discharges_fit : (cut : CutView) (outcome : OutcomeView) → IsPrintable cut outcome → All (λ d. d < 10 ^ 18) outcome.discharges
 discharges_fit cut outcome is =
-    All-weaker (λ d. d ≤ 999999999999) (λ d. d < 10 ^ 18) (λ d le. omega arith) outcome.discharges (lawful_fits.small cut outcome.discharges is.well_formed is.proved.lawful)
+    All-weaker (λ d. d ≤ most_amount) (λ d. d < 10 ^ 18) (λ d le. omega arith) outcome.discharges (lawful_fits.small cut outcome.discharges is.well_formed is.proved.lawful)
 
 pub discharge_each : (cut : CutView) (outcome : OutcomeView) → IsPrintable cut outcome → length outcome.discharges ≡ length cut.claims
 discharge_each cut outcome is = is.proved.lawful.one_each ∙ claims_long cut
@@ -167,42 +169,6 @@ history_breaks x z a history i e lt is h =
     subst (λ (w : List ℕ). AppendsPart x z (a ++ w)) (sym (ap (λ (p : List Entry). past_text p) (past_at history i e lt is) ∙ past_more later past))
     (subst (AppendsPart x z) (append_assoc a (past_text past) (later_text later past)) (part_more x z (a ++ past_text past) (later_text later past) h))
 
--- ---- the cuts of published rounds
-
--- the cuts that a reply publishes
-abbrev cuts_in : Reply → Option OpenRound → List CutView
-cuts_in (reply.Published total) (Some round) = round.cut ∷ []
-cuts_in _ _ = []
-
-abbrev cuts_at : State → List CutView
-cuts_at s = map (λ r. r.cut) s.ledger.rounds
-
-opened_cuts : (caller : ℕ) (a : Act) (s : State) → cuts_at (open_as caller a s) ≡ cuts_at s
-opened_cuts caller (act.Close kind horizon) s = refl
-opened_cuts caller a s = refl
-
-published_cuts : (o : Option OpenRound) (total : ℕ) (discharges : List ℕ) (rounds : List Settled) → map (λ r. r.cut) (settle o discharges rounds) ≡ cuts_in (reply.Published total) o ++ map (λ r. r.cut) rounds
-published_cuts None total discharges rounds = refl
-published_cuts (Some round) total discharges rounds = refl
-
-cuts_after : (caller : ℕ) (a : Act) (r : Reply) (s : State) → cuts_at (after caller a r s) ≡ cuts_in r s.open_round ++ cuts_at s
-cuts_after caller a (reply.Opened number) s = opened_cuts caller a s
-cuts_after caller a (reply.Published total) s = published_cuts s.open_round total (discharges_of a) s.ledger.rounds
-cuts_after caller a r s = refl
-
--- the cuts of later entries after a past
-abbrev later_cuts : List Entry → List Entry → List CutView
-later_cuts [] past = []
-later_cuts (e ∷ later) past = cuts_in e.reply (state (later ++ past)).open_round ++ later_cuts later past
-
-cuts_more : (later past : List Entry) → past_cuts (later ++ past) ≡ later_cuts later past ++ past_cuts past
-cuts_more [] past = refl
-cuts_more (e ∷ later) past =
-    let here = cuts_in e.reply (state (later ++ past)).open_round in
-    cuts_after e.caller e.act e.reply (state (later ++ past))
-    ∙ ap (λ (cuts : List CutView). here ++ cuts) (cuts_more later past)
-    ∙ sym (append_assoc here (later_cuts later past) (past_cuts past))
-
 -- the element between two lists
 get_between : {X : Type 0} (xs ys : List X) (x : X) (n : ℕ) → length xs ≡ n → slice_get (xs ++ x ∷ ys) n ≡ Some x
 get_between xs ys x n is =
@@ -241,9 +207,9 @@ next_cut history i e total lt is published round was_open =
     let past = reverse (take i history) in
     let later = reverse (drop (i + 1) history) in
     let parts : past_cuts (reverse history) ≡ later_cuts later (e ∷ past) ++ round.cut ∷ past_cuts past =
-    ap (λ (p : List Entry). past_cuts p) (past_at history i e lt is) ∙ cuts_more later (e ∷ past)
+    ap (λ (p : List Entry). past_cuts p) (past_at history i e lt is) ∙ past_cuts_longer later (e ∷ past)
     ∙ ap (λ (cuts : List CutView). later_cuts later (e ∷ past) ++ cuts)
-    (cuts_after e.caller e.act e.reply (state past) ∙ ap₂ (λ (r : Reply) (o : Option OpenRound). cuts_in r o ++ past_cuts past) published was_open) in
+    (past_cuts_more e past ∙ ap₂ (λ (o : Option OpenRound) (r : Reply). cut_published o r ++ past_cuts past) was_open published) in
     ap (λ (cuts : List CutView). slice_get cuts (length (past_cuts past)))
     (ap (λ (cuts : List CutView). reverse cuts) parts ∙ reverse_parts (later_cuts later (e ∷ past)) (past_cuts past) round.cut)
     ∙ get_between (reverse (past_cuts past)) (reverse (later_cuts later (e ∷ past))) round.cut (length (past_cuts past)) (length-reverse (past_cuts past))
@@ -297,16 +263,16 @@ entry_text_is rounds next past e publication =
     let p = publication total is in
     p.cut_is ∙ ap (λ (o : Option OpenRound). option_map (λ (round : OpenRound). round.cut) o) (sym p.was_open)))
 
-count_more : (r : Reply) (o : Option OpenRound) (cuts : List CutView) → ((total : ℕ) → r ≡ reply.Published total → (round : OpenRound) × (o ≡ Some round)) → length (cuts_in r o ++ cuts) ≡ length cuts + rounds_in r
+count_more : (r : Reply) (o : Option OpenRound) (cuts : List CutView) → ((total : ℕ) → r ≡ reply.Published total → (round : OpenRound) × (o ≡ Some round)) → length (cut_published o r ++ cuts) ≡ length cuts + rounds_in r
 count_more (reply.Published total) o cuts published =
-    ap (λ (q : Option OpenRound). length (cuts_in (reply.Published total) q ++ cuts)) (published total refl).1 ∙ omega arith
+    ap (λ (q : Option OpenRound). length (cut_published q (reply.Published total) ++ cuts)) (published total refl).1 ∙ omega arith
 count_more r o cuts published = omega arith
 
 -- the number of rounds that were published grows by those of the entry
 pub next_more : (rounds : List CutView) (next : ℕ) (past : List Entry) (e : Entry) → ((total : ℕ) → e.reply ≡ reply.Published total → IsNext rounds next past e.act)
     → length (past_cuts (e ∷ past)) ≡ length (past_cuts past) + rounds_in e.reply
 next_more rounds next past e publication =
-    ap (λ (cuts : List CutView). length cuts) (cuts_after e.caller e.act e.reply (state past))
+    ap (λ (cuts : List CutView). length cuts) (past_cuts_more e past)
     ∙ count_more e.reply (state past).open_round (past_cuts past) (λ total is. ((publication total is).round, (publication total is).was_open))
 
 -- the statement that an entry's text has where the cut at the place is this one

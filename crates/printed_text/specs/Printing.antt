@@ -1,5 +1,5 @@
 -- The text of a run: entries, statements of published rounds, and lines for requests that were not served.
-use Rattle.std.specs.Prelude.{Bool, true, false, ℕ, ◌≡◌, ◌≤◌, List, [], ◌∷◌, ◌++◌, map, flat_map, reverse, slice_get, codes, Option, Some}
+use Rattle.std.specs.Prelude.{Bool, true, false, ℕ, ◌≡◌, ◌≤◌, List, [], ◌∷◌, ◌++◌, flat_map, reverse, slice_get, codes, Option, Some}
 use Rattle.std.specs.Option.{option_map}
 use Rattle.setoff_model.specs.CutView.{CutView, OutcomeView, WellFormed, obligations}
 use Rattle.setoff_model.specs.Setoff.{Proves}
@@ -12,7 +12,7 @@ use Rattle.claim_history.specs.States.{state}
 use Rattle.request_text.specs.declared.request.Request.{Request}
 use Rattle.statement_text.specs.declared.line.Line.{Line}
 use Rattle.statement_text.specs.Lines.{line_text}
-use Rattle.statement_text.specs.Entries.{entry_line}
+use Rattle.entry_text.specs.Entries.{entry_line}
 use Rattle.statement_text.specs.Statements.{statement_bytes}
 use Rattle.printed_text.specs.Texts.{memory_line}
 
@@ -39,14 +39,6 @@ past_text (e ∷ past) = past_text past ++ entry_text past e
 -- the entries of a history
 abbrev pub history_text : List Entry → List ℕ
 history_text history = past_text (reverse history)
-
--- the cuts of the rounds that were published in a past, newest first
-abbrev pub past_cuts : List Entry → List CutView
-past_cuts past = map (λ r. r.cut) (state past).ledger.rounds
-
--- the cuts of the published rounds of a history, in order
-abbrev pub cuts_of : List Entry → List CutView
-cuts_of history = reverse (past_cuts (reverse history))
 
 -- what holds of a cut and an outcome whose statement is written
 pub record IsPrintable (cut : CutView) (outcome : OutcomeView) : Type 0 where

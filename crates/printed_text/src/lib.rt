@@ -1,4 +1,14 @@
-//! What the program prints: the text of a run with its statements, the line of a verdict, and fault lines.
+//! What the program prints: the text of a run, the line of a verdict, and the lines that tell of faults.
+//!
+//! The text of a run has a line for each entry of a history and, at once after the entry that publishes a round, the
+//! statement of that round. Then comes a line `! line N memory` for each request that was not served. A publication has
+//! the discharges and the prices of its round, and not its cut, so the cuts of the published rounds are handed in.
+//!
+//! Text goes line by line through a buffer of 65,536 bytes to the sink. Once the buffer is there, printing takes no
+//! memory. What was in the buffer and the text are what the sink took and what is in the buffer now: `Passes` says this
+//! of a step, and steps add up. Where the sink failed, it took some first bytes of the text.
+//!
+//! `told` writes the one line that ends a run, and says its status, which is 4 where the sink failed.
 #![tactic(auto)]
 
 mod ending;

@@ -7,17 +7,18 @@ ghost use Rattle.claim_history.specs.declared.entry.Reply.TheVariants as reply;
 ghost use Rattle.claim_history.specs.Acts.{is_valid};
 ghost use Rattle.claim_history.specs.History.{IsLegal, AreValid};
 ghost use Rattle.claim_history.specs.Laws.{IsReplyInRange};
-ghost use Rattle.statement_text.specs.Entries.{entry_line};
-ghost use Rattle.printed_text.specs.Printing.{unserved_line, unserved_text, history_text, cuts_of, statement_of, IsPrintableAt, rounds_in, printed_of};
+ghost use Rattle.claim_history.specs.Rounds.{cuts_of};
+ghost use Rattle.entry_text.specs.Entries.{entry_line};
+ghost use Rattle.printed_text.specs.Printing.{unserved_line, unserved_text, history_text, statement_of, IsPrintableAt, rounds_in, printed_of};
 ghost use Rattle.printed_text.specs.Writing.{Passes};
 
 use crate::fault_text::write_memory_line;
 use crate::statement::print_statement;
 use bureau_edge::{Failed, Sink, write_all};
 use claim_history::{Act, Entry, Reply};
+use entry_text::write_entry;
 use request_text::Request;
 use setoff_model::Cut;
-use statement_text::write_entry;
 use std::alloc::{AllocError, Global};
 
 /// The bytes of the buffer.

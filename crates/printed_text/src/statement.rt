@@ -3,6 +3,7 @@
 ghost use Rattle.std.specs.Prelude.{◌≡◌, ◌<◌, ◌≤◌, ◌^◌, ◌++◌, All, OnOk, OnErr, vec_capacity, length, slice_index_or, unsigned_abs};
 ghost use Rattle.fault_count.specs.Counts.{IsCounted};
 ghost use Rattle.bureau_edge.specs.Streams.{AppendsPart};
+ghost use Rattle.setoff_model.specs.Limits.{most_window};
 ghost use Rattle.setoff_model.specs.declared.cut.CutClaim.{CutClaim};
 ghost use Rattle.setoff_model.specs.CutView.{WellFormed};
 ghost use Rattle.statement_text.specs.declared.line.Line.TheVariants as line;
@@ -36,8 +37,8 @@ fn print_party<K: Sink>(
     party: &Party,
     price: i64,
 ) -> Result<(), Failed>
-    requires spend { party.now.spend ≤ 2000000000000000 }
-    requires room { party.now.room ≤ 2000000000000000 }
+    requires spend { party.now.spend ≤ most_window }
+    requires room { party.now.room ≤ most_window }
     requires price { unsigned_abs price < 10 ^ 9 }
     requires spare { 65536 ≤ vec_capacity buffer.old }
     ensures ok { OnOk result (Passes (K.held sink.old) (K.held sink.new) buffer.old.items buffer.new.items (line_bytes (line.Party party.now price))) }
@@ -57,8 +58,8 @@ fn print_parties<K: Sink>(
     parties: &[Party],
     prices: &[i64],
 ) -> Result<(), Failed>
-    requires spends { All (λ f. f.spend ≤ 2000000000000000) parties.now }
-    requires rooms { All (λ f. f.room ≤ 2000000000000000) parties.now }
+    requires spends { All (λ f. f.spend ≤ most_window) parties.now }
+    requires rooms { All (λ f. f.room ≤ most_window) parties.now }
     requires prices { All (λ p. unsigned_abs p < 10 ^ 9) prices.now }
     requires price_each { length prices.now ≡ length parties.now }
     requires spare { 65536 ≤ vec_capacity buffer.old }

@@ -1,4 +1,4 @@
-//! Statements of a cut and its outcome, and entries of the history, as text.
+//! Statements of a cut and its outcome as text.
 //!
 //! A statement is a `ROUND` line, a `PARTY` line for each party, a `CLAIM` line for each claim, in the order of the cut, and `END`. A
 //! party has its window and its price, a claim its amount and its discharge, and the firms of a claim are named.
@@ -7,13 +7,11 @@
 //! - A text that is no statement is refused with the number of a line: the first up to which no statement begins like the text, or
 //!   one past the last.
 //! - The cause that is told is the first in the order of `StatementCause` that applies. This is tested and not proved.
-//! - An entry is one line: its caller, its act, and its reply. Entries are written, and never read.
 #![tactic(auto)]
 
 ghost use Rattle.statement_text.specs.Statements.{OneReadingLaw, WrittenLaw};
 
 mod draft;
-mod entry;
 mod error;
 mod fields;
 mod index;
@@ -23,7 +21,6 @@ mod reading;
 mod tests;
 mod writing;
 
-pub use entry::write_entry;
 pub use error::{StatementCause, StatementError};
 pub use reading::read_statement;
 pub use writing::{write_claim, write_end, write_head, write_party};

@@ -21,6 +21,6 @@ returns-in-Ok-clause-closed c =
     let entry : Entry = record { caller = c.args.caller; act = acts.Close c.args.kind c.args.horizon; reply = replies.Opened c.args.round } in (
       entry,
       c.apply_close.ensures.history,
-      record { call = record { by = refl; asks = refl }; closes = refl; accepted = refl },
+      record { answer = record { by = refl; asks = refl; reply_is = c.requires.due }; closes = refl; accepted = refl },
       close_owns c.args.book.now.history _ c.args.caller entry c.claims.ensures.legal (replied c.requires.due) (record { kind = c.args.kind; horizon = c.args.horizon; by = refl; asks = refl; accepted = refl }) c.apply_close.ensures.history,
     )

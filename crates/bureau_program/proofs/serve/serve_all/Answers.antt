@@ -2,7 +2,7 @@ use Rattle.std.proofs.Common.{◌≡◌, ◌+◌, ◌++◌, ◌∷◌, [], List,
 use Rattle.std.proofs.lemmas.List.{take_more}
 use Rattle.request_text.specs.declared.request.Request.{Request}
 use Rattle.claim_history.specs.declared.entry.Entry.{Entry}
-use Rattle.printed_text.specs.Printing.{cuts_of}
+use Rattle.claim_history.specs.Rounds.{cuts_of}
 use Rattle.bureau_program.specs.Serving.{IsServed, none, one_more}
 use Rattle.bureau_program.proofs.serve.serve_all.Goals as goal
 

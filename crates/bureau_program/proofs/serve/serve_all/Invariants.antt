@@ -1,5 +1,5 @@
 use Rattle.std.proofs.Common.{◌≡◌, take, vec_len}
-use Rattle.printed_text.specs.Printing.{cuts_of}
+use Rattle.claim_history.specs.Rounds.{cuts_of}
 use Rattle.bureau_program.specs.Serving.{IsServed}
 use Rattle.bureau_program.proofs.serve.serve_all.Given as goal
 

@@ -1,7 +1,8 @@
 use Rattle.std.specs.Prelude.{reverse}
 use Rattle.std.proofs.Common.{◌≡◌, ◌≤◌, length, take, vec_capacity}
+use Rattle.claim_history.specs.Rounds.{past_cuts}
 use Rattle.printed_text.specs.Writing.{Passes}
-use Rattle.printed_text.specs.Printing.{past_cuts, past_text}
+use Rattle.printed_text.specs.Printing.{past_text}
 use Rattle.printed_text.proofs.output.print_entries.Given as goal
 
 abbrev pub invariant-loop-entry : goal.invariant-loop-entry

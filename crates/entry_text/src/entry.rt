@@ -3,7 +3,7 @@ ghost use Rattle.std.specs.Prelude.{◌≡◌, ◌+◌, ◌<◌, ◌≤◌, ◌^
 ghost use Rattle.setoff_model.specs.Texts.{cents_text, signed_cents_text};
 ghost use Rattle.claim_history.specs.Acts.{is_valid};
 ghost use Rattle.claim_history.specs.Laws.{IsReplyInRange};
-ghost use Rattle.statement_text.specs.Entries.{why_name, why_numbers, why_text, spaced, position_text, reply_text, entry_line};
+ghost use Rattle.entry_text.specs.Entries.{why_name, why_numbers, why_text, spaced, position_text, reply_text, entry_line};
 
 use claim_history::{Entry, Position, Reply, Why, write_act};
 use itoa::Buffer;

@@ -1,6 +1,6 @@
 use Rattle.std.proofs.Common.{length, ap, ◌∙◌, arith}
 use Rattle.setoff_model.proofs.Widths.{units_sum}
-use Rattle.statement_text.proofs.entry.write_sum.Goals as goal
+use Rattle.entry_text.proofs.entry.write_sum.Goals as goal
 
 pub put-requires : goal.put-requires
 put-requires c =
