@@ -23,5 +23,5 @@ returns-in-Ok-Some-clause-closed g c =
     let keeps : (state_of later).open_round ≡ (state_of history).open_round =
     ap (λ (s : State). s.open_round) (state_more history later (entry_of c.args.caller a got) acted.entry) ∙ close_keeps (state_of history) _ _ c.args.caller c.args.kind c.args.horizon got un acted.replied in
     let was : Some c.in-Ok-Some.cut ≡ open_cut_of history =
-    sym c.in-Ok-Some.field-0-is ∙ c.in-Ok-Some.ensures ∙ ap (λ (b : BookView). open_cut_of b.history) c.book.ensures.book ∙ ap (λ (s : RecordedView g.row.D.Denot). open_cut_of s.book.history) c.self.view_is in
+    sym c.in-Ok-Some.field-0-is ∙ c.in-Ok-Some.ensures.cut ∙ ap (λ (b : BookView). open_cut_of b.history) c.book.ensures.book ∙ ap (λ (s : RecordedView g.row.D.Denot). open_cut_of s.book.history) c.self.view_is in
     record { got = got; acted = acted; answer_is = c.told_cut.ensures later (ap (option_map (λ (r : OpenRound). r.cut)) keeps ∙ sym was) }
