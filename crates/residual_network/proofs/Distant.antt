@@ -1,6 +1,6 @@
 -- A change of all prices by distances keeps the facts.
 use Rattle.std.specs.Prelude.{ℤ, pos, ◌+ℤ◌, slice_index}
-use Rattle.std.proofs.Common.{◌≡◌, ℕ, ◌<◌, List, inl, inr, arith}
+use Rattle.std.proofs.Common.{◌≡◌, ℕ, List, inl, inr, arith}
 use Rattle.std.proofs.lemmas.Int.{ints}
 use Rattle.std.proofs.lemmas.Bool.{cases_lt}
 use Rattle.setoff_model.specs.Setoff.{price_at}
