@@ -24,67 +24,14 @@ use Rattle.claim_history.proofs.Rows.{by_rows}
 use Rattle.claim_history.proofs.Replies.{opens}
 use Rattle.claim_history.specs.Laws.{IsOwned}
 use Rattle.claim_book.specs.Book.{room_for, GivesCut}
-use Rattle.bureau_desk.specs.Devices.{IsReplied}
-use Rattle.bureau_desk.specs.Rounds.{cut_published, cuts_past, cuts_after}
-use Rattle.bureau_desk.specs.Acting.{RecordedView, entry_of, has_closed, closed_last, IsSpared}
-use Rattle.bureau_desk.specs.Opening.{IsOpenedHistory}
+use Rattle.recorded_book.specs.Devices.{IsReplied}
+use Rattle.claim_history.specs.Rounds.{cut_published, cuts_after}
+use Rattle.claim_history.proofs.Published.{IsUnpublished, refused_publishes, answer_publishes, cuts_more, cuts_none}
+use Rattle.claim_history.specs.Callers.{has_closed, closed_last}
+use Rattle.recorded_book.specs.Acting.{RecordedView, entry_of, IsSpared, IsOpenedHistory}
 use Rattle.bureau_desk.specs.Desks.{IsDesk}
 
--- ---- cuts
-
-all_before : (count : ℕ) (past : List Entry) → length past ≤ count → cuts_past count past ≡ []
-all_before count [] le = refl
-all_before count (e ∷ past) le = ap (λ (b : Bool). if b then [] else cuts_past count past ++ cut_published (state past).open_round e.reply) (lt-ltb (length past) count (omega (arith, le)))
-
-pub cuts_none : (history : List Entry) → cuts_after (length history) history ≡ []
-cuts_none history = all_before (length history) (reverse history) (omega (arith, length-reverse history))
-
-pub cuts_more : (count : ℕ) (history : List Entry) (e : Entry) → count ≤ length history → cuts_after count (history ++ e ∷ []) ≡ cuts_after count history ++ cut_published (state_of history).open_round e.reply
-cuts_more count history e le =
-    ap (cuts_past count) (reverse-append history (e ∷ []))
-    ∙ ap (λ (b : Bool). if b then [] else cuts_past count (reverse history) ++ cut_published (state_of history).open_round e.reply) (le-ltb (length (reverse history)) count (omega (arith, le, length-reverse history)))
-
--- the reply publishes nothing
-abbrev pub IsUnpublished : Reply → Type 0
-IsUnpublished r = (o : Option OpenRound) → cut_published o r ≡ []
-
-refused_publishes : (w : Why) → IsUnpublished (reply.Refused w)
-refused_publishes w None = refl
-refused_publishes w (Some round) = refl
-
-done_publishes : IsUnpublished reply.Done
-done_publishes None = refl
-done_publishes (Some round) = refl
-
-position_publishes : (p : Position) → IsUnpublished (reply.Position p)
-position_publishes p None = refl
-position_publishes p (Some round) = refl
-
-opened_publishes : (n : ℕ) → IsUnpublished (reply.Opened n)
-opened_publishes n None = refl
-opened_publishes n (Some round) = refl
-
-continued_publishes : (n : ℕ) → IsUnpublished (reply.Continued n)
-continued_publishes n None = refl
-continued_publishes n (Some round) = refl
-
-abandoned_publishes : (n : ℕ) → IsUnpublished (reply.Abandoned n)
-abandoned_publishes n None = refl
-abandoned_publishes n (Some round) = refl
-
-close_publishes : (n : ℕ) (o : Option OpenRound) (caller : ℕ) (kind : Kind) (horizon : ℕ) → IsUnpublished (close_answer n o caller kind horizon)
-close_publishes n None caller kind horizon = opened_publishes (n + 1)
-close_publishes n (Some round) caller kind horizon = by_rows IsUnpublished (close_refusals round caller kind horizon) (reply.Continued round.cut.round) refused_publishes (λ h. continued_publishes round.cut.round)
-
-abandon_publishes : (o : Option OpenRound) (caller : ℕ) → IsUnpublished (abandon_answer o caller)
-abandon_publishes None caller = refused_publishes why.NoRound
-abandon_publishes (Some round) caller = by_rows IsUnpublished (abandon_refusals round caller) (reply.Abandoned round.cut.round) refused_publishes (λ h. abandoned_publishes round.cut.round)
-
-pub answer_publishes : (s : State) (caller : ℕ) (a : Act) → is_publication a ≡ false → IsUnpublished (answer s caller a)
-answer_publishes s caller (act.Close kind horizon) other = close_publishes s.openings s.open_round caller kind horizon
-answer_publishes s caller act.Abandon other = abandon_publishes s.open_round caller
-answer_publishes s caller (act.Publish number outcome) other = absurd (cc other)
-answer_publishes s caller a other = answer_cases IsUnpublished s caller a refl refused_publishes done_publishes (λ firm. position_publishes _)
+-- ---- replies that publish nothing
 
 pub got_publishes : (before counted : ℕ) (due got : Reply) → IsUnpublished due → IsReplied before counted due got → IsUnpublished got
 got_publishes before counted due got un told = ⊎_elim

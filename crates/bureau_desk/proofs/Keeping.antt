@@ -4,11 +4,11 @@ use Rattle.setoff_model.specs.CutView.{CutView}
 use Rattle.disk_model.specs.Calls.{Seen}
 use Rattle.claim_history.specs.History.{IsLegal, AreValid}
 use Rattle.claim_history.specs.Needs.{IsWithinLimits}
-use Rattle.bureau_desk.specs.Rounds.{cuts_after}
-use Rattle.bureau_desk.specs.Recorded.{Records}
-use Rattle.bureau_desk.specs.Acting.{RecordedView}
+use Rattle.claim_history.specs.Rounds.{cuts_after}
+use Rattle.recorded_book.specs.Recorded.{Records}
+use Rattle.recorded_book.specs.Acting.{RecordedView}
 use Rattle.bureau_desk.specs.Desks.{desk_view, KeepsDesk}
-use Rattle.bureau_desk.proofs.Acted.{present_holds}
+use Rattle.recorded_book.proofs.Acted.{present_holds}
 
 pub keeps_desk : {D : Type 0} (seen : D → Seen) (kept : RecordedView D) (rounds : List CutView)
     → Records seen kept.recorder kept.book.history → rounds ≡ cuts_after kept.recorder.cleared_with kept.book.history → IsLegal kept.book.history → AreValid kept.book.history → IsWithinLimits kept.book.history
@@ -19,6 +19,7 @@ keeps_desk seen kept rounds has cuts legal valid within = record {
   within = within;
   opened_few = has.opened_few;
   cleared_few = has.cleared_few;
+  same = has.same;
   later = has.later;
   between = has.between;
   rounds_are = cuts;

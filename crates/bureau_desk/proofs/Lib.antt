@@ -1,12 +1,3 @@
-pub mod Results
-pub mod Histories
-pub mod Grow
-pub mod Recording
-pub mod Acted
 pub mod Cuts
 pub mod Keeping
-pub mod Publications
-pub mod Closes
-pub mod Openings
-pub mod Abandonments
 pub mod Publishable

@@ -14,7 +14,8 @@ use Rattle.claim_history.specs.States.{OpenRound, state_of}
 use Rattle.claim_history.specs.History.{IsLegal, is_no_refusal}
 use Rattle.claim_history.specs.Laws.{ByOthers, IsAcceptedClose, IsOwned}
 use Rattle.claim_history.proofs.Owned.{owned_law}
-use Rattle.bureau_desk.specs.Acting.{entry_of, closed_last}
+use Rattle.claim_history.specs.Callers.{closed_last}
+use Rattle.recorded_book.specs.Acting.{entry_of}
 use Rattle.bureau_desk.specs.Laws.{PublishableLaw}
 
 closes : (caller : ℕ) (kind : Kind) (horizon : ℕ) (got : Reply) (past : List Entry) → is_no_refusal got ≡ true → closed_last caller (entry_of caller (act.Close kind horizon) got ∷ past) ≡ true

@@ -12,11 +12,13 @@ use Rattle.claim_history.specs.States.{OpenRound, state_of}
 use Rattle.claim_history.specs.History.{answer_of, IsLegal, AreValid}
 use Rattle.claim_history.specs.Needs.{IsWithinLimits}
 use Rattle.disk_model.specs.Calls.{Seen, IsPresent}
-use Rattle.bureau_desk.specs.Calls.{accepted_calls, HoldsFirst}
-use Rattle.bureau_desk.specs.Moments.{HasMoments, HeldSince}
-use Rattle.bureau_desk.specs.Devices.{AreBetween}
-use Rattle.bureau_desk.specs.Rounds.{cuts_after}
-use Rattle.bureau_desk.specs.Acting.{RecordedView, publication_bytes, has_closed, HasActed, IsPublishReply}
+use Rattle.claim_history.specs.Callers.{accepted_calls, has_closed}
+use Rattle.recorded_book.specs.Calls.{HoldsFirst}
+use Rattle.recorded_book.specs.Moments.{HasMoments, HeldSince}
+use Rattle.recorded_book.specs.Devices.{AreBetween}
+use Rattle.claim_history.specs.Rounds.{cuts_after}
+use Rattle.recorded_book.specs.Acting.{RecordedView, publication_bytes, HasActed}
+use Rattle.bureau_desk.specs.Publishing.{IsPublishReply}
 
 -- What contracts see of a desk: its disk and its history; the cuts of the rounds that were published since the last clearing;
 -- the disk when the first sync of the opening had succeeded, and at the end of the opening; how many entries were opened; and
@@ -93,21 +95,27 @@ pub record HasSameBase {D : Type 0} (old new : DeskView D) : Type 0 where
   pub at_clearing : new.at_clearing ≡ old.at_clearing
   pub cleared_with : new.cleared_with ≡ old.cleared_with
 
--- What a desk keeps. Its history is legal and within the limits. Each entry that tells of a device has its counts between the
--- disk's count at the end of the opening and the present one. The rounds are the cuts of those that were published since the
--- last clearing. Where the disk tells its bytes, there are the moments of the history, each present image holds all accepted
--- calls, and each image since the last clearing those that were accepted by then.
+-- What a desk keeps. Of its bytes it speaks where the disk tells them.
 pub record KeepsDesk {D : Type 0} (seen : D → Seen) (d : DeskView D) : Type 0 where
+  -- its history
   pub legal : IsLegal d.history
   pub valid : AreValid d.history
   pub within : IsWithinLimits d.history
+  -- the entries that were opened, and those at the last clearing, are among those of the history
   pub opened_few : d.opened_with ≤ length d.history
   pub cleared_few : d.cleared_with ≤ length d.history
+  -- since the end of the opening the disk tells its bytes as then, and its count has not fallen
+  pub same : (seen d.disk).tells ≡ (seen d.at_opening_end).tells
   pub later : (seen d.at_opening_end).count ≤ (seen d.disk).count
+  -- each entry that tells of a device has its counts between those two
   pub between : AreBetween (seen d.at_opening_end).count (seen d.disk).count d.history
+  -- the cuts of the rounds that were published since the last clearing
   pub rounds_are : d.rounds ≡ cuts_after d.cleared_with d.history
+  -- the moments of the accepted calls, from the first sync of the opening on
   pub moments : IsTrue (seen d.disk).tells → HasMoments (seen d.disk) (seen d.at_first_sync).moment d.opened_with d.history
+  -- a crash now leaves all accepted calls
   pub present : IsTrue (seen d.disk).tells → (c : List ℕ) → IsPresent (seen d.disk) c → HoldsFirst (accepted_calls d.history) c
+  -- a crash since the last clearing leaves those that were accepted by then
   pub since : IsTrue (seen d.disk).tells → HeldSince (seen d.at_clearing).moment d.cleared_with (seen d.disk) d.history
 
 -- what a publication adds to the rounds

@@ -7,7 +7,8 @@ use Rattle.claim_history.specs.declared.entry.Entry.{Entry}
 use Rattle.claim_history.specs.declared.entry.Reply.{Reply}
 use Rattle.claim_history.specs.History.{IsLegal, is_no_refusal}
 use Rattle.claim_book.specs.Book.{open_cut_of}
-use Rattle.bureau_desk.specs.Acting.{entry_of, IsPublishable}
+use Rattle.recorded_book.specs.Acting.{entry_of}
+use Rattle.bureau_desk.specs.Publishing.{IsPublishable}
 
 -- after an accepted Close its caller may publish an outcome for the open cut
 abbrev pub PublishableLaw : Type 0

@@ -1,11 +1,8 @@
 -- What an opening of a desk gives.
-use Rattle.std.specs.Prelude.{◌≡◌, ◌⊎◌, ◌≤◌, ℕ, Bool, List, [], ◌∷◌, ◌++◌, length, None}
+use Rattle.std.specs.Prelude.{◌≡◌, ◌⊎◌, ◌≤◌, ℕ, Bool, List, [], length}
 use Rattle.fault_count.specs.Counts.{HasRisen}
 use Rattle.disk_model.specs.Calls.{Seen}
-use Rattle.claim_history.specs.declared.act.Act.TheVariants as act
 use Rattle.claim_history.specs.declared.entry.Entry.{Entry}
-use Rattle.claim_history.specs.declared.entry.Reply.TheVariants as reply
-use Rattle.claim_history.specs.States.{state_of}
 use Rattle.round_journal.specs.Opened.{AreFound}
 use Rattle.round_journal.specs.Stops.{HasCause}
 use Rattle.round_journal.specs.declared.cause.JournalCause.TheVariants as journal
@@ -15,13 +12,8 @@ use Rattle.journal_replay.specs.declared.replay_stop.ReplayStop.{ReplayStop}
 use Rattle.journal_replay.specs.declared.replay_stop.ReplayStop.TheVariants as stop
 use Rattle.bureau_desk.specs.declared.desk_refused.DeskCause.{DeskCause}
 use Rattle.bureau_desk.specs.declared.desk_refused.DeskCause.TheVariants.{Memory, Device, BadHeader, BadRecord, BadAct, Overfull}
-use Rattle.bureau_desk.specs.Acting.{RecordedView, entry_of}
+use Rattle.recorded_book.specs.Acting.{RecordedView, IsOpenedHistory}
 use Rattle.bureau_desk.specs.Desks.{DeskView}
-
--- the history of the records; where it leaves a round open, with the abandonment by the bureau itself
-abbrev pub IsOpenedHistory : List Entry → List Entry → Type 0
-IsOpenedHistory before history =
-    (((state_of before).open_round ≡ None) × (history ≡ before)) ⊎ ((number : ℕ) × (history ≡ before ++ entry_of 0 act.Abandon (reply.Abandoned number) ∷ []))
 
 -- the desk has the history of the records that the disk held, and counts from here on
 pub record IsDeskOpen {D : Type 0} (seen : D → Seen) (old : D) (d : DeskView D) : Type 0 where
@@ -39,16 +31,16 @@ pub record IsDeskOpen {D : Type 0} (seen : D → Seen) (old : D) (d : DeskView D
 
 -- the records are those that the disk held, and the replay stops there
 abbrev pub StopsAt : Bool → List ℕ → ReplayStop → Type 0
-StopsAt told bytes at = (records : List Record) × AreFound told bytes records × StopsFirst records at
+StopsAt tells bytes at = (records : List Record) × AreFound tells bytes records × StopsFirst records at
 
 -- Why a desk was not opened on a disk that is told to have these bytes, where its counts were these at the start and at the end.
 abbrev pub HasDeskCause : Bool → List ℕ → ℕ → ℕ → DeskCause → Type 0
-HasDeskCause told bytes low high Memory = Unit {0}
-HasDeskCause told bytes low high (Device before after) = (low ≤ before) × (after ≡ high) × HasRisen before after
-HasDeskCause told bytes low high BadHeader = HasCause told bytes low high journal.BadHeader
-HasDeskCause told bytes low high (BadRecord offset why) = HasCause told bytes low high (journal.BadRecord offset why)
-HasDeskCause told bytes low high (BadAct offset got) = StopsAt told bytes (stop.BadAct offset got)
-HasDeskCause told bytes low high (Overfull offset) = StopsAt told bytes (stop.Overfull offset)
+HasDeskCause tells bytes low high Memory = Unit {0}
+HasDeskCause tells bytes low high (Device before after) = (low ≤ before) × (after ≡ high) × HasRisen before after
+HasDeskCause tells bytes low high BadHeader = HasCause tells bytes low high journal.BadHeader
+HasDeskCause tells bytes low high (BadRecord offset why) = HasCause tells bytes low high (journal.BadRecord offset why)
+HasDeskCause tells bytes low high (BadAct offset got) = StopsAt tells bytes (stop.BadAct offset got)
+HasDeskCause tells bytes low high (Overfull offset) = StopsAt tells bytes (stop.Overfull offset)
 
 -- what a desk has that begins with this book
 pub record IsBegun {D : Type 0} (seen : D → Seen) (kept : RecordedView D) (d : DeskView D) : Type 0 where
@@ -66,8 +58,8 @@ abbrev pub IsNotBegun : ℕ → ℕ → DeskCause → Type 0
 IsNotBegun low high cause = (cause ≡ Memory) ⊎ ((before : ℕ) × (after : ℕ) × (cause ≡ Device before after) × (before ≡ low) × (after ≡ high) × HasRisen before after)
 
 -- the history is that of the records that the bytes hold, which are sound
-pub record HasViewed (told : Bool) (bytes : List ℕ) (history : List Entry) : Type 0 where
+pub record HasViewed (tells : Bool) (bytes : List ℕ) (history : List Entry) : Type 0 where
   pub records : List Record
-  pub found : AreFound told bytes records
+  pub found : AreFound tells bytes records
   pub sound : AreSound records
   pub history_is : history ≡ history_of records

@@ -4,22 +4,21 @@ ghost use Rattle.claim_history.specs.declared.act.Act.TheVariants as acts;
 ghost use Rattle.claim_history.specs.declared.entry.Reply.TheVariants as replies;
 ghost use Rattle.claim_history.specs.declared.entry.Why.TheVariants as whys;
 ghost use Rattle.claim_history.specs.Acts.{is_valid, is_publication, is_close};
-ghost use Rattle.bureau_desk.specs.Acting.{HasActed, HasClosed, IsActError, IsPublishable, IsPublishReply};
+ghost use Rattle.recorded_book.specs.Acting.{HasActed, HasClosed, IsActError, IsNotAbandoned};
+ghost use Rattle.bureau_desk.specs.Publishing.{IsPublishable, IsPublishReply};
 ghost use Rattle.claim_history.specs.History.{is_accepted};
 ghost use Rattle.round_journal.specs.Stops.{HasCause};
 ghost use Rattle.round_journal.specs.Opened.{IsQuiet};
 ghost use Rattle.bureau_desk.specs.Opening.{IsDeskOpen, HasDeskCause, IsBegun, IsNotBegun, StopsAt, HasViewed};
 ghost use Rattle.bureau_desk.specs.Desks.{HasSameBase, KeepsDesk, HasPublished};
 
-use crate::act_error::ActError;
-use crate::cut_reply::CutReply;
 use crate::desk_refused::{DeskCause, DeskRefused};
 use crate::publish_reply::PublishReply;
-use crate::recorded_book::RecordedBook;
 use claim_book::Book;
 use claim_history::{Act, Day, Reply, Why};
 use disk_model::Disk;
 use journal_replay::{ReplayStop, replay};
+use recorded_book::{ActError, CutReply, NotAbandoned, RecordedBook};
 use round_journal::{Journal, JournalCause, OpenRefused, read_records};
 use setoff_checker::Checked;
 use setoff_model::{Cut, Kind};
@@ -61,7 +60,7 @@ impl<D: Disk> Desk<D> {
             Err(OpenRefused { disk, cause }) => {
                 return Err(DeskRefused {
                     disk,
-                    cause: cause_of(cause),
+                    cause: journal_cause(cause),
                 });
             }
         };
@@ -69,7 +68,7 @@ impl<D: Disk> Desk<D> {
             Ok(book) => begun(RecordedBook::new(alloc, journal, book), Vec::new(alloc)),
             Err(stop) => Err(DeskRefused {
                 disk: journal.close(),
-                cause: stop_of(stop),
+                cause: replay_cause(stop),
             }),
         }
     }
@@ -84,9 +83,9 @@ impl<D: Disk> Desk<D> {
         match read_records(alloc, disk) {
             Ok(records) => match replay(alloc, &records) {
                 Ok(book) => Ok(book.into_book()),
-                Err(stop) => Err(stop_of(stop)),
+                Err(stop) => Err(replay_cause(stop)),
             },
-            Err(cause) => Err(cause_of(cause)),
+            Err(cause) => Err(journal_cause(cause)),
         }
     }
 
@@ -149,9 +148,9 @@ impl<D: Disk> Desk<D> {
         match published {
             Some(cut) => {
                 let _ = self.rounds.push(cut);
-                published_of(reply)
+                published_reply(reply)
             }
-            None => device_of(reply),
+            None => failed_reply(reply),
         }
     }
 
@@ -211,7 +210,7 @@ impl<D: Disk> Desk<D> {
     }
 }
 
-fn published_of(reply: Reply) -> PublishReply
+fn published_reply(reply: Reply) -> PublishReply
     requires { (total : ℕ) × (reply ≡ replies.Published total) }
     ensures { IsPublishReply reply result }
 {
@@ -221,7 +220,7 @@ fn published_of(reply: Reply) -> PublishReply
     }
 }
 
-fn device_of(reply: Reply) -> PublishReply
+fn failed_reply(reply: Reply) -> PublishReply
     requires { (before : ℕ) × (after : ℕ) × (reply ≡ replies.Refused (whys.Device before after)) }
     ensures { IsPublishReply reply result }
 {
@@ -244,15 +243,24 @@ fn begun<D: Disk>(kept: RecordedBook<D>, rounds: Vec<Cut>) -> Result<Desk<D>, De
             kept.begin();
             Ok(Desk { kept, rounds })
         }
-        Err(cause) => Err(DeskRefused {
+        Err(why) => Err(DeskRefused {
             disk: kept.close(),
-            cause,
+            cause: abandon_cause(why),
         }),
     }
 }
 
-fn cause_of(cause: JournalCause) -> DeskCause
-    ensures { (told : Bool) (bytes : List ℕ) (low high : ℕ) → HasCause told bytes low high cause → HasDeskCause told bytes low high result }
+fn abandon_cause(why: NotAbandoned) -> DeskCause
+    ensures { (low high : ℕ) → IsNotAbandoned low high why → IsNotBegun low high result }
+{
+    match why {
+        NotAbandoned::Memory => DeskCause::Memory,
+        NotAbandoned::Device { before, after } => DeskCause::Device { before, after },
+    }
+}
+
+fn journal_cause(cause: JournalCause) -> DeskCause
+    ensures { (tells : Bool) (bytes : List ℕ) (low high : ℕ) → HasCause tells bytes low high cause → HasDeskCause tells bytes low high result }
 {
     match cause {
         JournalCause::Memory => DeskCause::Memory,
@@ -262,8 +270,8 @@ fn cause_of(cause: JournalCause) -> DeskCause
     }
 }
 
-fn stop_of(stop: ReplayStop) -> DeskCause
-    ensures { (told : Bool) (bytes : List ℕ) (low high : ℕ) → StopsAt told bytes stop → HasDeskCause told bytes low high result }
+fn replay_cause(stop: ReplayStop) -> DeskCause
+    ensures { (tells : Bool) (bytes : List ℕ) (low high : ℕ) → StopsAt tells bytes stop → HasDeskCause tells bytes low high result }
 {
     match stop {
         ReplayStop::Memory => DeskCause::Memory,

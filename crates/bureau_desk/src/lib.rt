@@ -1,22 +1,25 @@
-//! The bureau's desk: a book over a journal on a disk.
+//! The bureau's desk: a book over a journal on a disk, with the cuts of the rounds that were published.
+//!
+//! A desk opens on a disk: its history is that of the journal's records, and a round that they leave open is abandoned
+//! by the bureau itself. Then it is asked acts. An act of a caller is answered from the history, and an accepted one is
+//! on the disk when it is answered. A Close answers with a copy of the cut of the open round, whose owner publishes an
+//! outcome that was found greatest for it. The memory for that publication is taken with the Close.
+//!
+//! `KeepsDesk` says what a desk keeps of its disk and its history, and `HasActed` what one act does to them. The base of a
+//! desk is six numbers, of which its calls but `clear_rounds` change none: a turn lock keeps desks by them.
 #![tactic(auto)]
 
-mod act_error;
-mod cut_reply;
 mod desk;
 mod desk_refused;
 mod laws;
 mod publish_reply;
-mod recorded_book;
-mod recorder;
 mod story;
 
-pub use act_error::ActError;
-pub use cut_reply::CutReply;
 pub use desk::Desk;
 pub use desk_refused::{DeskCause, DeskRefused};
 pub use laws::a_frozen_cut_may_be_published;
 pub use publish_reply::PublishReply;
+pub use recorded_book::{ActError, CutReply};
 
 #[cfg(test)]
 mod tests;

@@ -29,6 +29,7 @@ pub(crate) fn replayed(
     Ok(image)
 }
 
+// Whether the bit of this place is 1 in a pick. From place 64 on none is.
 fn is_picked(pick: u64, place: u64) -> bool {
     place < 64 && (pick >> place) & 1 == 1
 }

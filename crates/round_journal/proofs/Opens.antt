@@ -1,5 +1,5 @@
 -- An opening turns at its first sync.
-use Rattle.std.proofs.Common.{◌≡◌, ⊎_elim, ℕ, ◌≤◌, false, List, [], ◌∷◌, ◌++◌, length, None, Bool, IsTrue, refl, sym, ◌∙◌, ap, subst, arith}
+use Rattle.std.proofs.Common.{◌≡◌, ⊎_elim, ℕ, ◌≤◌, false, List, [], ◌∷◌, ◌++◌, length, None, IsTrue, refl, sym, ◌∙◌, ap, subst, arith}
 use Rattle.std.proofs.lemmas.List.{drop_all}
 use Rattle.std.proofs.lemmas.Bool.{cases_lt}
 use Rattle.disk_model.specs.Calls.{Seen, IsPresent, Passes, Only, Torn, After}
@@ -69,7 +69,7 @@ created_is old new short holds = holds ∙ ap (λ (l : List ℕ). empty_journal 
 
 pub created : (a b : Seen) → IsTrue b.tells → length a.reads ≤ 9 → Written a.reads 0 empty_journal b.reads → Only b.reads (IsPresent b) → IsKeptAt b 8 false [] None
 created a b told short holds only = record {
-  told = told;
+  tells = told;
   short = λ k d lt. absurd (omega (arith, lt));
   fits = tt;
   place = refl;
@@ -80,7 +80,7 @@ created a b told short holds only = record {
 -- a disk that is synced and stands for bodies is kept as it is
 pub found_kept : (disk : Seen) (bytes : List ℕ) (bodies : List (List ℕ)) (gate : ℕ) → IsSynced disk bytes → StandsFor bytes bodies → gate ≡ length (front bodies) → IsKeptAt disk gate false bodies None
 found_kept disk bytes bodies gate synced stands place = record {
-  told = synced.told;
+  tells = synced.tells;
   short = stands.short;
   fits = tt;
   place = place;

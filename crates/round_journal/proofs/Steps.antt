@@ -13,8 +13,8 @@ abbrev Wrote : ℕ → ℕ → Seen → Seen → Type 0
 Wrote at n a b = Passes a b (After (Torn at n) (IsPresent a))
 
 module _ (a b : Seen) (same : b.tells ≡ a.tells) where
-  told_then : IsTrue a.tells → IsTrue b.tells
-  told_then told = subst (λ (t : Bool). IsTrue t) (sym same) told
+  tells_then : IsTrue a.tells → IsTrue b.tells
+  tells_then told = subst (λ (t : Bool). IsTrue t) (sym same) told
 
   -- the gate alone
 
@@ -25,7 +25,7 @@ module _ (a b : Seen) (same : b.tells ≡ a.tells) where
 
   pub gate_failed : (gate : ℕ) (bodies : List (List ℕ)) (body : List ℕ) → IsStaged a gate bodies body → Wrote gate 1 a b → IsKeptAt b gate true bodies (Some body)
   gate_failed gate bodies body is goes = record {
-    told = told_then is.told;
+    tells = tells_then is.tells;
     short = is.short;
     fits = is.fits;
     place = is.place;
@@ -39,7 +39,7 @@ module _ (a b : Seen) (same : b.tells ≡ a.tells) where
       let after = gate_written (front bodies) gate is.place (staged body) a.reads b.reads 1 has holds in
       let ends : EndsClosed (front (bodies ++ body ∷ [])) b.reads = opened bodies body has.rest b.reads after in
       record {
-        told = told_then is.told;
+        tells = tells_then is.tells;
         short = short_push bodies body is.short is.fits;
         fits = tt;
         place = omega (arith, is.place, long_is, length-record body, length-append (front bodies) (record_bytes body), ap length (front_push bodies body));
@@ -50,7 +50,7 @@ module _ (a b : Seen) (same : b.tells ≡ a.tells) where
   -- a gate that is closed again
 
   staged_of : (gate : ℕ) (bodies : List (List ℕ)) (body : List ℕ) → IsKeptAt a gate true bodies (Some body) → IsStaged a gate bodies body
-  staged_of gate bodies body kept = record { told = kept.told; short = kept.short; fits = kept.fits; place = kept.place; images = kept.images }
+  staged_of gate bodies body kept = record { tells = kept.tells; short = kept.short; fits = kept.fits; place = kept.place; images = kept.images }
 
   pub settle_crash : (gate : ℕ) (bodies : List (List ℕ)) (last : Option (List ℕ)) → IsKeptAt a gate true bodies last → Wrote gate 1 a b → Passes a b (HasBodies bodies last)
   settle_crash gate bodies None kept goes = absurd (cc kept.flag)
@@ -67,7 +67,7 @@ module _ (a b : Seen) (same : b.tells ≡ a.tells) where
       let after = gate_written (front bodies) gate kept.place (staged body) a.reads b.reads 0 has holds in
       let ends : EndsClosed (front bodies) b.reads = record { gate = 0; rest = staged body ++ has.rest; closed = omega arith; spelled = after } in
       record {
-        told = told_then kept.told;
+        tells = tells_then kept.tells;
         short = kept.short;
         fits = tt;
         place = kept.place;
@@ -94,7 +94,7 @@ module _ (a b : Seen) (same : b.tells ≡ a.tells) where
 
   pub stage_failed : (gate n : ℕ) (bodies : List (List ℕ)) → IsKeptAt a gate false bodies None → Wrote (gate + 1) n a b → IsKeptAt b gate false bodies None
   stage_failed gate n bodies kept goes = record {
-    told = told_then kept.told;
+    tells = tells_then kept.tells;
     short = kept.short;
     fits = tt;
     place = kept.place;
@@ -106,7 +106,7 @@ module _ (a b : Seen) (same : b.tells ≡ a.tells) where
   stage_done gate bodies body fits kept reads_now holds only =
       let has = staged_written (front bodies) gate kept.place (staged body) a.reads b.reads (kept.images a.reads reads_now) holds in
       record {
-        told = told_then kept.told;
+        tells = tells_then kept.tells;
         short = kept.short;
         fits = fits;
         place = kept.place;

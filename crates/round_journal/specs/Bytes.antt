@@ -5,6 +5,10 @@ use Rattle.std.specs.Int.{w32, to_be_bytes}
 abbrev pub header : List ℕ
 header = codes "BUREAUJ1"
 
+-- the bytes of the longest body of an act
+abbrev pub most_body : ℕ
+most_body = 2162705
+
 -- a length and a body, which stand behind a gate
 abbrev pub measured : List ℕ → List ℕ
 measured body = to_be_bytes w32 (length body) ++ body

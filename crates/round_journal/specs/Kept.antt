@@ -29,7 +29,7 @@ HasBodies bodies (Some body) bytes = HasStaged (front bodies) (staged body) byte
 -- The disk tells its bytes, and each present image has the bodies. Where a last one was tried and its gate is not settled,
 -- each image has that one behind the gate.
 pub record IsKeptAt (disk : Seen) (gate : ℕ) (unsettled : Bool) (bodies : List (List ℕ)) (last : Option (List ℕ)) : Type 0 where
-  pub told : IsTrue disk.tells
+  pub tells : IsTrue disk.tells
   pub short : AreShort bodies
   pub fits : IfSome last (λ body. length body < 2 ^ 32)
   pub place : gate ≡ length (front bodies)
@@ -42,7 +42,7 @@ IsKept seen journal bodies last = IsKeptAt (seen journal.disk) journal.gate jour
 
 -- the bodies are kept, with this one behind a gate that is not open, in each present image
 pub record IsStaged (disk : Seen) (gate : ℕ) (bodies : List (List ℕ)) (body : List ℕ) : Type 0 where
-  pub told : IsTrue disk.tells
+  pub tells : IsTrue disk.tells
   pub short : AreShort bodies
   pub fits : length body < 2 ^ 32
   pub place : gate ≡ length (front bodies)

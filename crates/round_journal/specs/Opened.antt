@@ -47,7 +47,7 @@ Leaves old new (BadRecord offset why) = new ≡ old
 
 -- the disk tells that it has these bytes, and a crash leaves them and nothing else
 pub record IsSynced (disk : Seen) (bytes : List ℕ) : Type 0 where
-  pub told : IsTrue disk.tells
+  pub tells : IsTrue disk.tells
   pub read : bytes ≡ disk.reads
   pub only : Only bytes (IsPresent disk)
 
@@ -59,8 +59,8 @@ pub record IsQuiet (old new : Seen) : Type 0 where
   pub later : old.count ≤ new.count
 
 -- these records, with their places, are those that the bytes hold, where the disk tells them
-pub record AreFound (told : Bool) (bytes : List ℕ) (records : List Record) : Type 0 where
-  pub reading : IsTrue told → IsReading IsBody bytes (bodies_are (bodies_of records))
+pub record AreFound (tells : Bool) (bytes : List ℕ) (records : List Record) : Type 0 where
+  pub reading : IsTrue tells → IsReading IsBody bytes (bodies_are (bodies_of records))
   pub keepable : AreKeepable records
   pub places : offsets_of records ≡ gates_from 8 (bodies_of records)
 

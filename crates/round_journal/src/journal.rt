@@ -1,7 +1,9 @@
 //! An open journal.
-ghost use Rattle.std.specs.Prelude.{◌≡◌, ◌+◌, ◌^◌, ◌≤◌, ℕ, List, [], ◌∷◌, ◌++◌, length, Option, None, IfErr, IfOk, OnOk, OnErr};
+ghost use Rattle.std.specs.Prelude.{◌≡◌, ◌+◌, ◌≤◌, ℕ, List, [], ◌∷◌, ◌++◌, length, Option, None, IfErr, IfOk, OnOk, OnErr};
 ghost use Rattle.disk_model.specs.Calls.{Passes};
 ghost use Rattle.fault_count.specs.Counts.{HasRisen};
+ghost use Rattle.setoff_model.specs.Limits.{most_journal_bytes};
+ghost use Rattle.round_journal.specs.Bytes.{most_body};
 ghost use Rattle.round_journal.specs.Kept.{IsKept, IsLast, HoldsOne};
 ghost use Rattle.round_journal.specs.Opened.{IsOpen, IsRefused};
 
@@ -16,6 +18,9 @@ use std::alloc::Global;
 use std::marker::Model;
 use std::snapshot::Snapshot;
 
+// The bytes of the longest body of an act.
+const MOST_BODY: usize = 2_162_705;
+
 /// A journal on a disk. It keeps the records of its opening and of each append since then that succeeded.
 #[derive(Drop)]
 pub struct Journal<D: Disk> {
@@ -24,6 +29,8 @@ pub struct Journal<D: Disk> {
 }
 
 impl<D: Disk> Model for Journal<D> {
+    ghost use Rattle.setoff_model.specs.Limits.{most_journal_bytes};
+    ghost use Rattle.round_journal.specs.Bytes.{most_body};
     ghost use Rattle.round_journal.specs.Kept.{JournalView};
 
     ghost Value = { JournalView D };
@@ -45,7 +52,7 @@ impl<D: Disk> Journal<D> {
         ensures err { IfErr result (λ e. IsRefused (D.seen disk) (D.seen e.disk) e.cause) }
     {
         let before = disk.faults();
-        let Ok(staging) = Vec::with_capacity(alloc, 2_162_710) else {
+        let Ok(staging) = Vec::with_capacity(alloc, MOST_BODY + 5) else {
             return Err(OpenRefused {
                 disk,
                 cause: JournalCause::Memory,
@@ -76,8 +83,8 @@ impl<D: Disk> Journal<D> {
     /// After an Ok every present image has the record. An Err means that the disk failed. Then the records are kept as
     /// they were, and an image may have the new one behind them, or the one of the append that failed before.
     pub fn append(&mut self, body: &[u8]) -> Result<(), Device>
-        requires short { length body.now ≤ 2162705 }
-        requires near { self.old.gate + 5 + length body.now ≤ 2 ^ 30 }
+        requires short { length body.now ≤ most_body }
+        requires near { self.old.gate + 5 + length body.now ≤ most_journal_bytes }
         ensures done { OnOk result ((bodies : List (List ℕ)) (last : Option (List ℕ)) → IsKept D.seen self.old bodies last → IsKept D.seen self.new (bodies ++ body.now ∷ []) None) }
         ensures failed { OnErr result ((bodies : List (List ℕ)) (last : Option (List ℕ)) → IsKept D.seen self.old bodies last
             → (after : Option (List ℕ)) × IsLast last body.now after × IsKept D.seen self.new bodies after) }

@@ -5,9 +5,9 @@ use Rattle.bureau_desk.proofs.desk.Desk.open.Goals as goal
 
 pub returns-in-Err-clause-err : goal.returns-in-Err-clause-err
 returns-in-Err-clause-err g c =
-    c.cause_of.ensures (g.D.Disk.seen c.args.disk).tells (g.D.Disk.seen c.args.disk).reads (g.D.Disk.seen c.args.disk).count (g.D.Disk.seen c.in-Err.field-0.disk).count c.in-Err.ensures.err.has
+    c.journal_cause.ensures (g.D.Disk.seen c.args.disk).tells (g.D.Disk.seen c.args.disk).reads (g.D.Disk.seen c.args.disk).count (g.D.Disk.seen c.in-Err.field-0.disk).count c.in-Err.ensures.err.has
 
 pub returns-clause-err : goal.returns-clause-err
 returns-clause-err g c =
-    c.stop_of.ensures (g.D.Disk.seen c.args.disk).tells (g.D.Disk.seen c.args.disk).reads (g.D.Disk.seen c.args.disk).count (g.D.Disk.seen c.close.result).count
+    c.replay_cause.ensures (g.D.Disk.seen c.args.disk).tells (g.D.Disk.seen c.args.disk).reads (g.D.Disk.seen c.args.disk).count (g.D.Disk.seen c.close.result).count
     (c.in-Ok.opened.1.items, c.in-Ok.ensures.ok.found, subst (λ (records : List Record). StopsFirst records c.in-Err-replay.stop) c.deref.ensures.value c.in-Err-replay.ensures.stopped)

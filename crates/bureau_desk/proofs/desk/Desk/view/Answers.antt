@@ -5,9 +5,9 @@ use Rattle.bureau_desk.proofs.desk.Desk.view.Goals as goal
 
 pub returns-in-Ok-clause-err : goal.returns-in-Ok-clause-err
 returns-in-Ok-clause-err g c =
-    c.stop_of.ensures (g.D.Disk.seen c.args.disk.now).tells (g.D.Disk.seen c.args.disk.now).reads (g.D.Disk.seen c.args.disk.now).count (g.D.Disk.seen c.read_records.new.disk).count
+    c.replay_cause.ensures (g.D.Disk.seen c.args.disk.now).tells (g.D.Disk.seen c.args.disk.now).reads (g.D.Disk.seen c.args.disk.now).count (g.D.Disk.seen c.read_records.new.disk).count
     (c.in-Ok.records.items, c.in-Ok.ensures.found, subst (λ (records : List Record). StopsFirst records c.in-Err-replay.stop) c.deref.ensures.value c.in-Err-replay.ensures.stopped)
 
 pub returns-clause-err : goal.returns-clause-err
 returns-clause-err g c =
-    c.cause_of.ensures (g.D.Disk.seen c.args.disk.now).tells (g.D.Disk.seen c.args.disk.now).reads (g.D.Disk.seen c.args.disk.now).count (g.D.Disk.seen c.read_records.new.disk).count c.in-Err.ensures.cause
+    c.journal_cause.ensures (g.D.Disk.seen c.args.disk.now).tells (g.D.Disk.seen c.args.disk.now).reads (g.D.Disk.seen c.args.disk.now).count (g.D.Disk.seen c.read_records.new.disk).count c.in-Err.ensures.cause

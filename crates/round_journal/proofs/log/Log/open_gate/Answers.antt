@@ -14,7 +14,7 @@ returns-in_err-write_and_sync-clause-crash g c bodies body long is =
 pub returns-clause-done : goal.returns-clause-done
 returns-clause-done g c bodies body long is =
     gate_opened (g.D.Disk.seen c.args.self.now.disk) (g.D.Disk.seen c.write_and_sync.new.disk) c.write_and_sync.ensures.tells c.args.self.now.gate c.args.len bodies body long is
-    (g.met.D.Disk.reads_now c.args.self.now.disk is.told) (c.in_ok-write_and_sync.ensures.written is.told) (c.in_ok-write_and_sync.ensures.durable is.told)
+    (g.met.D.Disk.reads_now c.args.self.now.disk is.tells) (c.in_ok-write_and_sync.ensures.written is.tells) (c.in_ok-write_and_sync.ensures.durable is.tells)
 
 pub returns-clause-crash : goal.returns-clause-crash
 returns-clause-crash g c bodies body long is =

@@ -18,7 +18,7 @@ pub returns-clause-done : goal.returns-clause-done
 returns-clause-done g c bodies last kept =
     let on : c.args.self.now.unsettled ≡ true = search rules in
     settle_done_on (g.D.Disk.seen c.args.self.now.disk) (g.D.Disk.seen c.write_and_sync.new.disk) c.write_and_sync.ensures.tells c.args.self.now.gate c.args.self.now.unsettled bodies last on kept
-    (g.met.D.Disk.reads_now c.args.self.now.disk kept.told) (c.in_ok-write_and_sync.ensures.written kept.told) (c.in_ok-write_and_sync.ensures.durable kept.told)
+    (g.met.D.Disk.reads_now c.args.self.now.disk kept.tells) (c.in_ok-write_and_sync.ensures.written kept.tells) (c.in_ok-write_and_sync.ensures.durable kept.tells)
 
 pub returns-clause-crash : goal.returns-clause-crash
 returns-clause-crash g c bodies last kept =

@@ -19,9 +19,9 @@ returns-clause-done g c bodies kept =
     let is : c.deref.result.now ≡ staged c.args.body.now = c.deref.ensures.value ∙ c.fill.ensures.items in
     let fits : length c.args.body.now < 2 ^ 32 = omega (arith, c.requires.short) in
     stage_done (g.D.Disk.seen c.args.self.now.disk) (g.D.Disk.seen c.write_and_sync.new.disk) c.write_and_sync.ensures.tells c.args.self.now.gate bodies c.args.body.now fits kept
-    (g.met.D.Disk.reads_now c.args.self.now.disk kept.told)
-    (subst (λ (p : List ℕ). Holds (g.D.Disk.seen c.args.self.now.disk).reads (c.args.self.now.gate + 1) p (g.D.Disk.seen c.write_and_sync.new.disk).reads) is (c.in_ok-write_and_sync.ensures.written kept.told))
-    (c.in_ok-write_and_sync.ensures.durable kept.told)
+    (g.met.D.Disk.reads_now c.args.self.now.disk kept.tells)
+    (subst (λ (p : List ℕ). Holds (g.D.Disk.seen c.args.self.now.disk).reads (c.args.self.now.gate + 1) p (g.D.Disk.seen c.write_and_sync.new.disk).reads) is (c.in_ok-write_and_sync.ensures.written kept.tells))
+    (c.in_ok-write_and_sync.ensures.durable kept.tells)
 
 pub returns-clause-crash : goal.returns-clause-crash
 returns-clause-crash g c bodies kept =

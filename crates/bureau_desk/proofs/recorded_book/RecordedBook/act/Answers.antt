@@ -1,5 +1,0 @@
-use Rattle.bureau_desk.proofs.Acted.{keepable_of}
-use Rattle.bureau_desk.proofs.recorded_book.RecordedBook.act.Goals as goal
-
-pub put-requires-clause-kept : goal.put-requires-clause-kept
-put-requires-clause-kept g c = keepable_of c.args.caller c.args.act c.requires.caller c.ranges.caller.fits c.requires.valid

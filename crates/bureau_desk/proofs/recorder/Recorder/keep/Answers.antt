@@ -1,7 +1,0 @@
-use Rattle.std.proofs.Common.{rules}
-use Rattle.bureau_desk.proofs.Recording.{records_noted}
-use Rattle.bureau_desk.proofs.recorder.Recorder.keep.Goals as goal
-
-pub returns-then-not-accepts-clause-records : goal.returns-then-not-accepts-clause-records
-returns-then-not-accepts-clause-records g c history has =
-    records_noted g.D.Disk.seen c.args.self.now history (record { caller = c.args.caller; act = c.args.act.now; reply = c.args.due }) (search rules) c.requires.undevice has

@@ -1,0 +1,9 @@
+pub mod Results
+pub mod Histories
+pub mod Grow
+pub mod Recording
+pub mod Acted
+pub mod Publications
+pub mod Closes
+pub mod Openings
+pub mod Abandonments

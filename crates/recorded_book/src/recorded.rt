@@ -1,0 +1,411 @@
+//! A book whose accepted acts are in a journal.
+ghost use Rattle.std.specs.Prelude.{◌≡◌, ◌+◌, ◌≤◌, ◌++◌, ◌∷◌, [], length, Some, is_some, true, false, ◌*◌, ◌⊎◌, All, ℕ, List, IfOk, IfErr, OnOk, OnErr};
+ghost use Rattle.setoff_model.specs.Setoff.{total_of};
+ghost use Rattle.setoff_model.specs.CutView.{WellFormed};
+ghost use Rattle.claim_history.specs.Cut.{cut_of};
+ghost use Rattle.claim_history.specs.declared.entry.Entry.{Entry};
+ghost use Rattle.claim_history.specs.declared.act.Act.{Act};
+ghost use Rattle.limited_book.specs.Limited.{IsFull};
+ghost use Rattle.claim_history.specs.declared.act.Act.TheVariants as acts;
+ghost use Rattle.claim_history.specs.declared.entry.Reply.TheVariants as replies;
+ghost use Rattle.claim_history.specs.Acts.{is_valid, is_publication, is_day, is_close};
+ghost use Rattle.claim_history.specs.States.{state_of};
+ghost use Rattle.claim_history.specs.History.{answer_of, is_opening, is_accepted};
+ghost use Rattle.claim_history.specs.Needs.{body_length_of, is_full};
+ghost use Rattle.act_bodies.specs.Bodies.{is_keepable};
+ghost use Rattle.claim_book.specs.Book.{room_for, GivesCut, ledger_of, open_cut_of};
+ghost use Rattle.journal_replay.specs.Replays.{history_of, AreSound};
+ghost use Rattle.round_journal.specs.Opened.{IsOpen};
+ghost use Rattle.round_journal.specs.declared.record.Record.{Record};
+ghost use Rattle.recorded_book.specs.Recorded.{Records};
+ghost use Rattle.recorded_book.specs.Acting.{HasActed, IsActError, IsLater, IsUntouched, IsSpared, IsOutcomeDue, HasClosed, IsCutReply, IsNotAbandoned, IsOpenedHistory, entry_of};
+
+use crate::act_error::ActError;
+use crate::cut_reply::CutReply;
+use crate::not_abandoned::NotAbandoned;
+use crate::recorder::Recorder;
+use act_bodies::body_length;
+use claim_book::Book;
+use claim_history::{Act, Day, Entry, Reply, Why};
+use disk_model::Disk;
+use limited_book::{Full, LimitedBook};
+use round_journal::Journal;
+use setoff_model::{Cut, Kind, Outcome, total};
+use std::alloc::{AllocError, Global};
+use std::marker::Model;
+
+/// A book within the limits, with the record of its calls on a disk.
+#[derive(Drop)]
+pub struct RecordedBook<D: Disk> {
+    recorder: Recorder<D>,
+    book: LimitedBook,
+    alloc: Global,
+}
+
+impl<D: Disk> Model for RecordedBook<D> {
+    ghost use Rattle.recorded_book.specs.Acting.{RecordedView};
+    ghost use Rattle.recorded_book.specs.Recorded.{Records};
+
+    ghost Value = { RecordedView D };
+
+    ghost view = { λ b. record { recorder = b.recorder; book = b.book } };
+
+    ghost invariant = { λ b. Records D.seen b.recorder b.book.history };
+}
+
+impl<D: Disk> RecordedBook<D> {
+    /// An opened journal with the book of its records.
+    pub fn new(alloc: Global, journal: Journal<D>, book: LimitedBook) -> RecordedBook<D>
+        requires opened { (disk : D) × (records : List Record) × IsOpen D.seen disk journal records × AreSound records × (book.history ≡ history_of records) }
+        ensures book { result.book ≡ book }
+        ensures journal { result.recorder.journal ≡ journal }
+        ensures opened { (result.recorder.at_opening_end ≡ journal.disk) × (result.recorder.opened_with ≡ length book.history) }
+        ensures cleared { (result.recorder.at_clearing ≡ journal.disk) × (result.recorder.cleared_with ≡ length book.history) }
+    {
+        let entries = book.book().history().len() as u64;
+        let recorder = Recorder::new(alloc, journal, entries);
+        RecordedBook {
+            recorder,
+            book,
+            alloc,
+        }
+    }
+
+    /// Abandons the open round as the bureau itself, where one is open. An Err means that there was no memory, or that the disk
+    /// failed.
+    pub fn abandon(&mut self) -> Result<(), NotAbandoned>
+        ensures done { OnOk result (IsOpenedHistory self.old.book.history self.new.book.history) }
+        ensures cause { IfErr result (IsNotAbandoned (D.seen self.old.recorder.journal.disk).count (D.seen self.new.recorder.journal.disk).count) }
+        ensures later { IsLater D.seen self.old.recorder self.new.recorder }
+    {
+        if !has_open(self.book.book()) {
+            return Ok(());
+        }
+        if self.make_room(&Act::Abandon).is_err() {
+            return Err(NotAbandoned::Memory);
+        }
+        let book = self.book.book();
+        let _history = book.history();
+        let due = self.book.answer(0, &Act::Abandon);
+        match self.put(0, Act::Abandon, due) {
+            Reply::Refused(Why::Device { before, after }) => {
+                Err(NotAbandoned::Device { before, after })
+            }
+            _ => Ok(()),
+        }
+    }
+
+    /// Sets the end of the opening, and the last clearing, to the present. No entry tells of a device.
+    pub fn begin(&mut self)
+        requires { All (λ e. is_accepted e ≡ true) self.old.book.history }
+        ensures book { self.new.book ≡ self.old.book }
+        ensures journal { self.new.recorder.journal ≡ self.old.recorder.journal }
+        ensures opened { self.new.recorder.at_opening_end ≡ self.old.recorder.journal.disk }
+        ensures opened_with { self.new.recorder.opened_with ≡ self.old.recorder.opened_with }
+        ensures cleared { self.new.recorder.at_clearing ≡ self.old.recorder.journal.disk }
+        ensures cleared_with { self.new.recorder.cleared_with ≡ length self.old.book.history }
+    {
+        let entries = self.book.book().history().len() as u64;
+        self.recorder.begin(entries);
+    }
+
+    /// The book, of whose history the record is.
+    pub fn book(&self) -> &LimitedBook
+        ensures book { result.now ≡ self.now.book }
+        ensures records { Records D.seen self.now.recorder self.now.book.history }
+    {
+        &self.book
+    }
+
+    /// Makes the room that an act needs in the book, and for its body. It lowers no room that was made before. The only error
+    /// is that memory is missing.
+    pub fn make_room(&mut self, act: &Act) -> Result<(), AllocError>
+        requires valid { is_valid act.now ≡ true }
+        ensures room { OnOk result (room_for (state_of self.old.book.history) act.now ≤ self.new.book.room) }
+        ensures spare { OnOk result (body_length_of act.now ≤ self.new.recorder.spare) }
+        ensures untouched { IsUntouched self.old self.new }
+        ensures later { IsLater D.seen self.old.recorder self.new.recorder }
+    {
+        self.recorder.reserve(body_length(act) as usize)?;
+        self.book.reserve(act)?;
+        Ok(())
+    }
+
+    /// Keeps the reply that is due to an act, and puts its entry at the end. The act publishes nothing, and its reply opens no
+    /// round. There is room for it, and it is within the limits.
+    pub fn put(&mut self, caller: u32, act: Act, due: Reply) -> Reply
+        requires kept { is_keepable caller act ≡ true }
+        requires apart { is_publication act ≡ false }
+        requires no_opening { is_opening due ≡ false }
+        requires due { due ≡ answer_of self.old.book.history caller act }
+        requires fits { is_full self.old.book.history caller act ≡ false }
+        requires room { room_for (state_of self.old.book.history) act ≤ self.old.book.room }
+        requires spare { body_length_of act ≤ self.old.recorder.spare }
+        ensures acted { HasActed D.seen self.old.recorder.journal.disk self.new.recorder.journal.disk self.old.book.history self.new.book.history caller act result }
+        ensures room { self.old.book.room ≤ self.new.book.room + 1 }
+        ensures later { IsLater D.seen self.old.recorder self.new.recorder }
+    {
+        let reply = self.recorder.keep(caller, &act, due);
+        self.book.apply(Entry { caller, act, reply });
+        reply
+    }
+
+    /// Asks an act that is no Close and no publication, by a caller other than the bureau itself.
+    pub fn act(&mut self, caller: u32, act: Act) -> Result<Reply, ActError>
+        requires caller { 1 ≤ caller }
+        requires valid { is_valid act ≡ true }
+        requires apart { is_publication act ≡ false }
+        requires other { is_close act ≡ false }
+        ensures acted { IfOk result (λ got. HasActed D.seen self.old.recorder.journal.disk self.new.recorder.journal.disk self.old.book.history self.new.book.history caller act got) }
+        ensures error { IfErr result (IsActError self.old.book.history caller act) }
+        ensures untouched { OnErr result (IsUntouched self.old self.new) }
+        ensures room { OnOk result (room_for (state_of self.old.book.history) act ≤ self.new.book.room + 1) }
+        ensures later { IsLater D.seen self.old.recorder self.new.recorder }
+    {
+        if self.make_room(&act).is_err() {
+            return Err(ActError::Memory);
+        }
+        let due = self.book.answer(caller, &act);
+        match self.book.fits(caller, &act, due) {
+            Ok(()) => Ok(self.put(caller, act, due)),
+            Err(full) => Err(error_of(full)),
+        }
+    }
+
+    /// Asks a Close of a caller other than the bureau itself. All memory is taken before the disk is called: also that for the
+    /// publication's body.
+    pub fn close_round(
+        &mut self,
+        caller: u32,
+        kind: Kind,
+        horizon: Day,
+    ) -> Result<CutReply, ActError>
+        requires caller { 1 ≤ caller }
+        requires day { is_day horizon ≡ true }
+        ensures closed { IfOk result (HasClosed D.seen self.old.recorder.journal.disk self.new.recorder.journal.disk self.old.book.history self.new.book.history caller (acts.Close kind horizon)) }
+        ensures error { IfErr result (IsActError self.old.book.history caller (acts.Close kind horizon)) }
+        ensures untouched { OnErr result (IsUntouched self.old self.new) }
+        ensures room { OnOk result (1 ≤ self.new.book.room) }
+        ensures spared { IsSpared self.old → IsSpared self.new }
+        ensures later { IsLater D.seen self.old.recorder self.new.recorder }
+    {
+        let act = Act::Close { kind, horizon };
+        if self.make_room(&act).is_err() {
+            return Err(ActError::Memory);
+        }
+        match self.book.answer(caller, &act) {
+            Reply::Opened { round } => self.open_round(caller, kind, horizon, round),
+            due => self.continue_round(caller, kind, horizon, due),
+        }
+    }
+
+    // Opens a round of this number.
+    fn open_round(
+        &mut self,
+        caller: u32,
+        kind: Kind,
+        horizon: Day,
+        round: u32,
+    ) -> Result<CutReply, ActError>
+        requires caller { 1 ≤ caller }
+        requires day { is_day horizon ≡ true }
+        requires due { replies.Opened round ≡ answer_of self.old.book.history caller (acts.Close kind horizon) }
+        requires room { 2 ≤ self.old.book.room }
+        requires spare { 10 ≤ self.old.recorder.spare }
+        ensures closed { IfOk result (HasClosed D.seen self.old.recorder.journal.disk self.new.recorder.journal.disk self.old.book.history self.new.book.history caller (acts.Close kind horizon)) }
+        ensures error { IfErr result (IsActError self.old.book.history caller (acts.Close kind horizon)) }
+        ensures untouched { OnErr result (IsUntouched self.old self.new) }
+        ensures room { OnOk result (1 ≤ self.new.book.room) }
+        ensures spared { IsSpared self.old → IsSpared self.new }
+        ensures later { IsLater D.seen self.old.recorder self.new.recorder }
+    {
+        let Ok(cut) = self.book.next_cut(self.alloc, kind, horizon) else {
+            return Err(ActError::Memory);
+        };
+        let Ok(copy) = cut.clone() else {
+            return Err(ActError::Memory);
+        };
+        if self.recorder.reserve(publication_length(&cut)).is_err() {
+            return Err(ActError::Memory);
+        }
+        match self.book.fits_opening(caller, kind, horizon, &cut) {
+            Ok(()) => Ok(self.put_opening(caller, kind, horizon, round, cut, copy)),
+            Err(full) => Err(error_of(full)),
+        }
+    }
+
+    // Puts the entry of a Close at the end that opens a round with this cut.
+    fn put_opening(
+        &mut self,
+        caller: u32,
+        kind: Kind,
+        horizon: Day,
+        round: u32,
+        cut: Cut,
+        copy: Cut,
+    ) -> CutReply
+        requires caller { 1 ≤ caller }
+        requires day { is_day horizon ≡ true }
+        requires due { replies.Opened round ≡ answer_of self.old.book.history caller (acts.Close kind horizon) }
+        requires fits { is_full self.old.book.history caller (acts.Close kind horizon) ≡ false }
+        requires cut { cut ≡ cut_of ((state_of self.old.book.history).openings + 1) (ledger_of self.old.book.history) kind horizon }
+        requires copy { copy ≡ cut }
+        requires room { 2 ≤ self.old.book.room }
+        requires spare { 10 ≤ self.old.recorder.spare }
+        requires publication { 17 + (8 * length cut.claims + 4 * length cut.parties) ≤ self.old.recorder.spare }
+        ensures closed { HasClosed D.seen self.old.recorder.journal.disk self.new.recorder.journal.disk self.old.book.history self.new.book.history caller (acts.Close kind horizon) result }
+        ensures room { 1 ≤ self.new.book.room }
+        ensures spared { IsSpared self.old → IsSpared self.new }
+        ensures later { IsLater D.seen self.old.recorder self.new.recorder }
+    {
+        let act = Act::Close { kind, horizon };
+        let reply = self.recorder.keep(caller, &act, Reply::Opened { round });
+        match reply {
+            Reply::Refused(why) => {
+                self.book.apply(Entry { caller, act, reply });
+                CutReply::Refused(why)
+            }
+            _ => {
+                self.book.apply_close(Entry { caller, act, reply }, cut);
+                CutReply::Frozen(copy)
+            }
+        }
+    }
+
+    // Continues the open round, or refuses the Close.
+    fn continue_round(
+        &mut self,
+        caller: u32,
+        kind: Kind,
+        horizon: Day,
+        due: Reply,
+    ) -> Result<CutReply, ActError>
+        requires caller { 1 ≤ caller }
+        requires day { is_day horizon ≡ true }
+        requires no_opening { is_opening due ≡ false }
+        requires due { due ≡ answer_of self.old.book.history caller (acts.Close kind horizon) }
+        requires room { 2 ≤ self.old.book.room }
+        requires spare { 10 ≤ self.old.recorder.spare }
+        ensures closed { IfOk result (HasClosed D.seen self.old.recorder.journal.disk self.new.recorder.journal.disk self.old.book.history self.new.book.history caller (acts.Close kind horizon)) }
+        ensures error { IfErr result (IsActError self.old.book.history caller (acts.Close kind horizon)) }
+        ensures untouched { OnErr result (IsUntouched self.old self.new) }
+        ensures room { OnOk result (1 ≤ self.new.book.room) }
+        ensures spared { IsSpared self.old → IsSpared self.new }
+        ensures later { IsLater D.seen self.old.recorder self.new.recorder }
+    {
+        let act = Act::Close { kind, horizon };
+        if let Err(full) = self.book.fits(caller, &act, due) {
+            return Err(error_of(full));
+        }
+        match self.book.book().open_cut(self.alloc) {
+            Ok(Some(cut)) => Ok(cut_reply_of(self.put(caller, act, due), cut)),
+            Ok(None) => unreachable!(),
+            Err(_) => Err(ActError::Memory),
+        }
+    }
+
+    /// Publishes an outcome that is proved for the cut of the open round, which is the caller's and has this number. It gives the
+    /// reply, and the cut of the round where it was published. The memory for it was made.
+    pub fn publish(&mut self, caller: u32, number: u32, outcome: Outcome) -> (Reply, Option<Cut>)
+        requires caller { 1 ≤ caller }
+        requires due { IsOutcomeDue self.old.book.history caller number outcome }
+        requires room { 1 ≤ self.old.book.room }
+        requires spare { IsSpared self.old }
+        ensures acted { HasActed D.seen self.old.recorder.journal.disk self.new.recorder.journal.disk self.old.book.history self.new.book.history caller (acts.Publish number outcome) result.0 }
+        ensures due { replies.Published (total_of outcome.discharges) ≡ answer_of self.old.book.history caller (acts.Publish number outcome) }
+        ensures cut { GivesCut (state_of self.old.book.history).open_round (entry_of caller (acts.Publish number outcome) result.0) result.1 }
+        ensures room { self.old.book.room ≤ self.new.book.room + 1 }
+        ensures later { IsLater D.seen self.old.recorder self.new.recorder }
+    {
+        let book = self.book.book();
+        let _history = book.history();
+        let total = total(&outcome);
+        let act = Act::Publish {
+            round: number,
+            outcome,
+        };
+        let reply = self.recorder.keep(caller, &act, Reply::Published { total });
+        let published = self.book.apply_publish(Entry { caller, act, reply });
+        (reply, published)
+    }
+
+    /// Sets the last clearing to the present.
+    pub fn clear(&mut self)
+        ensures book { self.new.book ≡ self.old.book }
+        ensures journal { self.new.recorder.journal ≡ self.old.recorder.journal }
+        ensures room { self.new.recorder.spare ≡ self.old.recorder.spare }
+        ensures opened { (self.new.recorder.at_opening_end ≡ self.old.recorder.at_opening_end) × (self.new.recorder.opened_with ≡ self.old.recorder.opened_with) }
+        ensures cleared { self.new.recorder.at_clearing ≡ self.old.recorder.journal.disk }
+        ensures cleared_with { self.new.recorder.cleared_with ≡ length self.old.book.history }
+    {
+        let entries = self.book.book().history().len() as u64;
+        self.recorder.clear(entries);
+    }
+
+    /// The disk's count of faults.
+    pub fn faults(&self) -> u64
+        ensures { result ≡ (D.seen self.now.recorder.journal.disk).count }
+    {
+        self.recorder.faults()
+    }
+
+    /// How many entries were opened.
+    pub fn opened_with(&self) -> u64
+        ensures { result ≡ self.now.recorder.opened_with }
+    {
+        self.recorder.opened_with()
+    }
+
+    /// Gives the disk back.
+    pub fn close(self) -> D
+        ensures { result ≡ self.recorder.journal.disk }
+    {
+        let RecordedBook {
+            recorder,
+            book: _,
+            alloc: _,
+        } = self;
+        recorder.close()
+    }
+}
+
+// The bytes of the body of a publication for a cut.
+fn publication_length(cut: &Cut) -> usize
+    requires { WellFormed cut.now }
+    ensures { result ≡ 17 + (8 * length cut.now.claims + 4 * length cut.now.parties) }
+{
+    17 + (8 * cut.claims().len() + 4 * cut.parties().len())
+}
+
+// The answer to a Close that got this reply, where this is the open cut.
+fn cut_reply_of(reply: Reply, cut: Cut) -> CutReply
+    ensures { (history : List Entry) → open_cut_of history ≡ Some cut → IsCutReply reply history result }
+{
+    match reply {
+        Reply::Refused(why) => CutReply::Refused(why),
+        _ => CutReply::Frozen(cut),
+    }
+}
+
+// Why an act is not asked that is full.
+fn error_of(full: Full) -> ActError
+    ensures { (history : List Entry) (caller : ℕ) (a : Act) → IsFull history caller a full → IsActError history caller a result }
+{
+    let Full {
+        what,
+        needed,
+        limit,
+    } = full;
+    ActError::Full {
+        what,
+        needed,
+        limit,
+    }
+}
+
+// Whether a round is open.
+fn has_open(book: &Book) -> bool
+    ensures { result ≡ is_some (state_of book.now.history).open_round }
+{
+    book.open_round().is_some()
+}
