@@ -175,6 +175,6 @@ fn totals_of_drawn_nets(rt: HostRuntime) {
 // that of the network simplex of networkx.
 #[test]
 fn labels_go_by_the_arcs_of_a_node(rt: HostRuntime) {
-    let found = drawn_total(rt.alloc(), Kind::Funded, 600, 6_000, 7);
-    assert!(rt; found.expect(&rt, "memory") == Some(161_347_154));
+    let found = drawn_total(rt.alloc(), Kind::Funded, 900, 9_000, 7);
+    assert!(rt; found.expect(&rt, "memory") == Some(237_154_534));
 }
