@@ -4,12 +4,12 @@ use Rattle.std.proofs.Common.{◌≡◌, ℕ, suc, List, length, refl, ap, arith
 use Rattle.std.proofs.lemmas.Int.{ints}
 use Rattle.setoff_model.specs.Sums.{sum_below}
 use Rattle.setoff_model.specs.Setoff.{Obligations}
-use Rattle.setoff_model.proofs.Circulation.{sum_below-same, sum_below-add, sum_below-all}
+use Rattle.setoff_model.proofs.Circulation.{sum_below-same, sum_below-add, sum_below-all, sum_below-none}
 use Rattle.setoff_model.proofs.Complementary.{sum_below-tight, towards}
 use Rattle.residual_network.specs.Network.{Network, has, owes}
 use Rattle.residual_network.specs.NetworkOf.{IsNetworkOf, IsAmongParties}
 use Rattle.residual_network.specs.Laws.{ExcessLaw}
-use Rattle.residual_network.proofs.Sums.{sum_below-none, all_flow}
+use Rattle.residual_network.proofs.Sums.{all_flow}
 use Rattle.residual_network.proofs.Beginning.{are_among}
 
 -- the supplies and the demands of all nodes are the spends

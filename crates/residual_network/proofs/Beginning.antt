@@ -7,11 +7,11 @@ use Rattle.std.proofs.lemmas.Bool.Decides.{nat_tests}
 use Rattle.std.proofs.lemmas.List.{length-replicate, get_or-replicate, get_or_append_left, get_or-append-add}
 use Rattle.setoff_model.specs.Sums.{sum_below}
 use Rattle.setoff_model.specs.Setoff.{Obligations, flow_at, price_at}
-use Rattle.setoff_model.proofs.Circulation.{sum_below-same, sum_below-all}
+use Rattle.setoff_model.proofs.Circulation.{sum_below-same, sum_below-all, sum_below-none}
 use Rattle.residual_network.specs.Network.{Arcs, Network, arc_gain, has, owes, IsFlow, ArcSlack, AtRest, AreArcsAmong}
 use Rattle.residual_network.specs.NetworkOf.{IsNetworkOf, IsAmongParties, empty_flow, full_flow}
 use Rattle.residual_network.specs.Laws.{NetworkLaw}
-use Rattle.residual_network.proofs.Sums.{sum_below-split, sum_below-none, choose_yes, choose_no}
+use Rattle.residual_network.proofs.Sums.{sum_below-split, choose_yes, choose_no}
 use Rattle.residual_network.proofs.Resting.{in_at, out_at}
 
 -- ---- each arc is a claim's or a window's

@@ -43,10 +43,6 @@ choose_yes a b x e = grind (arith, nat_tests)
 pub choose_no : (a b x : ℕ) → a ≢ b → (if a == b then x else 0) ≡ 0
 choose_no a b x e = grind (arith, nat_tests)
 
--- a sum of nothing
-pub sum_below-none : (n : ℕ) (g : ℕ → ℕ) → ((k : ℕ) → k < n → g k ≡ 0) → sum_below n g ≡ 0
-sum_below-none n g none = sum_below-same n g (λ _. 0) none ∙ sum_below-zero n
-
 lone : (n q y : ℕ) → q < n → sum_below n (λ f. if q == f then y else 0) ≡ y
 lone n q y in' =
     let none : (k : ℕ) → k < n → k ≢ q → (if q == k then y else 0) ≡ 0 = λ k lt ne. apart q k y (λ e. ne (sym e)) in
