@@ -1,5 +1,5 @@
 //! The parties of a cut, found by their firms.
-ghost use Rattle.std.specs.Prelude.{◌≡◌, ◌+◌, ◌<◌, ◌≤◌, ◌^◌, All, IfOk, OnOk, find, position, vec_len};
+ghost use Rattle.std.specs.Prelude.{◌≡◌, ◌+◌, ◌<◌, ◌≤◌, ◌^◌, All, IfOk, OnOk, position, vec_len};
 ghost use Rattle.std.specs.List.{position_or_len};
 ghost use Rattle.setoff_model.specs.Same.{same_name};
 ghost use Rattle.round_cut.specs.Windows.{KeepsLimits};
