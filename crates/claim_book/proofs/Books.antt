@@ -39,8 +39,8 @@ use Rattle.claim_book.specs.Book.{BookParts, ledger_of, round_kept, is_abandoned
 use Rattle.fact_tables.specs.Settling.{settled_claim, settled_account}
 use Rattle.fact_tables.specs.Tables.{accounts_after, accounts_with, claims_after, claims_with, FirmsOnce, KeysOnce, AreSmall, AreAccounts}
 use Rattle.fact_tables.proofs.Places.{find_once, sum_by-map}
-use Rattle.claim_book.proofs.Sound.{IsSound, sound}
-use Rattle.claim_book.proofs.Tables.{tables, settled_with, settled_tables}
+use Rattle.claim_book.proofs.Sound.{IsSound, settled_with, sound}
+use Rattle.claim_book.proofs.Tables.{tables, settled_tables}
 
 -- ---- rows
 

@@ -1,6 +1,6 @@
 -- The flow of a party, summed claim by claim.
 use Rattle.std.specs.Prelude.{map, slice_index, if◌then◌else◌, ◌==◌}
-use Rattle.std.proofs.Common.{◌≡◌, ℕ, ◌+◌, ◌-◌, ◌++◌, drop, ◌<◌, ◌≤◌, ◌^◌, List, length, get_or, take, sum, refl, sym, ◌∙◌, ap, subst, Fits, w64, add-one, arith}
+use Rattle.std.proofs.Common.{◌≡◌, ℕ, ◌+◌, ◌-◌, ◌++◌, drop, ◌<◌, ◌≤◌, ◌^◌, List, length, get_or, take, sum, sym, ◌∙◌, ap, subst, Fits, w64, add-one, arith}
 use Rattle.std.proofs.lemmas.List.{length-map, length-take-le, get_or-append_right, get_or-drop}
 use Rattle.std.proofs.lemmas.List.Sums.{sum_by-take-le}
 use Rattle.claim_history.specs.declared.fact.AccountFact.{AccountFact}
@@ -8,7 +8,7 @@ use Rattle.claim_history.specs.Laws.{IsWithin}
 use Rattle.fact_tables.specs.Tables.{AreSmall}
 use Rattle.setoff_model.specs.declared.cut.CutClaim.{CutClaim}
 use Rattle.setoff_model.specs.Setoff.{flow_at, total_of}
-use Rattle.setoff_model.proofs.Flows.{column, flow_at-le, flow_fits}
+use Rattle.setoff_model.proofs.Flows.{column, flow_at-le}
 
 -- what the next claim adds
 pub flow_step : (side : CutClaim → ℕ) (claims : List CutClaim) (d : List ℕ) (i f sum : ℕ) (x : CutClaim) (y : ℕ) → i < length claims → x ≡ get_or claims i x → sum ≡ flow_at i (map side claims) d f → y ≡ (if side x == f then slice_index d i else 0)

@@ -3,9 +3,9 @@ use Rattle.setoff_model.proofs.Lists.{position_none}
 use Rattle.std.specs.Prelude.{map, set, find, position, Option, Some, None, is_some, sum_by, count_by, if◌then◌else◌}
 use Rattle.std.specs.List.{list_any, position_or_len, slice_get}
 use Rattle.std.proofs.Common.{◌≡◌, ℕ, zero, suc, ◌+◌, ◌<◌, ◌≤◌, Bool, true, false, cond, ◌||◌, List, [], ◌∷◌, nat_lt, length, get_or, refl, sym, ◌∙◌, ap, ap₂, subst, true≢false, arith}
-use Rattle.std.proofs.lemmas.Bool.{or_parts, cond-true, cond-false, ltb-false}
-use Rattle.std.proofs.lemmas.List.Sums.{sum_by-cons, get_or-le-sum_by, fails_before_first}
-use Rattle.std.proofs.lemmas.List.Folds.{list_any_none, find_at}
+use Rattle.std.proofs.lemmas.Bool.{or_parts, cond-true, cond-false}
+use Rattle.std.proofs.lemmas.List.Sums.{sum_by-cons, get_or-le-sum_by}
+use Rattle.std.proofs.lemmas.List.Folds.{find_at}
 use Rattle.std.proofs.lemmas.Option.{cond_some, slice_get-get_or}
 use Rattle.std.proofs.lemmas.List.Quantifiers.{position-Some}
 

@@ -1,5 +1,5 @@
 -- How a publication changes claims and accounts.
-use Rattle.std.specs.Prelude.{◌-◌, List, map, pos, ◌+ℤ◌, ◌-ℤ◌}
+use Rattle.std.specs.Prelude.{◌-◌, pos, ◌+ℤ◌, ◌-ℤ◌}
 use Rattle.claim_history.specs.declared.fact.ClaimFact.{ClaimFact}
 use Rattle.claim_history.specs.declared.fact.AccountFact.{AccountFact}
 use Rattle.claim_history.specs.Facts.{Settled, discharge_of, discharged_to, discharged_by}

@@ -1,7 +1,7 @@
 //! How a publication changes claims and accounts.
 ghost use Rattle.std.specs.Prelude.{◌≡◌, ◌<◌, ◌^◌, length, map, vec_len, vec_capacity, if◌then◌else◌};
-ghost use Rattle.setoff_model.specs.Setoff.{flow_at, inflow, outflow, total_of};
-ghost use Rattle.setoff_model.specs.CutView.{obligations, creditors, debtors};
+ghost use Rattle.setoff_model.specs.Setoff.{flow_at, total_of};
+ghost use Rattle.setoff_model.specs.CutView.{creditors, debtors};
 ghost use Rattle.claim_history.specs.Facts.{claim_place, party_place, discharge_of, discharged_to, discharged_by};
 ghost use Rattle.claim_history.specs.Laws.{IsWithin};
 ghost use Rattle.fact_tables.specs.Tables.{AreSmall};

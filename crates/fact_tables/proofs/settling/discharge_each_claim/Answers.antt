@@ -1,4 +1,3 @@
-use Rattle.std.proofs.Common.{sym, ◌∙◌, ap, subst, ◌≡◌, set}
 use Rattle.std.proofs.lemmas.List.Edits.{map_over_more}
 use Rattle.fact_tables.specs.Settling.{settled_claim}
 use Rattle.fact_tables.proofs.settling.discharge_each_claim.Goals as goal

@@ -1,7 +1,5 @@
-use Rattle.std.proofs.Common.{sym, ◌∙◌, ◌≤◌, ◌≡◌, arith}
 use Rattle.fact_tables.proofs.Flowing.{flow_step, flow_sum_fits, flow_small}
 use Rattle.setoff_model.specs.declared.cut.CutClaim.{CutClaim}
-use Rattle.setoff_model.specs.CutView.{creditors}
 use Rattle.fact_tables.proofs.settling.sum_towards.Goals as goal
 
 pub overflow_add-sum : goal.overflow_add-sum
