@@ -1,6 +1,6 @@
 -- What was due, from what a step wrote.
 use Rattle.std.proofs.Common.{◌≡◌, ℕ, Bool, true, false, List, [], ◌∷◌, refl, sym, ap, ◌∙◌, subst}
-use Rattle.std.specs.Prelude.{Option, Result, Ok, Err, IfOk, OnErr, IsTrue}
+use Rattle.std.specs.Prelude.{Option, IsTrue}
 use Rattle.std.specs.Io.KnownBytes.{Appends}
 use Rattle.bureau_edge.specs.Streams.{AppendsPart}
 use Rattle.claim_history.specs.declared.entry.Entry.{Entry}
@@ -44,10 +44,3 @@ one_batch batches requests item found e i f = f ∙ i ∙ ap (λ (bs : List (Lis
 pub is_false : (b : Bool) → b ≡ false → IsTrue b → ⊥
 is_false true e h = absurd cc
 is_false false e h = absurd cc
-
--- what holds of the value of a result, and after an error
-pub if_ok : {T E : Type 0} (P : T → Type 0) (r : Result T E) (t : T) → r ≡ Ok t → P t → IfOk r P
-if_ok {T = T} {E = E} P r t is h = subst (λ (x : Result T E). IfOk x P) (sym is) h
-
-pub on_err : {T E : Type 0} (P : Type 0) (r : Result T E) (e : E) → r ≡ Err e → P → OnErr r P
-on_err {T = T} {E = E} P r e is h = subst (λ (x : Result T E). OnErr x P) (sym is) h

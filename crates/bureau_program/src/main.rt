@@ -1,8 +1,8 @@
 //! A bureau for the multilateral set-off of trade credit: the program.
 //!
-//! `bureau` is the whole program over a source and a sink, and `main` calls nothing else. The word `run` reads requests
-//! and serves them in order over a book that begins empty, and that ends with the run. The word `check` reads a statement
-//! and judges it.
+//! `bureau` is the whole program over its words, a source and a sink. `main` calls it, or `without_words` where there was no
+//! memory for the words, and nothing else. The word `run` reads requests and serves them in order over a book that begins
+//! empty, and that ends with the run. The word `check` reads a statement and judges it.
 //!
 //! - The input is read whole before anything is served, and all is served before anything is printed.
 //! - Each reply is the one reply of the entries before it.
@@ -26,7 +26,7 @@ use std::alloc::AllocError;
 use std::env;
 use std::io::ErrorKind;
 use std::process::ExitCode;
-pub use top::{Ended, bureau};
+pub use top::{Ended, bureau, without_words};
 
 // The words after the program's name. Where one of them is no text, there are none, and no list of the program's words is that.
 // The only error is that memory is missing.
@@ -47,6 +47,9 @@ fn words(rt: &HostRuntime) -> Result<Vec<String>, AllocError> {
 fn main(rt: HostRuntime) -> ExitCode {
     let source = StandardIn::new(&rt);
     let sink = StandardOut::new(&rt);
-    let ended = bureau(&rt, rt.alloc(), words(&rt), source, sink);
+    let ended = match words(&rt) {
+        Ok(words) => bureau(&rt, rt.alloc(), words, source, sink),
+        Err(_) => without_words(source, sink),
+    };
     ExitCode::from(ended.status)
 }

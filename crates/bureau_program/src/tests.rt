@@ -1,4 +1,4 @@
-use crate::top::{Ended, bureau};
+use crate::top::{Ended, bureau, without_words};
 use bureau_edge::{BytesSink, BytesSource, Failed, Source, SureSource};
 use std::alloc::{AllocError, Global};
 use std::test::Fail;
@@ -79,13 +79,7 @@ fn runs(rt: HostRuntime) -> Result<(), Fail> {
     for (texts, input, status, output) in cases {
         let source = SureSource::new(Vec::from_slice(rt.alloc(), input)?);
         let sink = BytesSink::new(rt.alloc(), Vec::new(rt.alloc()));
-        let ended = bureau(
-            &rt,
-            rt.alloc(),
-            Ok(words_of(rt.alloc(), texts)?),
-            source,
-            sink,
-        );
+        let ended = bureau(&rt, rt.alloc(), words_of(rt.alloc(), texts)?, source, sink);
         assert!(rt; ended.status == status);
         assert!(rt; ended.sink.bytes() == output);
     }
@@ -110,10 +104,23 @@ fn a_failing_call(rt: HostRuntime) -> Result<(), Fail> {
         let ended = bureau(
             &rt,
             rt.alloc(),
-            Ok(words_of(rt.alloc(), &["run"])?),
+            words_of(rt.alloc(), &["run"])?,
             source,
             sink,
         );
+        assert!(rt; ended.status == status);
+        assert!(rt; ended.sink.bytes() == output);
+    }
+    Ok(())
+}
+
+#[test]
+fn no_memory_for_the_words(rt: HostRuntime) -> Result<(), Fail> {
+    let cases: [(u64, u8, &[u8]); 2] = [(0, 9, b"fault memory\n"), (1, 4, b"")];
+    for (write, status, output) in cases {
+        let source = SureSource::new(Vec::new(rt.alloc()));
+        let sink = BytesSink::new(rt.alloc(), Vec::from_slice(rt.alloc(), &[write])?);
+        let ended = without_words(source, sink);
         assert!(rt; ended.status == status);
         assert!(rt; ended.sink.bytes() == output);
     }
@@ -251,7 +258,7 @@ fn an_input_in_pieces_of_one_byte(rt: HostRuntime) -> Result<(), Fail> {
     let ended = bureau(
         &rt,
         rt.alloc(),
-        Ok(words_of(rt.alloc(), &["run"])?),
+        words_of(rt.alloc(), &["run"])?,
         source,
         sink,
     );
@@ -292,7 +299,7 @@ fn the_longest_input(rt: HostRuntime) -> Result<(), Fail> {
         let ended = bureau(
             &rt,
             rt.alloc(),
-            Ok(words_of(rt.alloc(), &["run"])?),
+            words_of(rt.alloc(), &["run"])?,
             Zeros { left },
             sink,
         );
@@ -412,7 +419,7 @@ fn ended_for(
     word: &str,
     input: Vec<u8>,
 ) -> Result<Ended<SureSource, BytesSink>, AllocError> {
-    let words = Ok(words_of(rt.alloc(), &[word])?);
+    let words = words_of(rt.alloc(), &[word])?;
     let source = SureSource::new(input);
     let sink = BytesSink::new(rt.alloc(), Vec::new(rt.alloc()));
     Ok(bureau(rt, rt.alloc(), words, source, sink))

@@ -1,5 +1,5 @@
-//! The top call: words, source and sink.
-ghost use Rattle.std.specs.Prelude.{◌≡◌, ◌≢◌, IfOk, IsErr, OnErr, map, string_bytes};
+//! The top calls: words, source and sink, and the run that has no words.
+ghost use Rattle.std.specs.Prelude.{◌≡◌, ◌≢◌, map, string_bytes};
 ghost use Rattle.fault_count.specs.Counts.{HasRisen};
 ghost use Rattle.printed_text.specs.Writing.{Wrote};
 ghost use Rattle.bureau_program.specs.Headline.{IsMemoryDue, IsReadDue, Ran};
@@ -12,7 +12,7 @@ use crate::run::run_input;
 use bureau_edge::{ReadEnd, Sink, Source, read_whole};
 use printed_text::told;
 use setoff_model::limits::MOST_INPUT_BYTES;
-use std::alloc::{AllocError, Global};
+use std::alloc::Global;
 
 /// What a run ends with: the status of the process, and the source and the sink as they are then.
 #[derive(Drop)]
@@ -71,8 +71,7 @@ fn answer_words<S: Source, K: Sink>(
     }
 }
 
-/// Runs the words after the program's name over a source and a sink, and ends with a status. The words are an error where there
-/// was no memory for them.
+/// Runs the words after the program's name over a source and a sink, and ends with a status.
 ///
 /// The words are `run` or `check`. Both read the source whole. For `run` its requests are served in order, each with the one
 /// reply of the entries before it, and the sink takes a line for each entry, at once after each publication the statement of its
@@ -91,34 +90,35 @@ fn answer_words<S: Source, K: Sink>(
 pub fn bureau<R, S: Source, K: Sink>(
     _rt: &R,
     alloc: Global,
-    words: Result<Vec<String>, AllocError>,
+    words: Vec<String>,
     mut source: S,
     mut sink: K,
 ) -> Ended<S, K>
-    ensures ran { IfOk words (λ ws. Ran (map (λ w. string_bytes w) ws.items) (S.left source) (S.left result.source) (K.held sink) (K.held result.sink) result.status) }
-    ensures no_memory { OnErr words (Wrote IsMemoryDue (K.held sink) (K.held result.sink) result.status) }
+    ensures ran { Ran (map (λ w. string_bytes w) words.items) (S.left source) (S.left result.source) (K.held sink) (K.held result.sink) result.status }
     ensures read_fault { result.status ≡ 3 → HasRisen (S.faults source) (S.faults result.source) }
     ensures write_fault { result.status ≡ 4 → HasRisen (K.faults sink) (K.faults result.sink) }
-    ensures unread { IfOk words (λ ws. AreNoWords (map (λ w. string_bytes w) ws.items) → result.source ≡ source) }
-    ensures unread_without { IsErr words → result.source ≡ source }
-    ensures complete { IfOk words (λ ws. Completes (map (λ w. string_bytes w) ws.items) (S.left source) (K.held sink) (K.held result.sink) (HasRisen (S.faults source) (S.faults result.source)) (HasRisen (K.faults sink) (K.faults result.sink)) result.status) }
+    ensures unread { AreNoWords (map (λ w. string_bytes w) words.items) → result.source ≡ source }
+    ensures complete { Completes (map (λ w. string_bytes w) words.items) (S.left source) (K.held sink) (K.held result.sink) (HasRisen (S.faults source) (S.faults result.source)) (HasRisen (K.faults sink) (K.faults result.sink)) result.status }
 {
-    match words {
-        Ok(words) => {
-            let status = answer_words(alloc, words.as_slice(), &mut source, &mut sink);
-            Ended {
-                status,
-                source,
-                sink,
-            }
-        }
-        Err(_) => {
-            let status = told(&mut sink, 9, b"fault memory\n");
-            Ended {
-                status,
-                source,
-                sink,
-            }
-        }
+    let status = answer_words(alloc, words.as_slice(), &mut source, &mut sink);
+    Ended {
+        status,
+        source,
+        sink,
+    }
+}
+
+/// Ends a run for whose words there was no memory: says so, with status 9, or 4 only where the sink counted a fault. The source is
+/// not read.
+pub fn without_words<S: Source, K: Sink>(source: S, mut sink: K) -> Ended<S, K>
+    ensures wrote { Wrote IsMemoryDue (K.held sink) (K.held result.sink) result.status }
+    ensures write_fault { result.status ≡ 4 → HasRisen (K.faults sink) (K.faults result.sink) }
+    ensures unread { result.source ≡ source }
+{
+    let status = told(&mut sink, 9, b"fault memory\n");
+    Ended {
+        status,
+        source,
+        sink,
     }
 }
