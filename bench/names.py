@@ -2,8 +2,8 @@
 
 Prints each name that stands on one side alone. In docs/DEFINITIONS.md each public word of a crate's specs/ has its place in the index at
 the end, and the words of the glossary are among these. In docs/PROVED.md each public function, law and trait has a row, and each clause
-that is named there is one. In docs/LAYERS.md each crate has a row with what it stands on, as crates.txt says, and each module of lemmas
-that another crate imports. Status 1: something is missing. With --write it writes the index, what each crate stands on and the modules
+that is named there is one. In docs/LAYERS.md each crate is in one of the parts and has a row with what it stands on, as crates.txt says,
+and so has each module of lemmas that another crate imports. Status 1: something is missing. With --write it writes the index, what each crate stands on and the modules
 of lemmas anew.
 """
 
@@ -162,6 +162,7 @@ def main():
     words, proved = sections("DEFINITIONS.md"), sections("PROVED.md")
     layers = (HOME / "docs" / "LAYERS.md").read_text()
     lemmas = re.split(r"^## Lemmas.*$", layers, flags=re.M)[-1]
+    parts = column(layers.partition("## The crates that exist")[0], 2)
     lent = lent_lemmas()
     bad = False
     for crate in names:
@@ -185,6 +186,7 @@ def main():
         bad |= tell(f"LAYERS.md, lemmas of {crate}", lent.get(crate, set()) - told, "is imported above and has no entry")
         bad |= tell(f"LAYERS.md, lemmas of {crate}", told - lent.get(crate, set()), "is imported by no other crate")
     if not sys.argv[1:]:
+        bad |= tell("LAYERS.md, parts", set(listed) ^ parts, "is named there or in crates.txt alone")
         glossary = (HOME / "docs" / "DEFINITIONS.md").read_text().partition("## How a history is read")[0]
         every = {word for crate in listed for word in spec_words(crate)}
         bad |= tell("DEFINITIONS.md, glossary", column(glossary, 3) - every, "is no public word of specs/")
