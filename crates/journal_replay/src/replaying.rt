@@ -1,12 +1,10 @@
 //! The replay of a journal's records.
-ghost use Rattle.std.specs.Prelude.{ℕ, ◌≡◌, ◌≤◌, ◌++◌, ◌∷◌, [], IfOk, IfErr, OnOk, true, false};
-ghost use Rattle.setoff_model.specs.declared.kind.Kind.{Kind};
+ghost use Rattle.std.specs.Prelude.{◌≡◌, ◌≤◌, IfOk, IfErr, OnOk, true, false};
 ghost use Rattle.claim_history.specs.declared.act.Act.TheVariants as acts;
 ghost use Rattle.claim_history.specs.declared.entry.Reply.TheVariants as replies;
 ghost use Rattle.claim_history.specs.Acts.{is_valid, is_publication, is_close, is_day};
 ghost use Rattle.claim_history.specs.States.{state_of};
 ghost use Rattle.claim_history.specs.History.{answer_of, is_opening, is_no_refusal};
-ghost use Rattle.claim_history.specs.Needs.{with_due};
 ghost use Rattle.claim_book.specs.Book.{room_for};
 ghost use Rattle.act_bodies.specs.Bodies.{is_keepable};
 ghost use Rattle.round_journal.specs.Records.{AreKeepable};
