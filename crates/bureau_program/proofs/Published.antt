@@ -1,16 +1,12 @@
 -- The publication of the open round is what is due.
-use Rattle.std.specs.Prelude.{Option, Some, None, is_some, unsigned_abs, pos, ◌==◌, reverse}
-use Rattle.std.specs.List.{list_all}
+use Rattle.std.specs.Prelude.{Option, Some, None, is_some, ◌==◌, reverse}
 use Rattle.std.specs.Option.{option_map}
-use Rattle.std.proofs.Common.{◌≡◌, ℕ, ◌<◌, ◌≤◌, ◌^◌, Bool, true, false, not, ◌&&◌, List, [], ◌∷◌, length, get_or, All, nat_le, nat_lt, refl, sym, ◌∙◌, ap, subst, true≢false, arith}
-use Rattle.std.proofs.lemmas.Bool.{eq-eqb, le-leb, lt-ltb}
-use Rattle.std.proofs.lemmas.List.Elements.{All-head, All-tail, All-from_get_or, All-weaker}
+use Rattle.std.proofs.Common.{◌≡◌, ℕ, ◌≤◌, Bool, true, false, not, List, [], ◌∷◌, refl, sym, ◌∙◌, ap, subst, true≢false}
+use Rattle.std.proofs.lemmas.Bool.{eq-eqb}
 use Rattle.std.proofs.lemmas.Option.{same_Some}
-use Rattle.setoff_model.specs.Limits.{most_amount, most_claims, most_firms}
 use Rattle.setoff_model.specs.CutView.{CutView, OutcomeView, WellFormed, obligations}
 use Rattle.setoff_model.specs.Setoff.{Proves, IsOldestFirst, total_of}
 use Rattle.setoff_model.specs.ProofTest.{is_proved}
-use Rattle.setoff_model.proofs.Columns.{parties_long, claims_long, lawful_fits}
 use Rattle.setoff_model.proofs.Deciding.{proof_test_law}
 use Rattle.setoff_model.proofs.Circulation.{weak_duality}
 use Rattle.claim_history.specs.declared.act.Act.TheVariants as act
@@ -18,48 +14,11 @@ use Rattle.claim_history.specs.declared.entry.Reply.{Reply}
 use Rattle.claim_history.specs.declared.entry.Reply.TheVariants as reply
 use Rattle.claim_history.specs.declared.entry.Why.{Why}
 use Rattle.claim_history.specs.declared.entry.Entry.{Entry}
-use Rattle.claim_history.specs.Acts.{is_valid, is_amount, is_outcome, is_round}
 use Rattle.claim_history.specs.States.{OpenRound, State, state_of}
 use Rattle.claim_history.specs.History.{answer, answer_of, publish_answer, refused_or}
+use Rattle.claim_history.proofs.Open.{number_from}
 use Rattle.bureau_program.specs.Serving.{IsPublicationAfter}
 use Rattle.bureau_program.specs.Closing.{IsOutcomeDue, Owns}
-use Rattle.printed_text.proofs.Printing.{number_from}
-
--- ---- the act is valid
-
-both : (a b : Bool) → a ≡ true → b ≡ true → (a && b) ≡ true
-both true b e f = f
-both false b e f = absurd (true≢false (sym e))
-
-list_true : {X : Type 0} (p : X → Bool) (xs : List X) → All (λ x. p x ≡ true) xs → list_all p xs ≡ true
-list_true p [] h = refl
-list_true {X = X} p (x ∷ xs) h = both (p x) (list_all p xs) (All-head (λ (y : X). p y ≡ true) x xs h) (list_true p xs (All-tail (λ (y : X). p y ≡ true) x xs h))
-
-amounts_valid : (cut : CutView) (outcome : OutcomeView) → WellFormed cut → Proves (obligations cut) outcome.discharges outcome.prices → list_all is_amount outcome.discharges ≡ true
-amounts_valid cut outcome formed proved =
-    list_true is_amount outcome.discharges (All-weaker (λ d. d ≤ most_amount) (λ d. is_amount d ≡ true) (λ d le. le-leb d most_amount le) outcome.discharges (lawful_fits.small cut outcome.discharges formed proved.lawful))
-
-prices_valid : (cut : CutView) (outcome : OutcomeView) → Proves (obligations cut) outcome.discharges outcome.prices → list_all (λ p. nat_le (unsigned_abs p) (length outcome.prices)) outcome.prices ≡ true
-prices_valid cut outcome proved =
-    let each : (k : ℕ) → k < length outcome.prices → nat_le (unsigned_abs (get_or outcome.prices k (pos 0))) (length outcome.prices) ≡ true =
-    λ k within. le-leb (unsigned_abs (get_or outcome.prices k (pos 0))) (length outcome.prices) (omega (arith, proved.price_each, proved.in_range k (omega (arith, proved.price_each)))) in
-    list_true (λ p. nat_le (unsigned_abs p) (length outcome.prices)) outcome.prices (All-from_get_or (λ p. nat_le (unsigned_abs p) (length outcome.prices) ≡ true) outcome.prices (pos 0) each)
-
-outcome_valid : (cut : CutView) (outcome : OutcomeView) → WellFormed cut → Proves (obligations cut) outcome.discharges outcome.prices → is_outcome outcome ≡ true
-outcome_valid cut outcome formed proved =
-    let few_discharges = nat_le (length outcome.discharges) most_claims in
-    let few_prices = nat_le (length outcome.prices) most_firms in
-    let discharges = list_all is_amount outcome.discharges in
-    let prices = list_all (λ p. nat_le (unsigned_abs p) (length outcome.prices)) outcome.prices in
-    both (few_discharges && few_prices && discharges) prices (both (few_discharges && few_prices) discharges (both few_discharges few_prices
-    (le-leb (length outcome.discharges) most_claims (omega (arith, claims_long cut, proved.lawful.one_each, formed.few_claims)))
-    (le-leb (length outcome.prices) most_firms (omega (arith, parties_long cut, proved.price_each, formed.few_parties))))
-    (amounts_valid cut outcome formed proved))
-    (prices_valid cut outcome proved)
-
-pub publication_valid : (s : State) (caller number : ℕ) (outcome : OutcomeView) → IsOutcomeDue s caller number outcome → number < 2 ^ 32 → is_valid (act.Publish number outcome) ≡ true
-publication_valid s caller number outcome due small =
-    both (is_round number) (is_outcome outcome) (both (nat_le 1 number) (nat_lt number (2 ^ 32)) (le-leb 1 number due.round_from) (lt-ltb number (2 ^ 32) small)) (outcome_valid due.round.cut outcome due.well_formed due.proved)
 
 -- ---- the reply is due
 

@@ -16,7 +16,7 @@ use claim_book::Book;
 use claim_history::{Act, Day, Entry, Reply, accepted};
 use level_solver::LevelSolver;
 use price_certificate::certified;
-use round_cut::{build_cut, cut_of_a_history_is_of_its_facts, open_cut_is_well_formed};
+use round_cut::open_cut_is_well_formed;
 use setoff_model::{Cut, Kind, Outcome, total};
 use std::alloc::Global;
 
@@ -93,8 +93,7 @@ fn open_round(
     ensures room { HasRoomIfAccepted result book.new.room }
     ensures cuts { cuts_of book.new.history ≡ cuts_of book.old.history }
 {
-    cut_of_a_history_is_of_its_facts();
-    match build_cut(alloc, book.claims(), book.accounts(), kind, horizon, round) {
+    match book.next_cut(alloc, kind, horizon) {
         Ok(cut) => {
             let act = Act::Close { kind, horizon };
             let reply = Reply::Opened { round };

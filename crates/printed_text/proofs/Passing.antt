@@ -66,10 +66,6 @@ up_breaks x y z a b line rest all u p =
 pub up_ends : (x y : Option (List ℕ)) (a b rest all : List ℕ) → PassesUpTo x y a b rest all → rest ≡ [] → Passes x y a b all
 up_ends x y a b rest all u e = subst (Passes x y a b) (sym (append-nil u.so_far) ∙ ap (λ (w : List ℕ). u.so_far ++ w) (sym e) ∙ u.whole) u.passes
 
-pub on_err : {T E : Type 0} (r : Result T E) (P : Type 0) → P → OnErr r P
-on_err (Ok t) P h = tt
-on_err (Err e) P h = h
-
 -- the same with an empty buffer at first
 pub part_of_text : (x z : Option (List ℕ)) (a t : List ℕ) → a ≡ [] → AppendsPart x z (a ++ t) → AppendsPart x z t
 part_of_text x z a t e q = subst (λ (w : List ℕ). AppendsPart x z (w ++ t)) e q

@@ -1,30 +1,29 @@
 -- The text of a run, piece by piece.
-use Rattle.std.specs.Prelude.{reverse, map, slice_get, codes, Option, Some, None, ℤ, pos, unsigned_abs}
+use Rattle.std.specs.Prelude.{reverse, slice_get, codes, Option, Some, None, ℤ, pos, unsigned_abs}
 use Rattle.std.specs.Option.{option_map}
 use Rattle.std.proofs.Common.{◌≡◌, ℕ, ◌+◌, ◌<◌, ◌≤◌, ◌^◌, Bool, true, List, [], ◌∷◌, ◌++◌, length, get_or, drop, take, All, refl, sym, ◌∙◌, ap, ap₂, subst, append_assoc, add-one, drop-cons, arith}
-use Rattle.std.proofs.lemmas.Option.{none-some, same_Some, slice_get-get_or, slice_get_read, slice_get_within}
+use Rattle.std.proofs.lemmas.Option.{slice_get-get_or, slice_get_read, slice_get_within}
 use Rattle.std.proofs.lemmas.List.{append-nil, drop_more, get_or_at, length-append, length-reverse, take-append-drop, take_more}
 use Rattle.std.proofs.lemmas.List.Folds.{flat_map-map}
 use Rattle.std.proofs.lemmas.List.Concat.{flat_map-append}
 use Rattle.std.proofs.lemmas.List.Elements.{All-from_get_or, All-take, All-weaker}
-use Rattle.setoff_model.specs.declared.kind.Kind.{Kind}
-use Rattle.setoff_model.specs.declared.kind.Kind.TheVariants.{Plain, Funded}
 use Rattle.setoff_model.specs.declared.cut.Party.{Party}
 use Rattle.setoff_model.specs.declared.cut.CutClaim.{CutClaim}
 use Rattle.setoff_model.specs.Limits.{most_amount, most_window}
-use Rattle.setoff_model.specs.CutView.{CutView, OutcomeView, window_limit}
-use Rattle.setoff_model.proofs.Columns.{claims_long, parties_long, lawful_fits}
+use Rattle.setoff_model.specs.CutView.{CutView, OutcomeView}
+use Rattle.setoff_model.proofs.Columns.{claims_long, lawful_fits, limit_small, parties_long}
 use Rattle.claim_history.specs.declared.act.Act.{Act}
 use Rattle.claim_history.specs.declared.act.Act.TheVariants as act
 use Rattle.claim_history.specs.declared.entry.Entry.{Entry}
 use Rattle.claim_history.specs.declared.entry.Reply.{Reply}
 use Rattle.claim_history.specs.declared.entry.Reply.TheVariants as reply
 use Rattle.claim_history.specs.Acts.{is_valid}
-use Rattle.claim_history.specs.States.{OpenRound, State, after, open_as, state}
-use Rattle.claim_history.specs.History.{IsLegal, IsLegalPast, AreValid}
+use Rattle.claim_history.specs.States.{OpenRound, state}
+use Rattle.claim_history.specs.History.{IsLegal, AreValid}
 use Rattle.claim_history.specs.Rounds.{cut_published, cuts_of, past_cuts}
 use Rattle.claim_history.proofs.Greatest.{greatest_law}
-use Rattle.claim_history.proofs.Pasts.{reverse_parts, legal_rest}
+use Rattle.claim_history.proofs.Open.{number_from}
+use Rattle.claim_history.proofs.Pasts.{legal_first, reverse_parts}
 use Rattle.claim_history.proofs.Published.{later_cuts, past_cuts_longer, past_cuts_more}
 use Rattle.round_cut.proofs.OpenCut.{open_formed_law}
 use Rattle.request_text.specs.declared.request.Request.{Request}
@@ -108,15 +107,11 @@ breaks_at_fourth v w x y z a b c d t₁ t₂ t₃ t₄ all is p₁ p₂ p₃ q =
     (part_then v w z a b t₁ (t₂ ++ (t₃ ++ t₄)) p₁ (part_then w x z b c t₂ (t₃ ++ t₄) p₂ (part_then x y z c d t₃ t₄ p₃ q)))
 
 -- what the writers ask for
-limit_fits : (kind : Kind) → window_limit kind ≤ most_window
-limit_fits Plain = omega arith
-limit_fits Funded = omega arith
-
 pub spends_fit : (cut : CutView) (outcome : OutcomeView) → IsPrintable cut outcome → All (λ f. f.spend ≤ most_window) cut.parties
-spends_fit cut outcome is = λ k none within. omega (arith, limit_fits cut.kind, (is.well_formed.windows k none within).0)
+spends_fit cut outcome is = λ k none within. omega (arith, limit_small cut.kind, (is.well_formed.windows k none within).0)
 
 pub rooms_fit : (cut : CutView) (outcome : OutcomeView) → IsPrintable cut outcome → All (λ f. f.room ≤ most_window) cut.parties
-rooms_fit cut outcome is = λ k none within. omega (arith, limit_fits cut.kind, (is.well_formed.windows k none within).1)
+rooms_fit cut outcome is = λ k none within. omega (arith, limit_small cut.kind, (is.well_formed.windows k none within).1)
 
 pub prices_fit : (cut : CutView) (outcome : OutcomeView) → IsPrintable cut outcome → All (λ p. unsigned_abs p < 10 ^ 9) outcome.prices
 prices_fit cut outcome is =
@@ -176,23 +171,6 @@ get_between xs ys x n is =
 
 -- ---- published rounds
 
--- an open round has a number from 1
-opened_from : (caller : ℕ) (a : Act) (s : State) → ((round : OpenRound) → s.open_round ≡ Some round → 1 ≤ round.cut.round) → (round : OpenRound) → (open_as caller a s).open_round ≡ Some round → 1 ≤ round.cut.round
-opened_from caller (act.Close kind horizon) s was round e =
-    let from : 1 ≤ s.openings + 1 = omega arith in
-    subst (λ (r : OpenRound). 1 ≤ r.cut.round) (same_Some _ round e) from
-opened_from caller a s was round e = was round e
-
-number_after : (caller : ℕ) (a : Act) (r : Reply) (s : State) → ((round : OpenRound) → s.open_round ≡ Some round → 1 ≤ round.cut.round) → (round : OpenRound) → (after caller a r s).open_round ≡ Some round → 1 ≤ round.cut.round
-number_after caller a (reply.Opened number) s was round e = opened_from caller a s was round e
-number_after caller a (reply.Published total) s was round e = absurd (none-some round e)
-number_after caller a (reply.Abandoned number) s was round e = absurd (none-some round e)
-number_after caller a r s was round e = was round e
-
-pub number_from : (past : List Entry) (round : OpenRound) → (state past).open_round ≡ Some round → 1 ≤ round.cut.round
-number_from [] round e = absurd (none-some round e)
-number_from (e ∷ past) round is = number_after e.caller e.act e.reply (state past) (number_from past) round is
-
 -- the round that an entry publishes: its cut is the next one, and its statement can be written
 pub record IsNext (rounds : List CutView) (next : ℕ) (past : List Entry) (a : Act) : Type 0 where
   pub round : OpenRound
@@ -221,7 +199,7 @@ published_at history rounds i next e total legal valid rounds_are next_is lt is 
     let later = drop (i + 1) history in
     let parts = history_at history i e lt is in
     let p = greatest_law before later e total (subst IsLegal parts legal) published in
-    let legal_first : IsLegal before = (legal_rest (reverse later) (e ∷ reverse before) (subst IsLegalPast (past_at history i e lt is) legal)).1 in
+    let legal_before = (legal_first before later e (subst IsLegal parts legal)).1 in
     let cut_is : slice_get rounds next ≡ Some p.round.cut =
     ap₂ (λ (cuts : List CutView) (n : ℕ). slice_get cuts n) rounds_are next_is ∙ next_cut history i e total lt is published p.round p.was_open in
     record {
@@ -235,7 +213,7 @@ published_at history rounds i next e total legal valid rounds_are next_is lt is 
         asks = p.asks;
         cut_is = cut_is;
         printable = record {
-          well_formed = open_formed_law before legal_first (All-take (λ e. is_valid e.act ≡ true) i history valid) p.round p.was_open;
+          well_formed = open_formed_law before legal_before (All-take (λ e. is_valid e.act ≡ true) i history valid) p.round p.was_open;
           round_from = number_from (reverse before) p.round p.was_open;
           proved = p.proved;
         };

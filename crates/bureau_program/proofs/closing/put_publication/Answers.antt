@@ -3,8 +3,9 @@ use Rattle.claim_history.specs.declared.entry.Reply.TheVariants as replies
 use Rattle.claim_history.specs.History.{replied}
 use Rattle.claim_history.specs.States.{state_of}
 use Rattle.setoff_model.proofs.Columns.{lawful_fits}
+use Rattle.claim_history.proofs.Valid.{publication_valid}
 use Rattle.claim_book.proofs.Kept.{published_needs_one}
-use Rattle.bureau_program.proofs.Published.{publication_valid, publication_due, publication_after}
+use Rattle.bureau_program.proofs.Published.{publication_due, publication_after}
 use Rattle.bureau_program.proofs.closing.put_publication.Goals as goal
 
 -- src/closing.rt:184:9
@@ -18,7 +19,8 @@ apply_publish-requires-clause-room c =
 
 -- src/closing.rt:190:11
 pub apply_publish-requires-clause-valid : goal.apply_publish-requires-clause-valid
-apply_publish-requires-clause-valid c = publication_valid (state_of c.args.book.now.history) c.args.caller c.args.number c.args.outcome c.requires.due (omega (arith, c.ranges.number.fits))
+apply_publish-requires-clause-valid c =
+    publication_valid c.requires.due.round.cut c.args.outcome c.requires.due.well_formed c.requires.due.proved c.args.number c.requires.due.round_from (omega (arith, c.ranges.number.fits))
 
 -- src/closing.rt:190:11
 pub apply_publish-requires-clause-next : goal.apply_publish-requires-clause-next

@@ -1,7 +1,8 @@
 use Rattle.std.proofs.Common.{◌+◌, ◌<◌, ◌++◌, List, ℕ, length, get_or, false, subst, sym, ap, ◌∙◌, drop, arith}
 use Rattle.request_text.specs.declared.request.Request.{Request}
 use Rattle.printed_text.specs.Printing.{unserved_line, unserved_text}
-use Rattle.printed_text.proofs.Passing.{PassesUpTo, on_err, up_more, up_breaks}
+use Rattle.setoff_model.proofs.Lists.{on_err}
+use Rattle.printed_text.proofs.Passing.{PassesUpTo, up_more, up_breaks}
 use Rattle.printed_text.proofs.Printing.{unserved_from}
 use Rattle.printed_text.proofs.output.print_all_unserved.Goals as goal
 

@@ -1,7 +1,8 @@
 use Rattle.std.specs.Prelude.{slice_get}
 use Rattle.entry_text.specs.Entries.{entry_line}
 use Rattle.printed_text.specs.Printing.{statement_of}
-use Rattle.printed_text.proofs.Passing.{on_err, on_err_if, on_ok_if, part_then, pass_then}
+use Rattle.setoff_model.proofs.Lists.{on_err}
+use Rattle.printed_text.proofs.Passing.{on_err_if, on_ok_if, part_then, pass_then}
 use Rattle.printed_text.proofs.Printing.{breaks_at_first}
 use Rattle.std.proofs.Common.{◌++◌, refl}
 use Rattle.printed_text.proofs.output.print_answer.Goals as goal

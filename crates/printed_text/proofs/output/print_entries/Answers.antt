@@ -6,7 +6,8 @@ use Rattle.claim_history.specs.Rounds.{past_cuts}
 use Rattle.bureau_edge.specs.Streams.{AppendsPart}
 use Rattle.printed_text.specs.Writing.{Passes}
 use Rattle.printed_text.specs.Printing.{entry_text, past_text, rounds_in}
-use Rattle.printed_text.proofs.Passing.{on_err, pass_none, pass_then, part_then}
+use Rattle.setoff_model.proofs.Lists.{on_err}
+use Rattle.printed_text.proofs.Passing.{pass_none, pass_then, part_then}
 use Rattle.printed_text.proofs.Printing.{IsNext, entry_text_is, history_breaks, next_more, past_next, published_at}
 use Rattle.printed_text.proofs.output.print_entries.Goals as goal
 

@@ -1,7 +1,7 @@
 use Rattle.std.proofs.Common.{◌++◌, ◌<◌, ℕ, List, length, subst, arith}
 use Rattle.bureau_edge.specs.Streams.{AppendsPart}
 use Rattle.printed_text.specs.Writing.{Passes}
-use Rattle.printed_text.proofs.Passing.{on_err}
+use Rattle.setoff_model.proofs.Lists.{on_err}
 use Rattle.printed_text.proofs.Printing.{statement_is, within_rounds}
 use Rattle.printed_text.proofs.output.print_publication.Goals as goal
 

@@ -1,6 +1,7 @@
 use Rattle.std.proofs.Common.{◌++◌}
 use Rattle.printed_text.specs.Printing.{history_text, unserved_text}
-use Rattle.printed_text.proofs.Passing.{on_err, on_err_if, part_of_text, part_left, part_more, part_then, pass_then}
+use Rattle.setoff_model.proofs.Lists.{on_err}
+use Rattle.printed_text.proofs.Passing.{on_err_if, part_of_text, part_left, part_more, part_then, pass_then}
 use Rattle.printed_text.proofs.output.print_run.Goals as goal
 
 pub returns-in_err-print_entries-clause-part : goal.returns-in_err-print_entries-clause-part

@@ -1,4 +1,5 @@
-use Rattle.printed_text.proofs.Passing.{on_err, part_more}
+use Rattle.setoff_model.proofs.Lists.{on_err}
+use Rattle.printed_text.proofs.Passing.{part_more}
 use Rattle.printed_text.proofs.output.print_unserved.Goals as goal
 
 pub returns-in_err-make_room-clause-part : goal.returns-in_err-make_room-clause-part

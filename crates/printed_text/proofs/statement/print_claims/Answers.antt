@@ -2,7 +2,8 @@ use Rattle.std.proofs.Common.{◌+◌, ◌<◌, List, ℕ, length, get_or, subst
 use Rattle.setoff_model.proofs.Columns.{no_claim}
 use Rattle.statement_text.specs.Statements.{claim_line, claim_lines}
 use Rattle.printed_text.specs.Printing.{line_bytes, lines_bytes}
-use Rattle.printed_text.proofs.Passing.{PassesUpTo, on_err, up_more, up_breaks}
+use Rattle.setoff_model.proofs.Lists.{on_err}
+use Rattle.printed_text.proofs.Passing.{PassesUpTo, up_more, up_breaks}
 use Rattle.printed_text.proofs.Printing.{claims_from}
 use Rattle.printed_text.proofs.statement.print_claims.Goals as goal
 

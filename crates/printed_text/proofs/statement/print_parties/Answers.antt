@@ -9,7 +9,8 @@ use Rattle.setoff_model.specs.declared.cut.Party.{Party}
 use Rattle.statement_text.specs.declared.line.Line.TheVariants as line
 use Rattle.statement_text.specs.Statements.{party_lines}
 use Rattle.printed_text.specs.Printing.{line_bytes, lines_bytes}
-use Rattle.printed_text.proofs.Passing.{PassesUpTo, on_err, up_more, up_breaks}
+use Rattle.setoff_model.proofs.Lists.{on_err}
+use Rattle.printed_text.proofs.Passing.{PassesUpTo, up_more, up_breaks}
 use Rattle.printed_text.proofs.Printing.{parties_from}
 use Rattle.printed_text.proofs.statement.print_parties.Goals as goal
 

@@ -3,7 +3,8 @@ use Rattle.std.specs.Prelude.{unsigned_abs}
 use Rattle.statement_text.specs.declared.line.Line.TheVariants as line
 use Rattle.statement_text.specs.Statements.{party_lines, claim_lines, statement_bytes}
 use Rattle.printed_text.specs.Printing.{line_bytes, lines_bytes}
-use Rattle.printed_text.proofs.Passing.{on_err, on_err_if, on_ok_if}
+use Rattle.setoff_model.proofs.Lists.{on_err}
+use Rattle.printed_text.proofs.Passing.{on_err_if, on_ok_if}
 use Rattle.printed_text.proofs.Printing.{prices_fit, discharges_fit, statement_of_lists, four_pass, breaks_at_first, breaks_at_second, breaks_at_third, breaks_at_fourth}
 use Rattle.printed_text.proofs.statement.print_statement.Goals as goal
 
