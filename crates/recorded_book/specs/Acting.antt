@@ -9,6 +9,8 @@ use Rattle.claim_history.specs.declared.entry.Reply.{Reply}
 use Rattle.claim_history.specs.declared.entry.Reply.TheVariants as reply
 use Rattle.setoff_model.specs.CutView.{OutcomeView, WellFormed, obligations}
 use Rattle.setoff_model.specs.Setoff.{Proves}
+use Rattle.setoff_model.specs.declared.kind.Kind.{Kind}
+use Rattle.claim_history.specs.Acts.{is_day}
 use Rattle.claim_history.specs.States.{OpenRound, state_of}
 use Rattle.claim_history.specs.History.{answer_of, is_no_refusal}
 use Rattle.claim_history.specs.Needs.{is_full}
@@ -85,6 +87,18 @@ IsSpared kept = (round : OpenRound) → (state_of kept.book.history).open_round 
 abbrev pub IsCutReply : Reply → List Entry → CutReply → Type 0
 IsCutReply got history (Frozen cut) = (is_no_refusal got ≡ true) × (open_cut_of history ≡ Some cut)
 IsCutReply got history (Refused w) = got ≡ reply.Refused w
+
+-- A Close that a caller other than the bureau itself asks, and the reply that is due to it.
+pub record IsCloseDue {D : Type 0} (kept : RecordedView D) (caller : ℕ) (kind : Kind) (horizon : ℕ) (due : Reply) : Type 0 where
+  -- the caller is not the bureau itself
+  pub other : 1 ≤ caller
+  -- its horizon is a day of the calendar
+  pub day : is_day horizon ≡ true
+  -- the reply is that of the history
+  pub answer : due ≡ answer_of kept.book.history caller (act.Close kind horizon)
+  -- the book has room for its entry, and the recorder for its body
+  pub room : 2 ≤ kept.book.room
+  pub spare : 10 ≤ kept.recorder.spare
 
 -- an outcome that the caller may publish: it is proved for the cut of the open round, which has this number and is the caller's
 pub record IsOutcomeDue (history : List Entry) (caller number : ℕ) (outcome : OutcomeView) : Type 0 where

@@ -18,7 +18,7 @@ ghost use Rattle.journal_replay.specs.Replays.{history_of, AreSound};
 ghost use Rattle.round_journal.specs.Opened.{IsOpen};
 ghost use Rattle.round_journal.specs.declared.record.Record.{Record};
 ghost use Rattle.recorded_book.specs.Recorded.{Records};
-ghost use Rattle.recorded_book.specs.Acting.{HasActed, IsActError, IsLater, IsUntouched, IsSpared, IsOutcomeDue, HasClosed, IsCutReply, IsNotAbandoned, IsOpenedHistory, entry_of};
+ghost use Rattle.recorded_book.specs.Acting.{HasActed, IsActError, IsLater, IsUntouched, IsSpared, IsOutcomeDue, HasClosed, IsCloseDue, IsCutReply, IsNotAbandoned, IsOpenedHistory, entry_of};
 
 use crate::act_error::ActError;
 use crate::cut_reply::CutReply;
@@ -207,11 +207,7 @@ impl<D: Disk> RecordedBook<D> {
         horizon: Day,
         round: u32,
     ) -> Result<CutReply, ActError>
-        requires caller { 1 ≤ caller }
-        requires day { is_day horizon ≡ true }
-        requires due { replies.Opened round ≡ answer_of self.old.book.history caller (acts.Close kind horizon) }
-        requires room { 2 ≤ self.old.book.room }
-        requires spare { 10 ≤ self.old.recorder.spare }
+        requires asked { IsCloseDue self.old caller kind horizon (replies.Opened round) }
         ensures closed { IfOk result (HasClosed D.seen self.old.recorder.journal.disk self.new.recorder.journal.disk self.old.book.history self.new.book.history caller (acts.Close kind horizon)) }
         ensures error { IfErr result (IsActError self.old.book.history caller (acts.Close kind horizon)) }
         ensures untouched { OnErr result (IsUntouched self.old self.new) }
@@ -244,14 +240,10 @@ impl<D: Disk> RecordedBook<D> {
         cut: Cut,
         copy: Cut,
     ) -> CutReply
-        requires caller { 1 ≤ caller }
-        requires day { is_day horizon ≡ true }
-        requires due { replies.Opened round ≡ answer_of self.old.book.history caller (acts.Close kind horizon) }
+        requires asked { IsCloseDue self.old caller kind horizon (replies.Opened round) }
         requires fits { is_full self.old.book.history caller (acts.Close kind horizon) ≡ false }
         requires cut { cut ≡ cut_of ((state_of self.old.book.history).openings + 1) (ledger_of self.old.book.history) kind horizon }
         requires copy { copy ≡ cut }
-        requires room { 2 ≤ self.old.book.room }
-        requires spare { 10 ≤ self.old.recorder.spare }
         requires publication { 17 + (8 * length cut.claims + 4 * length cut.parties) ≤ self.old.recorder.spare }
         ensures closed { HasClosed D.seen self.old.recorder.journal.disk self.new.recorder.journal.disk self.old.book.history self.new.book.history caller (acts.Close kind horizon) result }
         ensures room { 1 ≤ self.new.book.room }
@@ -280,12 +272,8 @@ impl<D: Disk> RecordedBook<D> {
         horizon: Day,
         due: Reply,
     ) -> Result<CutReply, ActError>
-        requires caller { 1 ≤ caller }
-        requires day { is_day horizon ≡ true }
+        requires asked { IsCloseDue self.old caller kind horizon due }
         requires no_opening { is_opening due ≡ false }
-        requires due { due ≡ answer_of self.old.book.history caller (acts.Close kind horizon) }
-        requires room { 2 ≤ self.old.book.room }
-        requires spare { 10 ≤ self.old.recorder.spare }
         ensures closed { IfOk result (HasClosed D.seen self.old.recorder.journal.disk self.new.recorder.journal.disk self.old.book.history self.new.book.history caller (acts.Close kind horizon)) }
         ensures error { IfErr result (IsActError self.old.book.history caller (acts.Close kind horizon)) }
         ensures untouched { OnErr result (IsUntouched self.old self.new) }

@@ -10,7 +10,7 @@ use Rattle.recorded_book.proofs.Closes.{close_keeps, state_more}
 use Rattle.recorded_book.proofs.recorded.RecordedBook.continue_round.Goals as goal
 
 pub put-requires-clause-kept : goal.put-requires-clause-kept
-put-requires-clause-kept g c = keepable_of c.args.caller (act.Close c.args.kind c.args.horizon) c.requires.caller c.ranges.caller.fits c.requires.day
+put-requires-clause-kept g c = keepable_of c.args.caller (act.Close c.args.kind c.args.horizon) c.requires.asked.other c.ranges.caller.fits c.requires.asked.day
 
 pub returns-in-Ok-Some-clause-closed : goal.returns-in-Ok-Some-clause-closed
 returns-in-Ok-Some-clause-closed g c =
@@ -18,7 +18,7 @@ returns-in-Ok-Some-clause-closed g c =
     let later = c.put.new.self.book.history in
     let a = act.Close c.args.kind c.args.horizon in
     let got = c.put.result in
-    let un : is_opening (answer_of history c.args.caller a) ≡ false = ap is_opening (sym c.requires.due) ∙ c.requires.no_opening in
+    let un : is_opening (answer_of history c.args.caller a) ≡ false = ap is_opening (sym c.requires.asked.answer) ∙ c.requires.no_opening in
     let acted = c.put.ensures.acted in
     let keeps : (state_of later).open_round ≡ (state_of history).open_round =
     ap (λ (s : State). s.open_round) (state_more history later (entry_of c.args.caller a got) acted.entry) ∙ close_keeps (state_of history) _ _ c.args.caller c.args.kind c.args.horizon got un acted.replied in
