@@ -1,5 +1,5 @@
 -- What a desk keeps.
-use Rattle.std.proofs.Common.{◌≡◌, ℕ, Bool, List}
+use Rattle.std.proofs.Common.{◌≡◌, List}
 use Rattle.setoff_model.specs.CutView.{CutView}
 use Rattle.disk_model.specs.Calls.{Seen}
 use Rattle.claim_history.specs.History.{IsLegal, AreValid}

@@ -1,5 +1,5 @@
 -- What a desk shows, and what it keeps.
-use Rattle.std.specs.Prelude.{◌≡◌, ◌<◌, ◌≤◌, ℕ, Bool, List, [], ◌∷◌, ◌++◌, length, Some, IsTrue, true, if◌then◌else◌}
+use Rattle.std.specs.Prelude.{◌≡◌, ◌<◌, ◌≤◌, ℕ, List, [], ◌∷◌, ◌++◌, length, Some, IsTrue, true, if◌then◌else◌}
 use Rattle.setoff_model.specs.CutView.{CutView, OutcomeView}
 use Rattle.setoff_model.specs.Setoff.{total_of}
 use Rattle.claim_history.specs.declared.act.Act.TheVariants as act

@@ -1,5 +1,5 @@
 //! A desk: a book over a journal on a disk.
-ghost use Rattle.std.specs.Prelude.{◌≡◌, ◌≤◌, ◌+◌, [], length, true, false, IfOk, IfErr, OnErr, ℕ, Bool, List, All};
+ghost use Rattle.std.specs.Prelude.{◌≡◌, ◌≤◌, [], length, true, false, IfOk, IfErr, OnErr, ℕ, Bool, List, All};
 ghost use Rattle.claim_history.specs.declared.act.Act.TheVariants as acts;
 ghost use Rattle.claim_history.specs.declared.entry.Reply.TheVariants as replies;
 ghost use Rattle.claim_history.specs.declared.entry.Why.TheVariants as whys;

@@ -1,5 +1,5 @@
 //! The desk as a value that a turn lock keeps.
-ghost use Rattle.std.specs.Prelude.{◌≡◌, length};
+ghost use Rattle.std.specs.Prelude.{length};
 
 use crate::desk::Desk;
 use claim_history::Entry;

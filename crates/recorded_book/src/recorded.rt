@@ -1,5 +1,5 @@
 //! A book whose accepted acts are in a journal.
-ghost use Rattle.std.specs.Prelude.{◌≡◌, ◌+◌, ◌≤◌, ◌++◌, ◌∷◌, [], length, Some, is_some, true, false, ◌*◌, ◌⊎◌, All, ℕ, List, IfOk, IfErr, OnOk, OnErr};
+ghost use Rattle.std.specs.Prelude.{◌≡◌, ◌+◌, ◌≤◌, length, Some, is_some, true, false, ◌*◌, All, ℕ, List, IfOk, IfErr, OnOk, OnErr};
 ghost use Rattle.setoff_model.specs.Setoff.{total_of};
 ghost use Rattle.setoff_model.specs.CutView.{WellFormed};
 ghost use Rattle.claim_history.specs.Cut.{cut_of};

@@ -1,5 +1,5 @@
 //! The record of a desk's calls on its disk.
-ghost use Rattle.std.specs.Prelude.{◌≡◌, ◌+◌, ◌^◌, ◌≤◌, ℕ, List, [], ◌∷◌, ◌++◌, length, true, false, IfErr, IfOk, OnOk, OnErr, IsTrue};
+ghost use Rattle.std.specs.Prelude.{◌≡◌, ◌+◌, ◌^◌, ◌≤◌, List, [], ◌∷◌, ◌++◌, true, false, IfErr, OnOk, IsTrue};
 ghost use Rattle.disk_model.specs.Calls.{Passes};
 ghost use Rattle.setoff_model.specs.Limits.{most_journal_bytes};
 ghost use Rattle.fault_count.specs.Counts.{HasRisen};
