@@ -15,15 +15,6 @@ any_other : (n x : List ℕ) (xs : List (List ℕ)) → same_name n x ≡ false 
 any_other n x xs e =
     any-filter_same (same_name n) (λ y. not (same_name x y)) true (λ k same. ap (λ (y : List ℕ). not (same_name x y)) (sym (name_is n k same)) ∙ ap not (name_other n x e)) xs
 
-any_step : (n x : List ℕ) (ys xs : List (List ℕ)) (b : Bool) → same_name n x ≡ b → list_any (same_name n) ys ≡ list_any (same_name n) xs → (b || list_any (same_name n) (filter (λ y. not (same_name x y)) ys)) ≡ (b || list_any (same_name n) xs)
-any_step n x ys xs true e h = refl
-any_step n x ys xs false e h = any_other n x ys e ∙ h
-
--- each name is there
-pub any_distinct : (n : List ℕ) (xs : List (List ℕ)) → list_any (same_name n) (distinct xs) ≡ list_any (same_name n) xs
-any_distinct n [] = refl
-any_distinct n (x ∷ xs) = any_step n x (distinct xs) xs (same_name n x) refl (any_distinct n xs)
-
 -- ---- one more name
 
 -- the names with this one, at the end where it is none of them

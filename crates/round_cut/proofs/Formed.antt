@@ -11,7 +11,6 @@ use Rattle.std.proofs.lemmas.List.Filters.{length-filter_both}
 use Rattle.std.proofs.lemmas.List.Kept.{AllPairs-cons, AllPairs-filter}
 use Rattle.std.proofs.lemmas.List.Elements.{All-nil, All-cons, All-head, All-tail, All-map, All-filter, All-weaker, filter_passes}
 use Rattle.setoff_model.proofs.Lists.{any_within}
-use Rattle.setoff_model.specs.declared.name.Key.{Key}
 use Rattle.setoff_model.specs.declared.kind.Kind.{Kind}
 use Rattle.setoff_model.specs.declared.kind.Kind.TheVariants.{Plain, Funded}
 use Rattle.setoff_model.specs.declared.cut.Party.{Party}
@@ -27,6 +26,7 @@ use Rattle.claim_history.specs.Cut.{distinct}
 use Rattle.claim_history.specs.Laws.{IsWithin}
 use Rattle.claim_history.proofs.Rows.{name_is}
 use Rattle.setoff_model.specs.Windows.{Window}
+use Rattle.claim_history.proofs.Rounds.{no_key}
 use Rattle.round_cut.specs.Windows.{KeepsLimits, window_of}
 use Rattle.round_cut.specs.CutOfFacts.{takes_part, claims_due, firms_in, window_or_none, party_in, claim_among, cut_of_facts, has_account, IsClaimOf, AreFacts}
 use Rattle.round_cut.proofs.Growth.{two_names, AreAmong, all_among}
@@ -139,9 +139,6 @@ claim_formed accounts kind firms c among of some =
       some = some;
       limit = of.left;
     }
-
-no_key : Key
-no_key = record { creditor = []; invoice = [] }
 
 no_claim : ClaimFact
 no_claim = record { key = no_key; debtor = []; status = status.Filed; amount = 0; left = 0; due = 0 }
