@@ -7,7 +7,7 @@ ghost use Rattle.printed_text.specs.Writing.{Wrote};
 ghost use Rattle.bureau_program.specs.Headline.{IsCheckDue};
 
 use bureau_edge::Sink;
-use printed_text::{status_of_verdict, told, write_bad_statement, write_verdict};
+use printed_text::{end_with, status_of_verdict, write_bad_statement, write_verdict};
 use setoff_checker::Checker;
 use setoff_model::{Cut, Outcome};
 use statement_text::{StatementCause, StatementError, read_statement};
@@ -27,14 +27,14 @@ fn check_statement<K: Sink>(
     ensures no_read_fault { result ≢ 3 }
 {
     let Ok(mut checker) = Checker::for_cut(alloc, cut) else {
-        return told(sink, 9, b"fault memory\n");
+        return end_with(sink, 9, b"fault memory\n");
     };
     let Ok(mut buffer) = Vec::with_capacity(alloc, 200) else {
-        return told(sink, 9, b"fault memory\n");
+        return end_with(sink, 9, b"fault memory\n");
     };
     let verdict = checker.verdict(cut, outcome);
     write_verdict(&mut buffer, cut, verdict);
-    told(sink, status_of_verdict(verdict), buffer.as_slice())
+    end_with(sink, status_of_verdict(verdict), buffer.as_slice())
 }
 
 // Tells the first line that is not in the grammar of statements.
@@ -52,10 +52,10 @@ fn tell_bad_statement<K: Sink>(
     ensures no_read_fault { result ≢ 3 }
 {
     let Ok(mut buffer) = Vec::with_capacity(alloc, 200) else {
-        return told(sink, 9, b"fault memory\n");
+        return end_with(sink, 9, b"fault memory\n");
     };
     write_bad_statement(&mut buffer, line, cause);
-    told(sink, 6, buffer.as_slice())
+    end_with(sink, 6, buffer.as_slice())
 }
 
 /// Reads a statement from an input, judges it, and prints the verdict.
@@ -66,7 +66,7 @@ pub fn check_input<K: Sink>(alloc: Global, input: &[u8], sink: &mut K) -> u8
 {
     match read_statement(alloc, input) {
         Ok((cut, outcome)) => check_statement(alloc, input, &cut, &outcome, sink),
-        Err(StatementError::Memory) => told(sink, 9, b"fault memory\n"),
+        Err(StatementError::Memory) => end_with(sink, 9, b"fault memory\n"),
         Err(StatementError::BadLine { line, cause }) => tell_bad_statement(
             alloc, input, line, cause, sink,
         ),

@@ -11,7 +11,7 @@ ghost use Rattle.bureau_program.specs.Headline.{IsBatchDue, IsRunDue};
 use crate::serve::{Served, serve_all, status_of};
 use bureau_edge::Sink;
 use claim_history::limits_hold;
-use printed_text::{output_buffer, print_run, told, write_bad_line};
+use printed_text::{end_with, output_buffer, print_run, write_bad_line};
 use request_text::{LineCause, Request, RequestError, read_requests};
 use std::alloc::Global;
 
@@ -54,11 +54,11 @@ fn run_requests<K: Sink>(alloc: Global, requests: &[Request], sink: &mut K) -> u
     ensures no_read_fault { result ≢ 3 }
 {
     let Ok(mut buffer) = output_buffer(alloc) else {
-        return told(sink, 9, b"fault memory\n");
+        return end_with(sink, 9, b"fault memory\n");
     };
     match serve_all(alloc, requests) {
         Ok(served) => print_served(sink, &mut buffer, requests, &served),
-        Err(_) => told(sink, 9, b"fault memory\n"),
+        Err(_) => end_with(sink, 9, b"fault memory\n"),
     }
 }
 
@@ -77,10 +77,10 @@ fn tell_bad_line<K: Sink>(
     ensures no_read_fault { result ≢ 3 }
 {
     let Ok(mut buffer) = Vec::with_capacity(alloc, 200) else {
-        return told(sink, 9, b"fault memory\n");
+        return end_with(sink, 9, b"fault memory\n");
     };
     write_bad_line(&mut buffer, line, cause);
-    told(sink, 6, buffer.as_slice())
+    end_with(sink, 6, buffer.as_slice())
 }
 
 /// Reads requests from an input, serves them, and prints what came of it.
@@ -94,7 +94,7 @@ pub fn run_input<K: Sink>(alloc: Global, input: &[u8], sink: &mut K) -> u8
             [batch] => run_requests(alloc, batch.requests(), sink),
             _ => unreachable!(),
         },
-        Err(RequestError::Memory) => told(sink, 9, b"fault memory\n"),
+        Err(RequestError::Memory) => end_with(sink, 9, b"fault memory\n"),
         Err(RequestError::BadLine { line, cause }) => tell_bad_line(
             alloc, line, cause, input, sink,
         ),

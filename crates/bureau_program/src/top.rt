@@ -10,7 +10,7 @@ use crate::check::check_input;
 use crate::command::{Command, command_of};
 use crate::run::run_input;
 use bureau_edge::{ReadEnd, Sink, Source, read_whole};
-use printed_text::told;
+use printed_text::end_with;
 use setoff_model::limits::MOST_INPUT_BYTES;
 use std::alloc::Global;
 
@@ -47,9 +47,9 @@ fn answer_source<S: Source, K: Sink>(
 {
     match read_whole(alloc, source, MOST_INPUT_BYTES) {
         Ok(input) => answer_input(alloc, command, input.as_slice(), sink),
-        Err(ReadEnd::Memory) => told(sink, 9, b"fault memory\n"),
-        Err(ReadEnd::Failed) => told(sink, 3, b"fault read\n"),
-        Err(ReadEnd::TooLong) => told(sink, 7, b"fault input too long\n"),
+        Err(ReadEnd::Memory) => end_with(sink, 9, b"fault memory\n"),
+        Err(ReadEnd::Failed) => end_with(sink, 3, b"fault read\n"),
+        Err(ReadEnd::TooLong) => end_with(sink, 7, b"fault input too long\n"),
     }
 }
 
@@ -67,7 +67,7 @@ fn answer_words<S: Source, K: Sink>(
 {
     match command_of(words) {
         Some(command) => answer_source(alloc, command, source, sink),
-        None => told(sink, 2, b"fault words\n"),
+        None => end_with(sink, 2, b"fault words\n"),
     }
 }
 
@@ -115,7 +115,7 @@ pub fn without_words<S: Source, K: Sink>(source: S, mut sink: K) -> Ended<S, K>
     ensures write_fault { result.status ≡ 4 → HasRisen (K.faults sink) (K.faults result.sink) }
     ensures unread { result.source ≡ source }
 {
-    let status = told(&mut sink, 9, b"fault memory\n");
+    let status = end_with(&mut sink, 9, b"fault memory\n");
     Ended {
         status,
         source,

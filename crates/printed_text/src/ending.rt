@@ -7,7 +7,7 @@ ghost use Rattle.printed_text.specs.Writing.{IsWritten, Wrote};
 use bureau_edge::{Sink, write_all};
 
 /// Writes a line, and says the status: 4 where the sink failed.
-pub fn told<K: Sink>(sink: &mut K, status: u8, line: &[u8]) -> u8
+pub fn end_with<K: Sink>(sink: &mut K, status: u8, line: &[u8]) -> u8
     requires { status ≢ 4 }
     ensures written { IsWritten (K.held sink.old) (K.held sink.new) status line.now result }
     ensures failed { result ≡ 4 → HasRisen (K.faults sink.old) (K.faults sink.new) }

@@ -8,7 +8,7 @@
 //! memory. What was in the buffer and the text are what the sink took and what is in the buffer now: `Passes` says this
 //! of a step, and steps add up. Where the sink failed, it took some first bytes of the text.
 //!
-//! `told` writes the one line that ends a run, and says its status, which is 4 where the sink failed.
+//! `end_with` writes the one line that ends a run, and says its status, which is 4 where the sink failed.
 #![tactic(auto)]
 
 mod ending;
@@ -17,7 +17,7 @@ mod output;
 mod statement;
 mod verdict_text;
 
-pub use ending::told;
+pub use ending::end_with;
 pub use fault_text::{write_bad_line, write_bad_statement};
 pub use output::{output_buffer, print_run};
 pub use verdict_text::{status_of_verdict, write_verdict};

@@ -3,18 +3,18 @@ use Rattle.std.specs.Prelude.{codes}
 use Rattle.printed_text.specs.Texts.{verdict_text, verdict_status}
 use Rattle.printed_text.specs.Writing.{IsWritten}
 use Rattle.bureau_program.specs.Headline.{IsCheckDue, no_statement_memory, judged}
-use Rattle.bureau_program.proofs.Dues.{wrote_told, wrote_text}
+use Rattle.bureau_program.proofs.Dues.{wrote_line, wrote_text}
 use Rattle.bureau_program.proofs.check.check_statement.Goals as goal
 
 pub returns-in_default-clause-wrote : goal.returns-in_default-clause-wrote
-returns-in_default-clause-wrote g c = wrote_told (IsCheckDue c.args.input.now) _ _ 9 (codes "fault memory\n") _ no_statement_memory c.told.ensures.written
+returns-in_default-clause-wrote g c = wrote_line (IsCheckDue c.args.input.now) _ _ 9 (codes "fault memory\n") _ no_statement_memory c.end_with.ensures.written
 
 pub returns-in_default-with_capacity-clause-wrote : goal.returns-in_default-with_capacity-clause-wrote
-returns-in_default-with_capacity-clause-wrote g c = wrote_told (IsCheckDue c.args.input.now) _ _ 9 (codes "fault memory\n") _ no_statement_memory c.told-in_default-with_capacity.ensures.written
+returns-in_default-with_capacity-clause-wrote g c = wrote_line (IsCheckDue c.args.input.now) _ _ 9 (codes "fault memory\n") _ no_statement_memory c.end_with-in_default-with_capacity.ensures.written
 
 pub returns-clause-wrote : goal.returns-clause-wrote
 returns-clause-wrote g c =
     let verdict = c.verdict-verdict.result in
     let said : c.as_slice.result.now ≡ verdict_text c.args.cut.now verdict = c.as_slice.ensures.value ∙ c.write_verdict.ensures.text ∙ ap (λ (t : List ℕ). t ++ verdict_text c.args.cut.now verdict) c.in-Ok-with_capacity.ensures.items in
-    let written = subst (λ (n : ℕ). IsWritten (g.K.Sink.held c.args.sink.now) (g.K.Sink.held c.told-2.new.sink) n c.as_slice.result.now c.told-2.result) c.status_of_verdict.ensures c.told-2.ensures.written in
+    let written = subst (λ (n : ℕ). IsWritten (g.K.Sink.held c.args.sink.now) (g.K.Sink.held c.end_with-2.new.sink) n c.as_slice.result.now c.end_with-2.result) c.status_of_verdict.ensures c.end_with-2.ensures.written in
     wrote_text (IsCheckDue c.args.input.now) _ _ (verdict_status verdict) (verdict_text c.args.cut.now verdict) c.as_slice.result.now _ (judged c.args.cut.now c.args.outcome.now c.requires verdict c.verdict-verdict.ensures.verdict) said written

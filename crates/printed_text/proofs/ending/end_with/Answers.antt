@@ -1,5 +1,5 @@
 use Rattle.printed_text.specs.Writing.{whole, broken}
-use Rattle.printed_text.proofs.ending.told.Goals as goal
+use Rattle.printed_text.proofs.ending.end_with.Goals as goal
 
 pub returns-in-Ok-clause-written : goal.returns-in-Ok-clause-written
 returns-in-Ok-clause-written g c = whole c.in-Ok.ensures.ok
