@@ -4,9 +4,10 @@ use Rattle.std.specs.Fmt.{signed_decimal}
 use Rattle.std.proofs.Common.{ℕ, ◌/◌, ◌^◌, ◌<◌, ◌≤◌, length, arith, decimal}
 use Rattle.std.proofs.lemmas.Int.{ints}
 use Rattle.std.proofs.lemmas.Fmt.{length-decimal-le}
+use Rattle.setoff_model.specs.Limits.{most_amount}
 
 -- the units of an amount
-pub units_amount : (cents : ℕ) → cents < 10 ^ 12 → length (decimal (cents / 100)) ≤ 10
+pub units_amount : (cents : ℕ) → cents ≤ most_amount → length (decimal (cents / 100)) ≤ 10
 units_amount cents lt = length-decimal-le 10 (cents / 100) (omega arith) (omega arith) (omega arith)
 
 -- the units of a sum

@@ -1,5 +1,6 @@
 //! The fields of a text, read from their bytes. Each value has one spelling, and no other is read.
 ghost use Rattle.std.specs.Prelude.{◌≡◌, ℕ, ◌*◌, ◌^◌, ◌<◌, ◌≤◌, ◌↔◌, decimal, IfSome, IfNone, Some, IsTrue, ℤ, unsigned_abs};
+ghost use Rattle.setoff_model.specs.Limits.{most_amount};
 ghost use Rattle.setoff_model.specs.Texts.{cents_text, integer_text, kind_text};
 
 use crate::kind::Kind;
@@ -23,9 +24,9 @@ pub fn read_number(text: &[u8]) -> Option<u64>
 /// An amount is a whole number of 1 to 10 digits, a point and two digits, as `0.00` or `29.05`.
 /// `None` comes exactly where the text is no such amount.
 pub fn read_amount(text: &[u8]) -> Option<u64>
-    ensures below { IfSome result (λ c. c < 10 ^ 12) }
+    ensures below { IfSome result (λ c. c ≤ most_amount) }
     ensures found { IfSome result (λ c. text.now ≡ cents_text c) }
-    ensures none { IfNone result ((c : ℕ) → c < 10 ^ 12 → text.now ≡ cents_text c → ⊥) }
+    ensures none { IfNone result ((c : ℕ) → c ≤ most_amount → text.now ≡ cents_text c → ⊥) }
 {
     read_cents(text, 10_000_000_000)
 }

@@ -1,5 +1,6 @@
 //! The fields of a text, written to the end of a buffer that has room for them.
 ghost use Rattle.std.specs.Prelude.{◌≡◌, ◌+◌, ◌^◌, ◌<◌, ◌≤◌, ◌++◌, length, pos, unsigned_abs, ◌≤ℤ◌, ◌<ℤ◌, vec_len, vec_capacity};
+ghost use Rattle.setoff_model.specs.Limits.{most_amount};
 ghost use Rattle.setoff_model.specs.Texts.{cents_text, signed_cents_text, integer_text, SpellingLaw};
 
 use itoa::Buffer;
@@ -22,7 +23,7 @@ pub fn write_cents(buffer: &mut Vec<u8>, cents: u128)
     ensures text { buffer.new.items ≡ buffer.old.items ++ cents_text cents }
     ensures room { vec_capacity buffer.old ≤ vec_capacity buffer.new }
     ensures len { vec_len buffer.new ≤ vec_len buffer.old + 60 }
-    ensures amount { cents < 10 ^ 12 → vec_len buffer.new ≤ vec_len buffer.old + 13 }
+    ensures amount { cents ≤ most_amount → vec_len buffer.new ≤ vec_len buffer.old + 13 }
     ensures sum { cents < 10 ^ 18 → vec_len buffer.new ≤ vec_len buffer.old + 19 }
 {
     put_cents(buffer, cents);
@@ -67,7 +68,7 @@ fn put_cents(buffer: &mut Vec<u8>, cents: u128)
     ensures text { buffer.new.items ≡ buffer.old.items ++ cents_text cents }
     ensures room { vec_capacity buffer.old ≤ vec_capacity buffer.new }
     ensures len { vec_len buffer.new ≤ vec_len buffer.old + 42 }
-    ensures amount { cents < 10 ^ 12 → vec_len buffer.new ≤ vec_len buffer.old + 13 }
+    ensures amount { cents ≤ most_amount → vec_len buffer.new ≤ vec_len buffer.old + 13 }
     ensures sum { cents < 10 ^ 18 → vec_len buffer.new ≤ vec_len buffer.old + 19 }
 {
     let mut digits = Buffer::new();
