@@ -218,7 +218,7 @@ use_law history e =
       within = λ was fits. subst IsWithinLimitsPast (sym past) (fits, was);
     }
 
-accepted_owns : (a : Act) (r : Reply) → is_no_refusal r ≡ true → own_bytes a r ≡ record_length_of a
+pub accepted_owns : (a : Act) (r : Reply) → is_no_refusal r ≡ true → own_bytes a r ≡ record_length_of a
 accepted_owns a (reply.Refused w) e = absurd (true≢false (sym e))
 accepted_owns a r e = refl
 
