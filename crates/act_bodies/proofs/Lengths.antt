@@ -8,6 +8,7 @@ use Rattle.setoff_model.specs.Limits.{most_claims, most_firms}
 use Rattle.setoff_model.specs.declared.name.Key.{Key}
 use Rattle.setoff_model.specs.Names.{is_name, is_letter, is_name_byte}
 use Rattle.setoff_model.specs.CutView.{OutcomeView}
+use Rattle.setoff_model.proofs.Padded.{length-name}
 use Rattle.claim_history.specs.declared.act.Act.{Act}
 use Rattle.claim_history.specs.declared.act.Act.TheVariants as act
 use Rattle.claim_history.specs.Acts.{is_valid, is_key, is_amount, is_claim_amount, is_day, is_round, is_outcome}
@@ -21,22 +22,16 @@ all_wide f width wide [] = omega arith
 all_wide f width wide (x ∷ xs) =
     ap length (flat_map-cons f x xs) ∙ length-append (f x) (flat_map f xs) ∙ omega (arith, wide x, all_wide f width wide xs)
 
-short_name : (name : List ℕ) → is_name name ≡ true → length name ≤ 16
-short_name [] h = absurd cc
-short_name (c ∷ cs) h =
-    let letter = and_parts (is_letter c && nat_le (length cs) 15) (list_all is_name_byte cs) h in
-    omega (arith, leb-true (length cs) 15 (and_parts (is_letter c) (nat_le (length cs) 15) letter.0).1)
-
 short_key : (key : Key) → is_key key ≡ true → (length key.creditor ≤ 16) × (length key.invoice ≤ 16)
 short_key key h =
     let k = and_parts (is_name key.creditor) (is_name key.invoice) h in
-    (short_name key.creditor k.0, short_name key.invoice k.1)
+    (length-name key.creditor k.0, length-name key.invoice k.1)
 
 short_claim : (key : Key) (debtor : List ℕ) → (is_key key && is_name debtor) ≡ true → (length key.creditor ≤ 16) × (length key.invoice ≤ 16) × (length debtor ≤ 16)
 short_claim key debtor h =
     let c = and_parts (is_key key) (is_name debtor) h in
     let k = short_key key c.0 in
-    (k.0, k.1, short_name debtor c.1)
+    (k.0, k.1, length-name debtor c.1)
 
 few : (outcome : OutcomeView) → is_outcome outcome ≡ true → (length outcome.discharges ≤ most_claims) × (length outcome.prices ≤ most_firms)
 few outcome h =
@@ -58,7 +53,7 @@ Long a = (length (fields_of a) + 4 ≡ body_length_of a) × (5 ≤ body_length_o
 
 fields_long : (a : Act) → is_valid a ≡ true → Long a
 unfolding fields_of
-fields_long (act.Firm firm) h = let s = short_name firm h in (omega arith, omega arith, omega arith)
+fields_long (act.Firm firm) h = let s = length-name firm h in (omega arith, omega arith, omega arith)
 fields_long (act.File key debtor amount due) h =
     let n = and_parts (is_key key && is_name debtor && is_claim_amount amount) (is_day due) h in
     let m = and_parts (is_key key && is_name debtor) (is_claim_amount amount) n.0 in
@@ -76,19 +71,19 @@ fields_long (act.Receive key amount) h =
     let k = short_key key v.0 in
     (omega (arith, key_long key, length-append (key_bytes key) (eight amount)), omega arith, omega arith)
 fields_long (act.Fund firm amount) h =
-    let s = short_name firm (and_parts (is_name firm) (is_claim_amount amount) h).0 in
+    let s = length-name firm (and_parts (is_name firm) (is_claim_amount amount) h).0 in
     (omega (arith, length-append (name_bytes firm) (eight amount)), omega arith, omega arith)
 fields_long (act.Draw firm amount) h =
-    let s = short_name firm (and_parts (is_name firm) (is_claim_amount amount) h).0 in
+    let s = length-name firm (and_parts (is_name firm) (is_claim_amount amount) h).0 in
     (omega (arith, length-append (name_bytes firm) (eight amount)), omega arith, omega arith)
 fields_long (act.Limit firm credit ceiling) h =
     let n = and_parts (is_name firm && is_amount credit) (is_amount ceiling) h in
-    let s = short_name firm (and_parts (is_name firm) (is_amount credit) n.0).0 in
+    let s = length-name firm (and_parts (is_name firm) (is_amount credit) n.0).0 in
     (simp length-append (omega arith), omega arith, omega arith)
 fields_long (act.Offer firm amount) h =
-    let s = short_name firm (and_parts (is_name firm) (is_amount amount) h).0 in
+    let s = length-name firm (and_parts (is_name firm) (is_amount amount) h).0 in
     (omega (arith, length-append (name_bytes firm) (eight amount)), omega arith, omega arith)
-fields_long (act.Position firm) h = let s = short_name firm h in (omega arith, omega arith, omega arith)
+fields_long (act.Position firm) h = let s = length-name firm h in (omega arith, omega arith, omega arith)
 fields_long (act.Close kind horizon) h = (omega arith, omega arith, omega arith)
 fields_long act.Abandon h = (refl, omega arith, omega arith)
 fields_long (act.Publish round outcome) h =

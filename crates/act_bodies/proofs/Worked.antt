@@ -42,11 +42,6 @@ publish : body_of 1 (act.Publish 1 outcome)
 unfolding body_of fields_of
 publish = refl
 
--- of these only the bureau abandons a round
-abandon_kept : is_keepable 0 act.Abandon ≡ true
-unfolding is_keepable
-abandon_kept = refl
-
 firm_not_kept : is_keepable 0 (act.Firm (codes "A")) ≡ false
 unfolding is_keepable
 firm_not_kept = refl
