@@ -11,8 +11,9 @@ use Rattle.atomic_table.specs.Table.{State, keeps, step, Allows, Splits, Joins, 
 use Rattle.atomic_table.proofs.Lists.{set_else, at_longer}
 use Rattle.turn_lock.specs.declared.view.SeatHistory.{SeatHistory}
 use Rattle.turn_lock.specs.declared.view.View.{View}
-use Rattle.turn_lock.specs.Turns.{entries_by, seat_count, opening_view, spent_view, drew, gave, new_view, joined, IsRegistrarView, FitsLog, FitsTable, IsInSlot, IsKept, Finished, HasDrawn}
+use Rattle.turn_lock.specs.Turns.{entries_by, seat_count, opening_view, spent_view, drew, gave, new_view, joined, IsRegistrarView, FitsLog, FitsTable, IsInSlot, IsKept, is_numbered, Finished, HasDrawn}
 use Rattle.turn_lock.proofs.Histories.{prefix_self, entries_by_none}
+use Rattle.turn_lock.proofs.Seated.{seated_changed, seated_given, seated_joined, seated_ended}
 use Rattle.turn_lock.proofs.Views.{each_set, each_snoc, sum_set, sum_same, sum_two, same_at, all_cons}
 
 module _ {T E : Type 0} (entries : T → List E) (base : T → List ℕ) (caller : E → ℕ) (at : T) where
@@ -54,6 +55,7 @@ module _ {T E : Type 0} (entries : T → List E) (base : T → List ℕ) (caller
         short = short;
         long = omega arith;
         numbered = subst (All (λ e. (1 ≤ caller e) × (caller e ≤ 0))) (sym past) (All-nil (λ e. (1 ≤ caller e) × (caller e ≤ 0)));
+        seated = λ n low high. absurd (omega arith);
         counted = omega (arith, sum_by-cons seat_count v []);
       }
 
@@ -89,6 +91,7 @@ module _ {T E : Type 0} (entries : T → List E) (base : T → List ℕ) (caller
           short = k.short;
           long = k.long;
           numbered = k.numbered;
+          seated = λ n low high. seated_changed n s.views id v w me is_registrar.live (λ h. h) (k.seated n low high);
           counted = sum_same seat_count s.views id v w me refl ∙ k.counted;
         },
         (found, refl),
@@ -159,6 +162,8 @@ module _ {T E : Type 0} (entries : T → List E) (base : T → List ℕ) (caller
         short = k.short;
         long = k.long;
         numbered = λ q d lt. let n = k.numbered q d lt in (n.0, let le = n.1 in omega arith);
+        seated = λ n low high. seated_given n (set s.views id (gave v)) (new_view v) k.given given refl refl (fresh ∙ ap suc c.4) high
+            (λ le. seated_changed n s.views id v (gave v) me live (λ h. h) (k.seated n low le));
         counted = omega (arith, sum_by-append seat_count (set s.views id (gave v)) (new_view v ∷ []), sum_by-cons seat_count (new_view v) [], sum_same seat_count s.views id v (gave v) me refl, k.counted, c.4);
       }
 
@@ -220,6 +225,7 @@ module _ {T E : Type 0} (entries : T → List E) (base : T → List ℕ) (caller
         short = k.short;
         long = k.long;
         numbered = k.numbered;
+        seated = λ n low high. seated_joined n s.views id other v w me theirs apart live (k.seated n low high);
         counted = omega (arith, sum_set seat_count s.views id v x me, sum_set seat_count mid other w spent_view them, one, two, both, length-append w.ended v.ended, k.counted);
       }
 
@@ -255,5 +261,7 @@ module _ {T E : Type 0} (entries : T → List E) (base : T → List ℕ) (caller
           history = fits v.history o.history;
           ended = λ i d lt. fits _ (o.ended i d lt);
           numbered = subst (All (λ e. (1 ≤ caller e) × (caller e ≤ v.given))) same (λ q d lt. let n = k.numbered q d lt in (n.0, let le = n.1 in let g = c.4 in omega arith));
+          of_seats = subst (All (λ e. is_numbered (caller e) v.ended ≡ true)) same
+              (λ q d lt. let n = k.numbered q d lt in seated_ended _ s.views id k.given v me live (all ∙ c.4) k.counted c.2 n.0 (k.seated _ n.0 n.1));
         },
       )

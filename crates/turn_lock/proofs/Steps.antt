@@ -16,6 +16,7 @@ use Rattle.turn_lock.specs.declared.view.SeatHistory.{SeatHistory}
 use Rattle.turn_lock.specs.declared.view.View.{View}
 use Rattle.turn_lock.specs.Turns.{entries_by, seat_count, taken, released, IsSeatView, FitsLog, FitsTable, IsInSlot, IsKept, Entered, MayLeave, HasAcquired, HasReleased}
 use Rattle.turn_lock.proofs.Histories.{prefix_self, prefix_more, entries_by_same, entries_by_more}
+use Rattle.turn_lock.proofs.Seated.{seated_changed}
 use Rattle.turn_lock.proofs.Views.{at_lt, each_set, sum_same}
 
 -- the value in the slot that was taken last
@@ -81,6 +82,7 @@ module _ {T E : Type 0} (entries : T → List E) (base : T → List ℕ) (caller
           short = k.short;
           long = k.long;
           numbered = k.numbered;
+          seated = λ n low high. seated_changed n s.views id v w me is_seat.live (λ h. h) (k.seated n low high);
           counted = sum_same seat_count s.views id v w me refl ∙ k.counted;
         },
         rw is (
@@ -198,6 +200,7 @@ module _ {T E : Type 0} (entries : T → List E) (base : T → List ℕ) (caller
           short = short;
           long = let le = k.long in omega (arith, ap length full, length-append k.log more);
           numbered = subst (λ l. All N (drop opened l)) full (subst (All N) (sym (drop-append-le opened k.log more k.long)) (All-append N (drop opened k.log) more k.numbered new));
+          seated = λ n low high. seated_changed n s.views id v w me is_seat.live (λ h. h) (k.seated n low high);
           counted = sum_same seat_count s.views id v w me refl ∙ k.counted;
         },
         λ y e. let same : x ≡ y = ap (lying x) e in ap (λ z. (released v (entries z), [])) same,

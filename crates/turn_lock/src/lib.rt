@@ -7,8 +7,8 @@
 //!
 //! - No two seats have the turn at once, and a seat that does not have it cannot reach the value.
 //! - The history only grows. What a seat has seen is a beginning of it.
-//! - Past the length that the value had when the lock was made, each entry has a number that was given, and a seat knows
-//!   those of its own number: none of them is lost, given twice or made up.
+//! - Past the length that the value had when the lock was made, each entry has the number of a seat, and a seat knows those
+//!   of its own number: none of them is lost, given twice or made up.
 //! - Entries come into the history at one moment, the store of the new length as the turn is given back.
 //!
 //! At the end the value is given back for all seats, and its history agrees with what each has seen and added. No clause

@@ -10,9 +10,12 @@ use crate::story::Story;
 use crate::turn::{CountingPlace, Held, NumberedPlace, Registrar, Seat, Turn, Unmade};
 use atomic_table::{Refused, Table};
 use std::alloc::Global;
-use std::hint;
 use std::snapshot::Snapshot;
 use std::sync::Wait;
+use std::{hint, thread};
+
+// How often a seat tries for the turn before it lets other threads run.
+const MOST_SPINS: u32 = 100;
 
 impl<T: Story> Turn<T> {
     // A lock and its registrar, who has made no seats.
@@ -84,7 +87,7 @@ impl<T: Story> Turn<T> {
     }
 
     /// The value back, for all seats that were made. Its history begins with what each has seen. Past the length at `make` each
-    /// entry has a number that was given, and a seat's own entries are those of its number. It takes no memory.
+    /// entry has the number of one of them, and a seat's own entries are those of its number. It takes no memory.
     pub fn finish(self, registrar: Registrar<T>, seats: Vec<Seat<T>>) -> T
         requires made { (registry registrar ≡ lock_of self) × All (λ s. lock s ≡ lock_of self) seats.items }
         requires all { length seats.items ≡ made registrar }
@@ -133,17 +136,25 @@ impl<T: Story> Turn<T> {
 
     /// Tries until the turn is free, and takes it. The history of the value begins with what the seat has seen, and has the
     /// seat's own entries in it, and no others of its number. It takes no memory.
+    ///
+    /// After a hundred tries it lets other threads run between one try and the next.
     pub fn enter<R: Wait>(&self, rt: &R, seat: &mut Seat<T>) -> Held<T>
         requires made { lock seat.old ≡ lock_of self.now }
         requires free { holds seat.old ≡ false }
         ensures same { (lock seat.new ≡ lock seat.old) × (number seat.new ≡ number seat.old) }
         ensures entered { Entered T.entries T.base T.caller (view seat.old) (view seat.new) result.value }
     {
+        let mut spins = 0;
         for _ in rt.forever() {
             if let Some(held) = self.try_enter(seat) {
                 return held;
             }
-            hint::spin_loop();
+            if spins < MOST_SPINS {
+                spins += 1;
+                hint::spin_loop();
+            } else {
+                thread::yield_now();
+            }
         }
         unreachable!()
     }

@@ -1,7 +1,7 @@
-ghost use Rattle.std.specs.Prelude.{◌≡◌, ◌≤◌, ◌<◌, [], ◌++◌, ◌∷◌, length, false, true, All, slice_index_or};
-ghost use Rattle.turn_lock.specs.Seats.{lock, lock_of, holds};
+ghost use Rattle.std.specs.Prelude.{◌≡◌, ◌≤◌, ◌<◌, ◌+◌, [], ◌++◌, ◌∷◌, length, false, true, All, slice_index_or};
+ghost use Rattle.turn_lock.specs.Seats.{lock, lock_of, holds, registry, made};
 
-use crate::{Seat, Story, Turn};
+use crate::{Registrar, Seat, Story, Turn};
 use std::alloc::Global;
 use std::sync::Wait;
 use std::test::Fail;
@@ -96,13 +96,13 @@ fn empty(alloc: Global) -> Notes
     }
 }
 
-// Whether the notes of a caller are its first, second and so on, in order.
-fn in_order(notes: &[Note], caller: u32) -> bool {
-    notes
-        .iter()
-        .filter(|note| note.caller == caller)
-        .enumerate()
-        .all(|(time, note)| note.time == time)
+// Whether the notes of a caller are its first, second and third, in order.
+fn thrice(notes: &[Note], caller: u32) -> bool {
+    let of_caller = || notes.iter().filter(|note| note.caller == caller);
+    of_caller().count() == 3
+        && of_caller()
+            .enumerate()
+            .all(|(time, note)| note.time == time)
 }
 
 #[test]
@@ -113,37 +113,75 @@ fn sixteen_seats_in_threads(rt: HostRuntime) -> Result<(), Fail> {
     all_act(&rt, &turn, seats.as_mut_slice());
     let notes = turn.finish(registrar, seats);
     assert_eq!(rt; notes.list.len(), 48);
-    for caller in 1..17 {
-        assert_eq!(rt;
-            notes
-                .list
-                .iter()
-                .filter(|note| note.caller == caller)
-                .count(),
-            3
-        );
-        assert!(rt; in_order(&notes.list, caller));
-    }
+    assert!(rt; (1..17).all(|caller| thrice(&notes.list, caller)));
     Ok(())
 }
 
+// A seat that has acted three times.
+fn acted<R: Wait>(rt: &R, turn: &Turn<Notes>, seat: Seat<Notes>) -> Seat<Notes>
+    requires made { lock seat ≡ lock_of turn.now }
+    requires free { holds seat ≡ false }
+    ensures ready { (lock result ≡ lock_of turn.now) × (holds result ≡ false) }
+{
+    let mut seat = seat;
+    act_thrice(rt, turn, &mut seat);
+    seat
+}
+
+// The registrar, and three new seats, each of which has acted three times before the next was enrolled.
+fn enrolled<R: Wait>(
+    rt: &R,
+    turn: &Turn<Notes>,
+    registrar: Registrar<Notes>,
+) -> (Registrar<Notes>, Seat<Notes>, Seat<Notes>, Seat<Notes>)
+    requires made { registry registrar ≡ lock_of turn.now }
+    requires few { made registrar ≤ 1000 }
+    ensures registrar { (registry result.0 ≡ lock_of turn.now) × (made result.0 ≡ made registrar + 3) }
+    ensures third { (lock result.1 ≡ lock_of turn.now) × (holds result.1 ≡ false) }
+    ensures fourth { (lock result.2 ≡ lock_of turn.now) × (holds result.2 ≡ false) }
+    ensures fifth { (lock result.3 ≡ lock_of turn.now) × (holds result.3 ≡ false) }
+{
+    let mut registrar = registrar;
+    let third = acted(rt, turn, turn.enrol(&mut registrar));
+    let fourth = acted(rt, turn, turn.enrol(&mut registrar));
+    let fifth = acted(rt, turn, turn.enrol(&mut registrar));
+    (registrar, third, fourth, fifth)
+}
+
+// Two seats act in threads of their own.
+fn both_act<R: Threads + Wait + Sync>(
+    rt: &R,
+    turn: &Turn<Notes>,
+    first: Seat<Notes>,
+    second: Seat<Notes>,
+) -> (Seat<Notes>, Seat<Notes>)
+    requires first { (lock first ≡ lock_of turn.now) × (holds first ≡ false) }
+    requires second { (lock second ≡ lock_of turn.now) × (holds second ≡ false) }
+    ensures first { (lock result.0 ≡ lock_of turn.now) × (holds result.0 ≡ false) }
+    ensures second { (lock result.1 ≡ lock_of turn.now) × (holds result.1 ≡ false) }
+{
+    thread::join(rt, || acted(rt, turn, first), || acted(rt, turn, second))
+}
+
+// While two seats act in threads of their own, a third thread enrols three more, which act, too.
 #[test]
 fn seats_are_enrolled_while_others_act(rt: HostRuntime) -> Result<(), Fail> {
     let Ok((turn, mut registrar, _)) = Turn::make(rt.alloc(), empty(rt.alloc()), 0) else {
         return Err(Fail::from("memory"));
     };
     assert_eq!(rt; registrar.made(), 0);
-    let mut first = turn.enrol(&mut registrar);
-    act(&rt, &turn, &mut first, 0);
-    let mut second = turn.enrol(&mut registrar);
-    act(&rt, &turn, &mut second, 0);
-    act(&rt, &turn, &mut first, 1);
-    assert_eq!(rt; registrar.made(), 2);
+    let first = turn.enrol(&mut registrar);
+    let second = turn.enrol(&mut registrar);
     assert!(rt; first.number() == 1 && second.number() == 2);
-    let seats = vec![in rt.alloc(); first, second]?;
+    let ((registrar, third, fourth, fifth), (first, second)) = thread::join(
+        &rt,
+        || enrolled(&rt, &turn, registrar),
+        || both_act(&rt, &turn, first, second),
+    );
+    assert_eq!(rt; registrar.made(), 5);
+    let seats = vec![in rt.alloc(); first, second, third, fourth, fifth]?;
     let notes = turn.finish(registrar, seats);
-    assert_eq!(rt; notes.list.len(), 3);
-    assert!(rt; in_order(&notes.list, 1) && in_order(&notes.list, 2));
-    assert!(rt; notes.list[1].caller == 2);
+    assert_eq!(rt; notes.list.len(), 15);
+    assert!(rt; (1..6).all(|caller| thrice(&notes.list, caller)));
     Ok(())
 }
