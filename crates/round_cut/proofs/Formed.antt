@@ -1,6 +1,5 @@
 -- The cut of facts is well formed.
 use Rattle.std.specs.Prelude.{map, filter, flat_map, find, nat_le, Option, Some, None, IfSome, pos, negsuc, ℤ, neg_ℤ, ◌≤ℤ◌}
-use Rattle.setoff_model.proofs.SameNames.{name_same}
 use Rattle.std.specs.List.{list_any, position_or_len}
 use Rattle.std.proofs.Common.{◌≡◌, ◌≢◌, ℕ, ◌<◌, ◌≤◌, Bool, true, false, not, ◌&&◌, ◌||◌, List, [], ◌∷◌, length, get_or, slice_index_or, All, AllPairs, refl, sym, ◌∙◌, ap, true≢false, arith}
 use Rattle.std.proofs.lemmas.Bool.{leb-true, false≢true, and_parts}
@@ -8,8 +7,8 @@ use Rattle.std.proofs.lemmas.Int.{ints, clamps}
 use Rattle.std.proofs.lemmas.List.{get_or-map, length-map}
 use Rattle.std.proofs.lemmas.List.Sums.{passes_at_first, length-filter, count_by-le-length}
 use Rattle.std.proofs.lemmas.List.Filters.{length-filter_both}
-use Rattle.std.proofs.lemmas.List.Kept.{AllPairs-cons, AllPairs-filter}
-use Rattle.std.proofs.lemmas.List.Elements.{All-nil, All-cons, All-head, All-tail, All-map, All-filter, All-weaker, filter_passes}
+use Rattle.std.proofs.lemmas.List.Kept.{AllPairs-filter}
+use Rattle.std.proofs.lemmas.List.Elements.{All-nil, All-cons, All-head, All-tail, All-map, All-filter, filter_passes}
 use Rattle.setoff_model.proofs.Lists.{any_within}
 use Rattle.setoff_model.specs.declared.kind.Kind.{Kind}
 use Rattle.setoff_model.specs.declared.kind.Kind.TheVariants.{Plain, Funded}
@@ -25,6 +24,7 @@ use Rattle.claim_history.specs.Facts.{is_confirmed}
 use Rattle.claim_history.specs.Cut.{distinct}
 use Rattle.claim_history.specs.Laws.{IsWithin}
 use Rattle.claim_history.proofs.Rows.{name_is}
+use Rattle.claim_history.proofs.Bounds.{Differ, all_differ}
 use Rattle.setoff_model.specs.Windows.{Window}
 use Rattle.claim_history.proofs.Rounds.{no_key}
 use Rattle.round_cut.specs.Windows.{KeepsLimits, window_of}
@@ -62,19 +62,6 @@ windows_small accounts kind firms keep =
     found_small kind (find (λ a. same_name firm a.firm) accounts) (found_all KeepsLimits (λ a. same_name firm a.firm) accounts keep))
 
 -- ---- firms
-
-abbrev Differ : List ℕ → List ℕ → Type 0
-Differ a b = a ≢ b
-
-differs : (a b : List ℕ) → not (same_name a b) ≡ true → Differ a b
-differs a b e is = true≢false (sym e ∙ ap not (ap (λ (x : List ℕ). same_name x b) is ∙ name_same b))
-
-distinct_differ : (xs : List (List ℕ)) → AllPairs Differ (distinct xs)
-distinct_differ [] = λ i j d lt within. absurd (omega (arith, within))
-distinct_differ (x ∷ xs) =
-    AllPairs-cons Differ x (filter (λ y. not (same_name x y)) (distinct xs))
-    (All-weaker (λ y. not (same_name x y) ≡ true) (Differ x) (λ y e. differs x y e) (filter (λ y. not (same_name x y)) (distinct xs)) (filter_passes (λ y. not (same_name x y)) (distinct xs)))
-    (AllPairs-filter Differ (λ y. not (same_name x y)) (distinct xs) (distinct_differ xs))
 
 pub distinct_all : (P : List ℕ → Type 0) (xs : List (List ℕ)) → All P xs → All P (distinct xs)
 distinct_all P [] all = All-nil P
@@ -151,7 +138,7 @@ formed round claims accounts kind horizon facts =
     let firms = firms_in due in
     let each : All (IsClaimOf accounts) due = All-filter (takes_part horizon) (IsClaimOf accounts) claims facts.each_claim in
     let have : All (λ n. has_account accounts n ≡ true) firms = firms_all (λ n. has_account accounts n ≡ true) due (λ k d lt. ((each k d lt).debtor, (each k d lt).creditor)) in
-    let differ : AllPairs Differ firms = distinct_differ (flat_map two_names due) in
+    let differ : AllPairs Differ firms = all_differ (flat_map two_names due) in
     record {
       few_parties = omega (arith, length-map firms (party_in accounts kind), few_names accounts firms differ have, facts.few_accounts);
       few_claims = omega (arith, length-map due (claim_among firms), length-filter (takes_part horizon) claims, count_by-le-length (takes_part horizon) claims, facts.few_claims);

@@ -73,10 +73,6 @@ any_reverse p (x ∷ xs) =
 accounts_are : (l : Ledger) (n : List ℕ) → has_account (account_facts l) n ≡ list_any (same_name n) (firms l)
 accounts_are l n = list_any-map (λ (a : AccountFact). same_name n a.firm) (account_fact l) (reverse (firms l)) ∙ any_reverse (same_name n) (firms l)
 
-map_step : {X Y : Type 0} (b : Bool) (f : X → Y) (x : X) (rest : Option Y) (found : Option X) → rest ≡ option_map f found → cond b (Some (f x)) rest ≡ option_map f (cond b (Some x) found)
-map_step true f x rest found e = refl
-map_step false f x rest found e = e
-
 name_step : (n x : List ℕ) (rest : Option (List ℕ)) (any b : Bool) → same_name n x ≡ b → (b || any) ≡ true → (any ≡ true → rest ≡ Some n) → cond b (Some x) rest ≡ Some n
 name_step n x rest any true is e later = ap Some (sym (name_is n x is))
 name_step n x rest any false is e later = later e
