@@ -20,18 +20,11 @@ use Rattle.limited_book.specs.declared.room.Room.TheVariants.{Entries, Bytes}
 use Rattle.limited_book.specs.declared.full.Full.{Full}
 use Rattle.limited_book.specs.Limited.{IsFull, IsOver, is_over, is_over_one, lacks, needed_of, number_of, round_after}
 
--- ---- the round that is open
-
--- the open round, where its cut is borrowed
-pub open_of : (o : Option OpenRound) (cut : CutView) → Some cut ≡ option_map (λ round. round.cut) o → (round : OpenRound) × (o ≡ Some round) × (cut ≡ round.cut)
-open_of None cut = λ e. absurd cc
-open_of (Some round) cut = λ e. (round, refl, cc)
+-- ---- an act that opens no round
 
 after_reply : (caller : ℕ) (a : Act) (r : Reply) (s : State) → is_opening r ≡ false → (after caller a r s).open_round ≡ round_after r s.open_round
 after_reply caller a (reply.Opened round) s e = absurd (true≢false e)
 after_reply caller a r s e = refl
-
--- ---- an act that opens no round
 
 -- what is open after the one reply
 open_is : (history : List Entry) (caller : ℕ) (a : Act) (r : Reply) → r ≡ answer_of history caller a → is_opening r ≡ false → open_after (state_of history) caller a ≡ round_after r (state_of history).open_round

@@ -10,6 +10,7 @@ use Rattle.setoff_model.specs.declared.cut.Party.{Party}
 use Rattle.setoff_model.specs.Sums.{sum_below}
 use Rattle.setoff_model.proofs.Columns.{no_claim}
 use Rattle.setoff_model.proofs.Flows.{column}
+use Rattle.setoff_model.proofs.SumsBounded.{chosen}
 use Rattle.setoff_model.specs.CutView.{obligations_of, debtors, creditors, amounts}
 use Rattle.netting_graph.specs.declared.arc.Arc.{Arc}
 use Rattle.netting_graph.specs.Pairs.{Pairs, IsPairAt}
@@ -98,10 +99,6 @@ pub sum_below_limit : (m most : ℕ) (g : ℕ → ℕ) → ((k : ℕ) → k < m 
 sum_below_limit zero most g small = omega arith
 sum_below_limit (suc m) most g small = omega (arith, sum_below_limit m most g (λ k l. small k (omega arith)), small m (omega arith))
 
-if_small : (b : Bool) (u most : ℕ) → u ≤ most → (if b then u else 0) ≤ most
-if_small true u most h = h
-if_small false u most h = omega arith
-
 -- an arc has at most what its claims can have
 pub arc_small : (m k : ℕ) (claims : List CutClaim) (arcs : List Arc) (ps : List Party) (d : Arc) → IsMerged m (obligations_of ps claims) (obligations_of_arcs ps arcs) → m ≤ length claims → All (λ c. c.amount ≤ 999999999999) claims → k < length arcs →
     (get_or arcs k d).amount ≤ 999999999999 * m
@@ -111,5 +108,5 @@ arc_small m k claims arcs ps d net le small in' =
     let p = slice_index (arc_debtors arcs) k in
     let q = slice_index (arc_creditors arcs) k in
     let sum = sum_below_limit m 999999999999 (λ c. if slice_index (debtors claims) c == p && slice_index (creditors claims) c == q then slice_index (amounts claims) c else 0)
-    (λ c l. if_small (slice_index (debtors claims) c == p && slice_index (creditors claims) c == q) (slice_index (amounts claims) c) 999999999999 (each c l)) in
+    (λ c l. chosen (slice_index (debtors claims) c == p && slice_index (creditors claims) c == q) (slice_index (amounts claims) c) 999999999999 (each c l)) in
     omega (arith, get_or-map (λ (y : Arc). y.amount) arcs k d 0 in', net.amount k (omega (arith, amounts_long arcs)), sum)

@@ -1,6 +1,6 @@
 -- What contracts see of a net.
-use Rattle.std.specs.Prelude.{◌≡◌, ◌≢◌, ◌⊎◌, ◌<◌, ◌≤◌, ℕ, ◌+◌, List, [], ◌∷◌, ◌++◌, length, map, slice_index_or, slice_set, All, AllPairs}
-use Rattle.setoff_model.specs.Limits.{most_firms, most_claims, most_window}
+use Rattle.std.specs.Prelude.{◌≡◌, ◌≢◌, ◌⊎◌, ◌<◌, ◌≤◌, ℕ, ◌+◌, ◌*◌, List, [], ◌∷◌, ◌++◌, length, map, slice_index_or, slice_set, All, AllPairs}
+use Rattle.setoff_model.specs.Limits.{most_firms, most_claims, most_amount, most_window}
 use Rattle.setoff_model.specs.declared.cut.Party.{Party}
 use Rattle.setoff_model.specs.Setoff.{Obligations, total_of}
 use Rattle.setoff_model.specs.CutView.{spends, rooms}
@@ -58,7 +58,7 @@ pub record IsArcAmong (parties : List Party) (a : Arc) : Type 0 where
   pub creditor : a.creditor < length parties
   pub apart : a.debtor ≢ a.creditor
   pub some : 1 ≤ a.amount
-  pub limit : a.amount ≤ 262143999999737856
+  pub limit : a.amount ≤ most_claims * most_amount
 
 -- what holds of every net
 pub record IsNet (net : NetView) : Type 0 where
@@ -66,6 +66,6 @@ pub record IsNet (net : NetView) : Type 0 where
   pub few_arcs : length net.arcs ≤ most_claims
   pub pairs : AllPairs (λ a b. a.debtor ≡ b.debtor → a.creditor ≢ b.creditor) net.arcs
   pub arcs : All (IsArcAmong net.parties) net.arcs
-  pub total : total_of (arc_amounts net.arcs) ≤ 262143999999737856
+  pub total : total_of (arc_amounts net.arcs) ≤ most_claims * most_amount
   pub spends : All (λ f. f.spend ≤ most_window) net.parties
   pub rooms : All (λ f. f.room ≤ most_window) net.parties
