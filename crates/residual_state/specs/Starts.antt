@@ -1,5 +1,6 @@
 -- Excesses at the beginning.
-use Rattle.std.specs.Prelude.{◌≡◌, ◌≢◌, ℕ, ◌<◌, ◌≤◌, List, length, slice_index, ℤ, pos, ◌+ℤ◌, ◌-ℤ◌}
+use Rattle.std.specs.Prelude.{◌≡◌, ◌≢◌, ℕ, ◌*◌, ◌<◌, ◌≤◌, List, length, slice_index, ℤ, pos, ◌+ℤ◌, ◌-ℤ◌}
+use Rattle.setoff_model.specs.Limits.{most_claims, most_amount}
 use Rattle.setoff_model.specs.Setoff.{flow_at}
 use Rattle.residual_state.specs.Excesses.{excess_of}
 use Rattle.netting_graph.specs.declared.arc.Arc.{Arc}
@@ -15,7 +16,7 @@ pub record IsChanged (e f : List ℤ) (node : ℕ) (by : ℤ) : Type 0 where
 pub record AreInRange (nodes : ℕ) (arcs : List Arc) : Type 0 where
   pub debtor : (a : ℕ) → a < length arcs → slice_index (arc_debtors arcs) a < nodes
   pub creditor : (a : ℕ) → a < length arcs → slice_index (arc_creditors arcs) a < nodes
-  pub limit : (a : ℕ) → a < length arcs → slice_index (arc_amounts arcs) a ≤ 262143999999737856
+  pub limit : (a : ℕ) → a < length arcs → slice_index (arc_amounts arcs) a ≤ most_claims * most_amount
 
 -- of each node, what the first m arcs bring it less what they take from it
 abbrev pub IsDifference : List Arc → List ℤ → ℕ → Type 0
