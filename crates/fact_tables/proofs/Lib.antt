@@ -1,3 +1,4 @@
 pub mod Places
 pub mod Balances
 pub mod Flowing
+pub mod Keyed

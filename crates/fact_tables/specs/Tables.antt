@@ -1,5 +1,5 @@
 -- The tables of claims and accounts, and how an entry changes them.
-use Rattle.std.specs.Prelude.{ℕ, ◌-◌, ◌≤◌, ◌^◌, count_by, All, ◌∷◌, ◌++◌, [], List, map, pos, ◌+ℤ◌, ◌-ℤ◌, if◌then◌else◌}
+use Rattle.std.specs.Prelude.{◌≡◌, ℕ, ◌-◌, ◌≤◌, ◌^◌, count_by, All, ◌∷◌, ◌++◌, [], List, map, pos, ◌+ℤ◌, ◌-ℤ◌, if◌then◌else◌}
 use Rattle.setoff_model.specs.declared.name.Key.{Key}
 use Rattle.setoff_model.specs.Limits.{first_ceiling}
 use Rattle.setoff_model.specs.Same.{same_name, same_key}
@@ -97,6 +97,11 @@ FirmsOnce accounts = (firm : List ℕ) → count_by (λ a. same_name firm a.firm
 abbrev pub KeysOnce : List ClaimFact → Type 0
 KeysOnce claims = (key : Key) → count_by (λ c. same_key key c.key) claims ≤ 1
 
+-- the claims of the keys of an index, in its order, no key twice
+pub record AreClaims (keys : List Key) (claims : List ClaimFact) : Type 0 where
+  pub keys_are : keys ≡ map (λ c. c.key) claims
+  pub once : KeysOnce claims
+
 -- from -10^15 to 10^15 cents
 abbrev pub AreSmall : List AccountFact → Type 0
 AreSmall accounts = All (λ a. IsWithin (10 ^ 15) (10 ^ 15) a.balance) accounts
@@ -104,3 +109,8 @@ AreSmall accounts = All (λ a. IsWithin (10 ^ 15) (10 ^ 15) a.balance) accounts
 pub record AreAccounts (accounts : List AccountFact) : Type 0 where
   pub once : FirmsOnce accounts
   pub small : AreSmall accounts
+
+-- the accounts of the firms of an index, in its order
+pub record AreAccountsOf (names : List (List ℕ)) (accounts : List AccountFact) : Type 0 where
+  pub names_are : names ≡ map (λ a. a.firm) accounts
+  pub kept : AreAccounts accounts

@@ -1,5 +1,6 @@
 //! The accounts of a book.
-ghost use Rattle.std.specs.Prelude.{◌≡◌, ◌+◌, ◌<◌, ◌≤◌, ◌^◌, ◌++◌, ◌∷◌, [], find, map, length, position, vec_len, vec_capacity, true, OnOk, OnErr};
+ghost use Rattle.std.specs.Prelude.{◌≡◌, ◌+◌, ◌<◌, ◌≤◌, ◌^◌, ◌++◌, ◌∷◌, [], find, map, length, position, vec_len, vec_capacity, true, false, OnOk, OnErr};
+ghost use Rattle.std.specs.List.{list_any};
 ghost use Rattle.setoff_model.specs.Setoff.{total_of};
 ghost use Rattle.setoff_model.specs.Limits.{most_amount};
 ghost use Rattle.setoff_model.specs.Same.{same_name};
@@ -9,8 +10,9 @@ ghost use Rattle.fact_tables.specs.Tables.{new_account, funded, drawn, limited, 
 
 use crate::settling::discharge_accounts;
 use claim_history::{AccountFact, Act, Entry, accepted};
+use name_index::NameIndex;
 use setoff_model::limits::FIRST_CEILING;
-use setoff_model::{Cut, Name, same_names};
+use setoff_model::{Cut, Name};
 use std::alloc::{AllocError, Global};
 use std::marker::Model;
 
@@ -21,17 +23,18 @@ use std::marker::Model;
 #[derive(Drop)]
 pub struct AccountTable {
     facts: Vec<AccountFact>,
+    names: NameIndex,
 }
 
 impl Model for AccountTable {
-    ghost use Rattle.std.specs.Prelude.{◌-◌, vec_len, vec_capacity};
-    ghost use Rattle.fact_tables.specs.Tables.{AccountsView, AreAccounts};
+    ghost use Rattle.std.specs.Prelude.{◌-◌, min, vec_len, vec_capacity};
+    ghost use Rattle.fact_tables.specs.Tables.{AccountsView, AreAccountsOf};
 
     ghost Value = { AccountsView };
 
-    ghost view = { λ t. record { facts = t.facts.items; room = vec_capacity t.facts - vec_len t.facts } };
+    ghost view = { λ t. record { facts = t.facts.items; room = min (vec_capacity t.facts - vec_len t.facts) t.names.room } };
 
-    ghost invariant = { λ t. AreAccounts t.facts.items };
+    ghost invariant = { λ t. AreAccountsOf t.names.names t.facts.items };
 }
 
 impl AccountTable {
@@ -42,6 +45,7 @@ impl AccountTable {
     {
         AccountTable {
             facts: Vec::new(alloc),
+            names: NameIndex::new(alloc),
         }
     }
 
@@ -54,6 +58,7 @@ impl AccountTable {
         ensures kept { self.old.room ≤ self.new.room }
         ensures needed { OnErr result (self.old.room < accounts) }
     {
+        self.names.reserve(accounts)?;
         self.facts.reserve(accounts)
     }
 
@@ -68,7 +73,7 @@ impl AccountTable {
     pub fn find(&self, firm: &Name) -> Option<AccountFact>
         ensures { result ≡ find (λ a. same_name firm.now a.firm) self.now.facts }
     {
-        find_account(&self.facts, firm)
+        find_account(&self.facts, &self.names, firm)
     }
 
     /// Changes the accounts as an entry says, where it is accepted. There is room for one more, no firm is registered twice, and
@@ -80,7 +85,7 @@ impl AccountTable {
         ensures facts { self.new.facts ≡ accounts_with entry.now self.old.facts }
         ensures room { self.old.room ≤ self.new.room + 1 }
     {
-        change_accounts(&mut self.facts, entry);
+        change_accounts(&mut self.facts, &mut self.names, entry);
     }
 
     /// Puts into each account what the round of a cut discharged towards its firm, and takes out what it discharged by it. It takes
@@ -100,30 +105,36 @@ impl AccountTable {
 }
 
 // The place of a firm's account; None where the firm has none.
-fn account_place(accounts: &[AccountFact], firm: &Name) -> Option<usize>
+fn account_place(accounts: &[AccountFact], names: &NameIndex, firm: &Name) -> Option<usize>
+    requires { names.now.names ≡ map (λ a. a.firm) accounts.now }
     ensures { result ≡ position (λ a. same_name firm.now a.firm) accounts.now }
 {
-    accounts
-        .iter()
-        .position(|account| same_names(firm, &account.firm))
+    let _ = accounts;
+    names.place(firm)
 }
 
-fn find_account(accounts: &[AccountFact], firm: &Name) -> Option<AccountFact>
+fn find_account(accounts: &[AccountFact], names: &NameIndex, firm: &Name) -> Option<AccountFact>
+    requires { names.now.names ≡ map (λ a. a.firm) accounts.now }
     ensures { result ≡ find (λ a. same_name firm.now a.firm) accounts.now }
 {
-    match account_place(accounts, firm) {
+    match account_place(accounts, names, firm) {
         None => None,
         Some(place) => Some(accounts[place]),
     }
 }
 
 // Changes the accounts as `AccountTable::apply` does.
-fn change_accounts(accounts: &mut Vec<AccountFact>, entry: &Entry)
+fn change_accounts(accounts: &mut Vec<AccountFact>, names: &mut NameIndex, entry: &Entry)
     requires room { vec_len accounts.old < vec_capacity accounts.old }
+    requires names_room { 0 < names.old.room }
+    requires names { names.old.names ≡ map (λ a. a.firm) accounts.old.items }
+    requires after { FirmsOnce (accounts_with entry.now accounts.old.items) }
     requires once { FirmsOnce accounts.old.items }
     requires small { AreSmall accounts.old.items }
     requires valid { is_valid entry.now.act ≡ true }
     ensures items { accounts.new.items ≡ accounts_with entry.now accounts.old.items }
+    ensures names { names.new.names ≡ map (λ a. a.firm) accounts.new.items }
+    ensures names_room { names.old.room ≤ names.new.room + 1 }
     ensures len { vec_len accounts.new ≤ vec_len accounts.old + 1 }
     ensures capacity { vec_capacity accounts.old ≤ vec_capacity accounts.new }
 {
@@ -131,15 +142,15 @@ fn change_accounts(accounts: &mut Vec<AccountFact>, entry: &Entry)
         return;
     }
     match &entry.act {
-        Act::Firm { firm } => add_account(accounts, firm),
-        Act::Fund { firm, amount } => fund(accounts, firm, *amount),
-        Act::Draw { firm, amount } => draw(accounts, firm, *amount),
+        Act::Firm { firm } => add_account(accounts, names, firm),
+        Act::Fund { firm, amount } => fund(accounts, names, firm, *amount),
+        Act::Draw { firm, amount } => draw(accounts, names, firm, *amount),
         Act::Limit {
             firm,
             credit,
             ceiling,
-        } => set_limits(accounts, firm, *credit, *ceiling),
-        Act::Offer { firm, amount } => set_offer(accounts, firm, *amount),
+        } => set_limits(accounts, names, firm, *credit, *ceiling),
+        Act::Offer { firm, amount } => set_offer(accounts, names, firm, *amount),
         Act::File { .. }
         | Act::Confirm { .. }
         | Act::Dispute { .. }
@@ -152,12 +163,17 @@ fn change_accounts(accounts: &mut Vec<AccountFact>, entry: &Entry)
     }
 }
 
-fn add_account(accounts: &mut Vec<AccountFact>, firm: &Name)
-    requires { vec_len accounts.old < vec_capacity accounts.old }
+fn add_account(accounts: &mut Vec<AccountFact>, names: &mut NameIndex, firm: &Name)
+    requires room { vec_len accounts.old < vec_capacity accounts.old }
+    requires names_room { 0 < names.old.room }
+    requires new { list_any (same_name firm.now) names.old.names ≡ false }
+    ensures names { names.new.names ≡ names.old.names ++ firm.now ∷ [] }
+    ensures names_room { names.old.room ≤ names.new.room + 1 }
     ensures items { accounts.new.items ≡ accounts.old.items ++ new_account firm.now ∷ [] }
     ensures len { vec_len accounts.new ≡ vec_len accounts.old + 1 }
     ensures capacity { vec_capacity accounts.old ≤ vec_capacity accounts.new }
 {
+    names.add(*firm);
     let _ = accounts.push(AccountFact {
         firm: *firm,
         balance: 0,
@@ -167,46 +183,56 @@ fn add_account(accounts: &mut Vec<AccountFact>, firm: &Name)
     });
 }
 
-fn fund(accounts: &mut [AccountFact], firm: &Name, amount: u64)
+fn fund(accounts: &mut [AccountFact], names: &NameIndex, firm: &Name, amount: u64)
+    requires names { names.now.names ≡ map (λ a. a.firm) accounts.old }
     requires once { FirmsOnce accounts.old }
     requires small { AreSmall accounts.old }
     requires amount { amount ≤ most_amount }
     ensures { accounts.new ≡ map (funded firm.now amount) accounts.old }
 {
-    if let Some(place) = account_place(accounts, firm) {
+    if let Some(place) = account_place(accounts, names, firm) {
         let account = &mut accounts[place];
         account.balance += amount as i64;
     }
 }
 
-fn draw(accounts: &mut [AccountFact], firm: &Name, amount: u64)
+fn draw(accounts: &mut [AccountFact], names: &NameIndex, firm: &Name, amount: u64)
+    requires names { names.now.names ≡ map (λ a. a.firm) accounts.old }
     requires once { FirmsOnce accounts.old }
     requires small { AreSmall accounts.old }
     requires amount { amount ≤ most_amount }
     ensures { accounts.new ≡ map (drawn firm.now amount) accounts.old }
 {
-    if let Some(place) = account_place(accounts, firm) {
+    if let Some(place) = account_place(accounts, names, firm) {
         let account = &mut accounts[place];
         account.balance -= amount as i64;
     }
 }
 
-fn set_limits(accounts: &mut [AccountFact], firm: &Name, credit: u64, ceiling: u64)
-    requires { FirmsOnce accounts.old }
+fn set_limits(
+    accounts: &mut [AccountFact],
+    names: &NameIndex,
+    firm: &Name,
+    credit: u64,
+    ceiling: u64,
+)
+    requires names { names.now.names ≡ map (λ a. a.firm) accounts.old }
+    requires once { FirmsOnce accounts.old }
     ensures { accounts.new ≡ map (limited firm.now credit ceiling) accounts.old }
 {
-    if let Some(place) = account_place(accounts, firm) {
+    if let Some(place) = account_place(accounts, names, firm) {
         let account = &mut accounts[place];
         account.credit = credit;
         account.ceiling = ceiling;
     }
 }
 
-fn set_offer(accounts: &mut [AccountFact], firm: &Name, amount: u64)
-    requires { FirmsOnce accounts.old }
+fn set_offer(accounts: &mut [AccountFact], names: &NameIndex, firm: &Name, amount: u64)
+    requires names { names.now.names ≡ map (λ a. a.firm) accounts.old }
+    requires once { FirmsOnce accounts.old }
     ensures { accounts.new ≡ map (offered firm.now amount) accounts.old }
 {
-    if let Some(place) = account_place(accounts, firm) {
+    if let Some(place) = account_place(accounts, names, firm) {
         let account = &mut accounts[place];
         account.offer = amount;
     }

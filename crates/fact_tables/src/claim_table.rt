@@ -1,5 +1,5 @@
 //! The claims of a book.
-ghost use Rattle.std.specs.Prelude.{◌≡◌, ◌+◌, ◌<◌, ◌≤◌, ◌++◌, ◌∷◌, [], ◌^◌, ◌&&◌, sum, filter, find, map, length, position, vec_len, vec_capacity, OnOk, OnErr};
+ghost use Rattle.std.specs.Prelude.{◌≡◌, ◌+◌, ◌<◌, ◌≤◌, ◌++◌, ◌∷◌, [], ◌^◌, ◌&&◌, sum, filter, find, map, set, length, get_or, OnOk, OnErr};
 ghost use Rattle.setoff_model.specs.Same.{same_name, same_key};
 ghost use Rattle.claim_history.specs.Facts.{is_confirmed as confirmed};
 ghost use Rattle.fact_tables.specs.Settling.{settled_claim};
@@ -7,7 +7,8 @@ ghost use Rattle.fact_tables.specs.Tables.{new_claim, with_status, with_receipt,
 
 use crate::settling::discharge_claims;
 use claim_history::{Act, ClaimFact, Day, Entry, Status, accepted};
-use setoff_model::{Cut, Key, Name, same_keys, same_names};
+use name_index::KeyIndex;
+use setoff_model::{Cut, Key, Name, same_names};
 use std::alloc::{AllocError, Global};
 use std::marker::Model;
 
@@ -17,17 +18,18 @@ use std::marker::Model;
 #[derive(Drop)]
 pub struct ClaimTable {
     facts: Vec<ClaimFact>,
+    keys: KeyIndex,
 }
 
 impl Model for ClaimTable {
-    ghost use Rattle.std.specs.Prelude.{◌-◌, vec_len, vec_capacity};
-    ghost use Rattle.fact_tables.specs.Tables.{ClaimsView, KeysOnce};
+    ghost use Rattle.std.specs.Prelude.{◌-◌, min, vec_len, vec_capacity};
+    ghost use Rattle.fact_tables.specs.Tables.{ClaimsView, AreClaims};
 
     ghost Value = { ClaimsView };
 
-    ghost view = { λ t. record { facts = t.facts.items; room = vec_capacity t.facts - vec_len t.facts } };
+    ghost view = { λ t. record { facts = t.facts.items; room = min (vec_capacity t.facts - vec_len t.facts) t.keys.room } };
 
-    ghost invariant = { λ t. KeysOnce t.facts.items };
+    ghost invariant = { λ t. AreClaims t.keys.keys t.facts.items };
 }
 
 impl ClaimTable {
@@ -38,6 +40,7 @@ impl ClaimTable {
     {
         ClaimTable {
             facts: Vec::new(alloc),
+            keys: KeyIndex::new(alloc),
         }
     }
 
@@ -50,6 +53,7 @@ impl ClaimTable {
         ensures kept { self.old.room ≤ self.new.room }
         ensures needed { OnErr result (self.old.room < claims) }
     {
+        self.keys.reserve(claims)?;
         self.facts.reserve(claims)
     }
 
@@ -64,7 +68,10 @@ impl ClaimTable {
     pub fn find(&self, key: &Key) -> Option<ClaimFact>
         ensures { result ≡ find (λ c. same_key key.now c.key) self.now.facts }
     {
-        find_claim(&self.facts, key)
+        match self.keys.place(key) {
+            None => None,
+            Some(place) => Some(self.facts[place]),
+        }
     }
 
     /// What a firm is owed on its confirmed claims, in cents.
@@ -99,7 +106,30 @@ impl ClaimTable {
         ensures facts { self.new.facts ≡ claims_with entry.now self.old.facts }
         ensures room { self.old.room ≤ self.new.room + 1 }
     {
-        change_claims(&mut self.facts, entry);
+        if !accepted(entry) {
+            return;
+        }
+        match &entry.act {
+            Act::File {
+                key,
+                debtor,
+                amount,
+                due,
+            } => self.add_claim(key, debtor, *amount, due),
+            Act::Confirm { key, .. } => self.set_status(key, Status::Confirmed),
+            Act::Dispute { key, .. } => self.set_status(key, Status::Disputed),
+            Act::Withdraw { key } => self.set_status(key, Status::Withdrawn),
+            Act::Receive { key, amount } => self.receive(key, *amount),
+            Act::Firm { .. }
+            | Act::Fund { .. }
+            | Act::Draw { .. }
+            | Act::Limit { .. }
+            | Act::Offer { .. }
+            | Act::Position { .. }
+            | Act::Close { .. }
+            | Act::Abandon
+            | Act::Publish { .. } => {}
+        }
     }
 
     /// Takes off each claim what the round of a cut discharged of it. There is one discharge for each claim of the cut. It takes no
@@ -113,21 +143,58 @@ impl ClaimTable {
     {
         discharge_claims(&mut self.facts, cut, discharges);
     }
-}
 
-// The place of a claim; None where the key was never filed.
-fn claim_place(claims: &[ClaimFact], key: &Key) -> Option<usize>
-    ensures { result ≡ position (λ c. same_key key.now c.key) claims.now }
-{
-    claims.iter().position(|claim| same_keys(key, &claim.key))
-}
+    fn add_claim(&mut self, key: &Key, debtor: &Name, amount: u64, due: &Day)
+        requires room { 0 < self.old.room }
+        requires once { KeysOnce (self.old.facts ++ new_claim key.now debtor.now amount due.now ∷ []) }
+        ensures facts { self.new.facts ≡ self.old.facts ++ new_claim key.now debtor.now amount due.now ∷ [] }
+        ensures room { self.old.room ≤ self.new.room + 1 }
+    {
+        self.keys.add(*key);
+        let _ = self.facts.push(ClaimFact {
+            key: *key,
+            debtor: *debtor,
+            status: Status::Filed,
+            amount,
+            left: amount,
+            due: *due,
+        });
+    }
 
-fn find_claim(claims: &[ClaimFact], key: &Key) -> Option<ClaimFact>
-    ensures { result ≡ find (λ c. same_key key.now c.key) claims.now }
-{
-    match claim_place(claims, key) {
-        None => None,
-        Some(place) => Some(claims[place]),
+    fn set_status(&mut self, key: &Key, status: Status)
+        ensures facts { self.new.facts ≡ map (with_status key.now status) self.old.facts }
+        ensures room { self.new.room ≡ self.old.room }
+    {
+        if let Some(place) = self.keys.place(key) {
+            let claim = self.facts[place];
+            self.put(place, ClaimFact { status, ..claim });
+        }
+    }
+
+    fn receive(&mut self, key: &Key, amount: u64)
+        ensures facts { self.new.facts ≡ map (with_receipt key.now amount) self.old.facts }
+        ensures room { self.new.room ≡ self.old.room }
+    {
+        if let Some(place) = self.keys.place(key) {
+            let claim = self.facts[place];
+            self.put(
+                place,
+                ClaimFact {
+                    left: claim.left.saturating_sub(amount),
+                    ..claim
+                },
+            );
+        }
+    }
+
+    // Puts a claim of the same key at a place.
+    fn put(&mut self, place: usize, claim: ClaimFact)
+        requires within { place < length self.old.facts }
+        requires key { claim.key ≡ (get_or self.old.facts place claim).key }
+        ensures facts { self.new.facts ≡ set self.old.facts place claim }
+        ensures room { self.new.room ≡ self.old.room }
+    {
+        self.facts[place] = claim;
     }
 }
 
@@ -135,74 +202,4 @@ fn is_confirmed(status: Status) -> bool
     ensures { result ≡ confirmed status }
 {
     matches!(status, Status::Confirmed)
-}
-
-// Changes the claims as `ClaimTable::apply` does.
-fn change_claims(claims: &mut Vec<ClaimFact>, entry: &Entry)
-    requires room { vec_len claims.old < vec_capacity claims.old }
-    requires once { KeysOnce claims.old.items }
-    ensures items { claims.new.items ≡ claims_with entry.now claims.old.items }
-    ensures len { vec_len claims.new ≤ vec_len claims.old + 1 }
-    ensures capacity { vec_capacity claims.old ≤ vec_capacity claims.new }
-{
-    if !accepted(entry) {
-        return;
-    }
-    match &entry.act {
-        Act::File {
-            key,
-            debtor,
-            amount,
-            due,
-        } => add_claim(claims, key, debtor, *amount, due),
-        Act::Confirm { key, .. } => set_status(claims, key, Status::Confirmed),
-        Act::Dispute { key, .. } => set_status(claims, key, Status::Disputed),
-        Act::Withdraw { key } => set_status(claims, key, Status::Withdrawn),
-        Act::Receive { key, amount } => receive(claims, key, *amount),
-        Act::Firm { .. }
-        | Act::Fund { .. }
-        | Act::Draw { .. }
-        | Act::Limit { .. }
-        | Act::Offer { .. }
-        | Act::Position { .. }
-        | Act::Close { .. }
-        | Act::Abandon
-        | Act::Publish { .. } => {}
-    }
-}
-
-fn add_claim(claims: &mut Vec<ClaimFact>, key: &Key, debtor: &Name, amount: u64, due: &Day)
-    requires { vec_len claims.old < vec_capacity claims.old }
-    ensures items { claims.new.items ≡ claims.old.items ++ new_claim key.now debtor.now amount due.now ∷ [] }
-    ensures len { vec_len claims.new ≡ vec_len claims.old + 1 }
-    ensures capacity { vec_capacity claims.old ≤ vec_capacity claims.new }
-{
-    let _ = claims.push(ClaimFact {
-        key: *key,
-        debtor: *debtor,
-        status: Status::Filed,
-        amount,
-        left: amount,
-        due: *due,
-    });
-}
-
-fn set_status(claims: &mut [ClaimFact], key: &Key, status: Status)
-    requires { KeysOnce claims.old }
-    ensures { claims.new ≡ map (with_status key.now status) claims.old }
-{
-    if let Some(place) = claim_place(claims, key) {
-        let claim = &mut claims[place];
-        claim.status = status;
-    }
-}
-
-fn receive(claims: &mut [ClaimFact], key: &Key, amount: u64)
-    requires { KeysOnce claims.old }
-    ensures { claims.new ≡ map (with_receipt key.now amount) claims.old }
-{
-    if let Some(place) = claim_place(claims, key) {
-        let claim = &mut claims[place];
-        claim.left = claim.left.saturating_sub(amount);
-    }
 }

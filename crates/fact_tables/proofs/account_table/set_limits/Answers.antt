@@ -7,7 +7,7 @@ use Rattle.fact_tables.proofs.account_table.set_limits.Goals as goal
 pub returns-in-Some : goal.returns-in-Some
 returns-in-Some c =
     step_at (λ (a : AccountFact). same_name c.args.firm.now a.firm) (λ a. record a { credit = c.args.credit; ceiling = c.args.ceiling }) c.args.accounts.now c.in-Some.place c.index-accounts-place.result
-    (sym c.account_place.ensures ∙ c.in-Some.is) (c.requires c.args.firm.now)
+    (sym c.account_place.ensures ∙ c.in-Some.is) (c.requires.once c.args.firm.now)
 
 pub returns-in_default : goal.returns-in_default
 returns-in_default c =

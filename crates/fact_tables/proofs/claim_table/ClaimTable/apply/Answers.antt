@@ -1,8 +1,11 @@
-use Rattle.std.proofs.Common.{sym, ◌∙◌, ap, subst}
-use Rattle.fact_tables.specs.Tables.{ClaimsView, KeysOnce, claims_with}
+use Rattle.std.specs.Prelude.{if◌then◌else◌}
+use Rattle.std.proofs.Common.{Bool, sym, ◌∙◌, ap, subst}
+use Rattle.claim_history.specs.declared.act.Act.{Act}
+use Rattle.fact_tables.specs.Tables.{KeysOnce, claims_after}
 use Rattle.fact_tables.proofs.claim_table.ClaimTable.apply.Goals as goal
 
-pub invariant_of-self : goal.invariant_of-self
-invariant_of-self c =
-    let is = c.change_claims.ensures.items ∙ ap (λ (t : ClaimsView). claims_with c.args.entry.now t.facts) c.self.view_is in
-    subst KeysOnce (sym is) c.requires.once
+pub add_claim-requires-clause-once : goal.add_claim-requires-clause-once
+add_claim-requires-clause-once c =
+    let facts = c.args.self.now.facts in
+    let accepted = sym c.accepted.ensures ∙ c.if-not-accepted.false in
+    subst KeysOnce (ap (λ (b : Bool). if b then claims_after c.args.entry.now.act facts else facts) accepted ∙ ap (λ (a : Act). claims_after a facts) c.in-File.is) c.requires.once

@@ -1,0 +1,81 @@
+-- Rows and the index of their keys.
+use Rattle.std.specs.Prelude.{if◌then◌else◌, take, map, set, position, Option, Some, None, sum_by, count_by}
+use Rattle.std.specs.List.{list_any}
+use Rattle.std.proofs.Common.{take_all, ◌≡◌, ℕ, ◌+◌, ◌≤◌, Bool, true, false, cond, ◌||◌, List, [], ◌∷◌, ◌++◌, nat_lt, length, get_or, refl, sym, ◌∙◌, ap, ap₂, subst, arith}
+use Rattle.std.proofs.lemmas.List.{length-map, map-append, take-append-le}
+use Rattle.std.proofs.Math.Seq.{map-set_same}
+use Rattle.std.proofs.lemmas.List.Sums.{sum_by-append}
+use Rattle.setoff_model.proofs.Lists.{place_map}
+use Rattle.setoff_model.specs.Same.{same_key}
+use Rattle.setoff_model.specs.declared.name.Key.{Key}
+use Rattle.claim_history.specs.declared.fact.ClaimFact.{ClaimFact}
+use Rattle.fact_tables.specs.Tables.{AreClaims, KeysOnce}
+use Rattle.fact_tables.proofs.Places.{count_cons, sum_by-map}
+
+-- ---- a place in the index is one in the rows
+
+pub position-map : {X Y : Type 0} (h : X → Y) (p : Y → Bool) (xs : List X) → position p (map h xs) ≡ position (λ x. p (h x)) xs
+position-map h p xs = ap₂ (λ (a n : ℕ). cond (nat_lt a n) (Some a) None) (place_map h p xs) (length-map xs h)
+
+module _ {X Y : Type 0} (h : X → Y) (p : Y → Bool) (ys : List Y) (xs : List X) (keys_are : ys ≡ map h xs) where
+  pub row_place : (r : Option ℕ) → r ≡ position p ys → position (λ x. p (h x)) xs ≡ r
+  row_place r at = sym (position-map h p xs) ∙ ap (position p) (sym keys_are) ∙ sym at
+
+-- ---- one more row
+
+none_counted : (b : Bool) (n : ℕ) → cond b 1 0 + n ≡ 0 → (b ≡ false)
+none_counted true n e = absurd (omega (arith, e))
+none_counted false n e = refl
+
+pub none_any : {X : Type 0} (p : X → Bool) (xs : List X) → count_by p xs ≡ 0 → list_any p xs ≡ false
+none_any p [] none = refl
+none_any p (x ∷ xs) none =
+    let both : cond (p x) 1 0 + count_by p xs ≡ 0 = sym (count_cons p x xs) ∙ none in
+    ap₂ (λ (a b : Bool). a || b) (none_counted (p x) (count_by p xs) both) (none_any p xs (omega (arith, both)))
+
+last_counted : (n : ℕ) (b : Bool) → b ≡ true → n + (cond b 1 0 + 0) ≤ 1 → n ≡ 0
+last_counted n b is le = omega (arith, subst (λ c. n + (cond c 1 0 + 0) ≤ 1) is le)
+
+-- where none is twice, the last is none of those before it
+pub is_new : {X Y : Type 0} (h : X → Y) (p : Y → Bool) (ys : List Y) (xs : List X) (x : X) → ys ≡ map h xs → p (h x) ≡ true → count_by (λ z. p (h z)) (xs ++ x ∷ []) ≤ 1 → list_any p ys ≡ false
+is_new h p ys xs x keys_are is once =
+    let counted : count_by (λ z. p (h z)) xs + (cond (p (h x)) 1 0 + 0) ≤ 1 = subst (λ n. n ≤ 1) (sum_by-append (λ z. cond (p (h z)) 1 0) xs (x ∷ []) ∙ ap (λ n. count_by (λ z. p (h z)) xs + n) (count_cons (λ z. p (h z)) x [])) once in
+    let none : count_by p ys ≡ 0 = ap (count_by p) keys_are ∙ sum_by-map (λ y. cond (p y) 1 0) h xs ∙ last_counted (count_by (λ z. p (h z)) xs) (p (h x)) is counted in
+    none_any p ys none
+
+pub longer : {X Y : Type 0} (h : X → Y) (ys : List Y) (xs : List X) (x : X) → ys ≡ map h xs → ys ++ h x ∷ [] ≡ map h (xs ++ x ∷ [])
+longer h ys xs x keys_are = ap (λ zs. zs ++ h x ∷ []) keys_are ∙ sym (map-append h xs (x ∷ []))
+
+-- a step that leaves each key leaves the keys
+pub same_keys : {X Y : Type 0} (h : X → Y) (step : X → X) (xs : List X) → ((x : X) → h (step x) ≡ h x) → map h (map step xs) ≡ map h xs
+same_keys h step [] same = refl
+same_keys h step (x ∷ xs) same = ap₂ (λ y ys. y ∷ ys) (same x) (same_keys h step xs same)
+
+-- a row that is changed or left keeps its key
+pub if_same : {X Y : Type 0} (h : X → Y) (b : Bool) (x y : X) → h x ≡ h y → h (if b then x else y) ≡ h y
+if_same h true x y same = same
+if_same h false x y same = refl
+
+-- the keys of rows that were written in place
+pub written : {X Y : Type 0} (h : X → Y) (step : X → X) (n : ℕ) (ks : List Y) (xs ys zs rest : List X) → ks ≡ map h xs → ((x : X) → h (step x) ≡ h x) → ys ≡ map step zs → zs ≡ xs → length zs ≡ n
+    → ks ≡ map h (take n (ys ++ rest))
+written {X = X} h step n ks xs ys zs rest keys_are same stepped read long =
+    let len : length ys ≡ n = ap length stepped ∙ length-map zs step ∙ long in
+    let le : n ≤ length ys = omega (arith, len) in
+    let ge : length ys ≤ n = omega (arith, len) in
+    keys_are ∙ ap (map h) (sym read) ∙ sym (same_keys h step zs same) ∙ ap (map h) (sym stepped) ∙ sym (ap (map h) (take-append-le n ys rest le ∙ take_all n ys ge))
+
+-- ---- claims
+
+-- how often a key stands is told by the keys
+keys_once : (xs ys : List ClaimFact) → map (λ c. c.key) xs ≡ map (λ c. c.key) ys → KeysOnce xs → KeysOnce ys
+keys_once xs ys same once key =
+    let test = λ (k : Key). cond (same_key key k) 1 0 in
+    subst (λ n. n ≤ 1) (sym (sum_by-map test (λ (c : ClaimFact). c.key) xs) ∙ ap (sum_by test) same ∙ sum_by-map test (λ (c : ClaimFact). c.key) ys) (once key)
+
+-- claims with the same keys
+pub same_claims : (keys : List Key) (xs ys : List ClaimFact) → map (λ c. c.key) ys ≡ map (λ c. c.key) xs → AreClaims keys xs → AreClaims keys ys
+same_claims keys xs ys same are = record { keys_are = are.keys_are ∙ sym same; once = keys_once xs ys (sym same) are.once }
+
+pub claim_put : (keys : List Key) (xs : List ClaimFact) (i : ℕ) (y d : ClaimFact) → y.key ≡ (get_or xs i d).key → AreClaims keys xs → AreClaims keys (set xs i y)
+claim_put keys xs i y d same are = same_claims keys xs (set xs i y) (map-set_same (λ (c : ClaimFact). c.key) xs i y d same) are

@@ -1,0 +1,24 @@
+use Rattle.std.specs.Prelude.{if◌then◌else◌, Bool, ◌++◌, ◌∷◌, []}
+use Rattle.std.proofs.Common.{◌<◌, sym, ◌∙◌, ap, subst, arith}
+use Rattle.setoff_model.specs.Same.{same_key}
+use Rattle.setoff_model.proofs.SameNames.{key_same}
+use Rattle.claim_history.specs.declared.fact.ClaimFact.{ClaimFact}
+use Rattle.fact_tables.specs.Tables.{ClaimsView, new_claim, KeysOnce}
+use Rattle.fact_tables.proofs.Keyed.{is_new, longer}
+use Rattle.fact_tables.proofs.claim_table.ClaimTable.add_claim.Goals as goal
+
+pub add-requires-clause-new : goal.add-requires-clause-new
+add-requires-clause-new c =
+    let claim = new_claim c.args.key.now c.args.debtor.now c.args.amount c.args.due.now in
+    let once = subst (λ (t : ClaimsView). KeysOnce (t.facts ++ claim ∷ [])) (sym c.self.view_is) c.requires.once in
+    is_new (λ (r : ClaimFact). r.key) (same_key c.args.key.now) c.self.inside.keys.keys c.self.inside.facts.items claim c.self.invariant.keys_are (key_same c.args.key.now) (once c.args.key.now)
+
+pub invariant_of-self : goal.invariant_of-self
+invariant_of-self c =
+    let claim = new_claim c.args.key.now c.args.debtor.now c.args.amount c.args.due.now in
+    let facts = c.self.inside.facts.items in
+    let once = subst (λ (t : ClaimsView). KeysOnce (t.facts ++ claim ∷ [])) (sym c.self.view_is) c.requires.once in
+    let room = subst (λ (t : ClaimsView). 0 < t.room) (sym c.self.view_is) c.requires.room in
+    let pushed = c.push.ensures.items ∙ ap (λ (b : Bool). if b then facts ++ claim ∷ [] else facts) (c.push.ensures.succeeds (omega (arith, room))) in
+    rw (pushed, c.add.ensures.keys)
+    (record { keys_are = longer (λ (r : ClaimFact). r.key) c.self.inside.keys.keys facts claim c.self.invariant.keys_are; once = once })
