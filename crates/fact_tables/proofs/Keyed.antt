@@ -1,25 +1,15 @@
 -- Rows and the index of their keys.
-use Rattle.std.specs.Prelude.{if◌then◌else◌, take, map, set, position, Option, Some, None, sum_by, count_by}
+use Rattle.std.specs.Prelude.{if◌then◌else◌, take, map, set, sum_by, count_by}
 use Rattle.std.specs.List.{list_any}
-use Rattle.std.proofs.Common.{take_all, ◌≡◌, ℕ, ◌+◌, ◌≤◌, Bool, true, false, cond, ◌||◌, List, [], ◌∷◌, ◌++◌, nat_lt, length, get_or, refl, sym, ◌∙◌, ap, ap₂, subst, arith}
-use Rattle.std.proofs.lemmas.List.{length-map, map-append, take-append-le}
+use Rattle.std.proofs.Common.{take_all, ◌≡◌, ℕ, ◌+◌, ◌≤◌, Bool, true, false, cond, ◌||◌, List, [], ◌∷◌, ◌++◌, length, get_or, refl, sym, ◌∙◌, ap, ap₂, subst, arith}
+use Rattle.std.proofs.lemmas.List.{length-map, take-append-le}
 use Rattle.std.proofs.Math.Seq.{map-set_same}
 use Rattle.std.proofs.lemmas.List.Sums.{sum_by-append}
-use Rattle.setoff_model.proofs.Lists.{place_map}
 use Rattle.setoff_model.specs.Same.{same_key}
 use Rattle.setoff_model.specs.declared.name.Key.{Key}
 use Rattle.claim_history.specs.declared.fact.ClaimFact.{ClaimFact}
 use Rattle.fact_tables.specs.Tables.{AreClaims, KeysOnce}
 use Rattle.fact_tables.proofs.Places.{count_cons, sum_by-map}
-
--- ---- a place in the index is one in the rows
-
-pub position-map : {X Y : Type 0} (h : X → Y) (p : Y → Bool) (xs : List X) → position p (map h xs) ≡ position (λ x. p (h x)) xs
-position-map h p xs = ap₂ (λ (a n : ℕ). cond (nat_lt a n) (Some a) None) (place_map h p xs) (length-map xs h)
-
-module _ {X Y : Type 0} (h : X → Y) (p : Y → Bool) (ys : List Y) (xs : List X) (keys_are : ys ≡ map h xs) where
-  pub row_place : (r : Option ℕ) → r ≡ position p ys → position (λ x. p (h x)) xs ≡ r
-  row_place r at = sym (position-map h p xs) ∙ ap (position p) (sym keys_are) ∙ sym at
 
 -- ---- one more row
 
@@ -42,9 +32,6 @@ is_new h p ys xs x keys_are is once =
     let counted : count_by (λ z. p (h z)) xs + (cond (p (h x)) 1 0 + 0) ≤ 1 = subst (λ n. n ≤ 1) (sum_by-append (λ z. cond (p (h z)) 1 0) xs (x ∷ []) ∙ ap (λ n. count_by (λ z. p (h z)) xs + n) (count_cons (λ z. p (h z)) x [])) once in
     let none : count_by p ys ≡ 0 = ap (count_by p) keys_are ∙ sum_by-map (λ y. cond (p y) 1 0) h xs ∙ last_counted (count_by (λ z. p (h z)) xs) (p (h x)) is counted in
     none_any p ys none
-
-pub longer : {X Y : Type 0} (h : X → Y) (ys : List Y) (xs : List X) (x : X) → ys ≡ map h xs → ys ++ h x ∷ [] ≡ map h (xs ++ x ∷ [])
-longer h ys xs x keys_are = ap (λ zs. zs ++ h x ∷ []) keys_are ∙ sym (map-append h xs (x ∷ []))
 
 -- a step that leaves each key leaves the keys
 pub same_keys : {X Y : Type 0} (h : X → Y) (step : X → X) (xs : List X) → ((x : X) → h (step x) ≡ h x) → map h (map step xs) ≡ map h xs

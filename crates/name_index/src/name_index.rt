@@ -61,4 +61,14 @@ impl NameIndex {
     {
         self.names.insert(name).unwrap();
     }
+
+    /// Puts a name at the end that was not added before. The only error is that memory is missing.
+    pub fn push(&mut self, name: Name) -> Result<(), AllocError>
+        requires { list_any (same_name name) self.old.names ≡ false }
+        ensures { OnOk result (self.new.names ≡ self.old.names ++ name ∷ []) }
+    {
+        self.reserve(1)?;
+        self.add(name);
+        Ok(())
+    }
 }

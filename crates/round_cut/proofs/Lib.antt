@@ -7,3 +7,4 @@ pub mod Formed
 pub mod History
 pub mod Worked
 pub mod OpenCut
+pub mod Indexed

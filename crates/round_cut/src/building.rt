@@ -1,12 +1,13 @@
 //! The cut of claims and accounts.
-ghost use Rattle.std.specs.Prelude.{◌≡◌, ◌+◌, ◌<◌, ◌≤◌, ◌^◌, ◌++◌, ◌∷◌, [], All, IfOk, OnOk, vec_len};
+ghost use Rattle.std.specs.Prelude.{◌≡◌, ◌+◌, ◌<◌, ◌≤◌, ◌^◌, ◌++◌, ◌∷◌, [], All, IfOk, OnOk, map, vec_len};
 ghost use Rattle.setoff_model.specs.CutView.{WellFormed};
 ghost use Rattle.round_cut.specs.Windows.{KeepsLimits};
 ghost use Rattle.round_cut.specs.CutOfFacts.{takes_part, cut_of_facts, AreFacts};
 ghost use Rattle.round_cut.specs.Growing.{with_parties_of, placed};
 
-use crate::parties::place_of;
+use crate::parties::{firms_of, place_of};
 use claim_history::{AccountFact, ClaimFact, Day, Status};
+use name_index::NameIndex;
 use setoff_model::{Cut, CutClaim, Kind, Party};
 use std::alloc::{AllocError, Global};
 
@@ -14,9 +15,7 @@ use std::alloc::{AllocError, Global};
 /// or before the horizon, in their order, each with its open amount, and the firms that they name with their windows.
 ///
 /// The parties stand in order of first appearance, the debtor of a claim before its creditor. Each claim is looked at
-/// once. For one that takes part, its two firms are looked up among the parties so far, and the account of a new party
-/// among all accounts: so the time grows with the claims that take part times the parties, and with the parties times
-/// the accounts. An error is want of memory.
+/// once, and firms are found by an index, so the time grows with the claims and the accounts. An error is want of memory.
 pub fn build_cut(
     alloc: Global,
     claims: &[ClaimFact],
@@ -29,11 +28,13 @@ pub fn build_cut(
     ensures cut { IfOk result (λ cut. cut ≡ cut_of_facts round claims.now accounts.now kind horizon) }
     ensures formed { IfOk result WellFormed }
 {
+    let firms = firms_of(alloc, accounts)?;
     let mut parties = Vec::new(alloc);
+    let mut names = NameIndex::new(alloc);
     let mut due = Vec::new(alloc);
     for claim in claims {
         if is_due(claim, horizon) {
-            add_claim(&mut parties, &mut due, accounts, kind, claim)?;
+            add_claim(&mut parties, &mut names, &mut due, accounts, &firms, kind, claim)?;
         }
     }
     Ok(Cut::new(round, kind, parties, due))
@@ -51,19 +52,24 @@ fn is_due(claim: &ClaimFact, horizon: Day) -> bool
 // Adds a claim that takes part, and its firms to the parties where they are not among them.
 fn add_claim(
     parties: &mut Vec<Party>,
+    names: &mut NameIndex,
     due: &mut Vec<CutClaim>,
     accounts: &[AccountFact],
+    firms: &NameIndex,
     kind: Kind,
     claim: &ClaimFact,
 ) -> Result<(), AllocError>
     requires limits { All KeepsLimits accounts.now }
     requires few { vec_len parties.old + 1 < 2 ^ 32 }
+    requires names { names.old.names ≡ map (λ p. p.firm) parties.old.items }
+    requires firms { firms.now.names ≡ map (λ a. a.firm) accounts.now }
+    ensures names { OnOk result (names.new.names ≡ map (λ p. p.firm) parties.new.items) }
     ensures parties { OnOk result (parties.new.items ≡ with_parties_of accounts.now kind claim.now parties.old.items) }
     ensures due { OnOk result (due.new.items ≡ due.old.items ++ placed parties.new.items claim.now ∷ []) }
     ensures len { vec_len parties.new ≤ vec_len parties.old + 2 }
 {
-    let debtor = place_of(parties, accounts, kind, &claim.debtor)?;
-    let creditor = place_of(parties, accounts, kind, &claim.key.creditor)?;
+    let debtor = place_of(parties, names, accounts, firms, kind, &claim.debtor)?;
+    let creditor = place_of(parties, names, accounts, firms, kind, &claim.key.creditor)?;
     due.push(CutClaim {
         key: claim.key,
         debtor,

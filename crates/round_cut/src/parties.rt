@@ -1,5 +1,5 @@
 //! The parties of a cut, found by their firms.
-ghost use Rattle.std.specs.Prelude.{◌≡◌, ◌+◌, ◌<◌, ◌≤◌, ◌^◌, All, IfOk, OnOk, position, vec_len};
+ghost use Rattle.std.specs.Prelude.{◌≡◌, ◌≢◌, ◌+◌, ◌<◌, ◌≤◌, ◌^◌, All, AllPairs, IfOk, OnOk, map, position, vec_len};
 ghost use Rattle.std.specs.List.{position_or_len};
 ghost use Rattle.setoff_model.specs.Same.{same_name};
 ghost use Rattle.round_cut.specs.Windows.{KeepsLimits};
@@ -8,48 +8,69 @@ ghost use Rattle.round_cut.specs.Growing.{is_party, with_party};
 
 use crate::windows::window;
 use claim_history::AccountFact;
-use setoff_model::{Kind, Name, Party, same_names};
-use std::alloc::AllocError;
+use name_index::NameIndex;
+use setoff_model::{Kind, Name, Party};
+use std::alloc::{AllocError, Global};
+
+/// An index of the firms of the accounts. The only error is that memory is missing.
+pub fn firms_of(alloc: Global, accounts: &[AccountFact]) -> Result<NameIndex, AllocError>
+    requires { AllPairs (λ a b. a.firm ≢ b.firm) accounts.now }
+    ensures { IfOk result (λ firms. firms.names ≡ map (λ a. a.firm) accounts.now) }
+{
+    let mut firms = NameIndex::new(alloc);
+    for account in accounts {
+        firms.push(account.firm)?;
+    }
+    Ok(firms)
+}
 
 /// The place of a firm among the parties. A firm that is none of them is put at the end, with its window.
 ///
-/// It looks at each party, and for a new one at each account. An error is want of memory.
+/// The names are those of the parties, and the firms those of the accounts. An error is want of memory.
 pub fn place_of(
     parties: &mut Vec<Party>,
+    names: &mut NameIndex,
     accounts: &[AccountFact],
+    firms: &NameIndex,
     kind: Kind,
     firm: &Name,
 ) -> Result<u32, AllocError>
     requires limits { All KeepsLimits accounts.now }
     requires few { vec_len parties.old < 2 ^ 32 }
+    requires names { names.old.names ≡ map (λ p. p.firm) parties.old.items }
+    requires firms { firms.now.names ≡ map (λ a. a.firm) accounts.now }
+    ensures names { OnOk result (names.new.names ≡ map (λ p. p.firm) parties.new.items) }
     ensures parties { OnOk result (parties.new.items ≡ with_party (party_in accounts.now kind firm.now) parties.old.items) }
     ensures place { IfOk result (λ place. place ≡ position_or_len (is_party firm.now) parties.new.items) }
     ensures len { vec_len parties.new ≤ vec_len parties.old + 1 }
 {
-    match find_party(parties, firm) {
+    match find_party(parties, names, firm) {
         Some(place) => Ok(place as u32),
         None => {
             let place = parties.len() as u32;
-            parties.push(party_of(accounts, kind, firm))?;
+            names.push(*firm)?;
+            parties.push(party_of(accounts, firms, kind, firm))?;
             Ok(place)
         }
     }
 }
 
-fn find_party(parties: &[Party], firm: &Name) -> Option<usize>
+// The names are those of the parties.
+fn find_party(parties: &[Party], names: &NameIndex, firm: &Name) -> Option<usize>
+    requires { names.now.names ≡ map (λ p. p.firm) parties.now }
     ensures { result ≡ position (is_party firm.now) parties.now }
 {
-    parties
-        .iter()
-        .position(|party| same_names(firm, &party.firm))
+    let _ = parties;
+    names.place(firm)
 }
 
 // The firm with the window of its account.
-fn party_of(accounts: &[AccountFact], kind: Kind, firm: &Name) -> Party
-    requires { All KeepsLimits accounts.now }
+fn party_of(accounts: &[AccountFact], firms: &NameIndex, kind: Kind, firm: &Name) -> Party
+    requires limits { All KeepsLimits accounts.now }
+    requires firms { firms.now.names ≡ map (λ a. a.firm) accounts.now }
     ensures { result ≡ party_in accounts.now kind firm.now }
 {
-    let (spend, room) = window_at(accounts, kind, firm);
+    let (spend, room) = window_at(accounts, firms, kind, firm);
     Party {
         firm: *firm,
         spend,
@@ -58,21 +79,23 @@ fn party_of(accounts: &[AccountFact], kind: Kind, firm: &Name) -> Party
 }
 
 // The window of the firm's account; none where it has no account.
-fn window_at(accounts: &[AccountFact], kind: Kind, firm: &Name) -> (u64, u64)
-    requires { All KeepsLimits accounts.now }
+fn window_at(accounts: &[AccountFact], firms: &NameIndex, kind: Kind, firm: &Name) -> (u64, u64)
+    requires limits { All KeepsLimits accounts.now }
+    requires firms { firms.now.names ≡ map (λ a. a.firm) accounts.now }
     ensures spend { result.0 ≡ (window_in accounts.now kind firm.now).spend }
     ensures room { result.1 ≡ (window_in accounts.now kind firm.now).room }
 {
-    match find_account(accounts, firm) {
+    match find_account(accounts, firms, firm) {
         Some(place) => window(&accounts[place], kind),
         None => (0, 0),
     }
 }
 
-fn find_account(accounts: &[AccountFact], firm: &Name) -> Option<usize>
+// The firms are those of the accounts.
+fn find_account(accounts: &[AccountFact], firms: &NameIndex, firm: &Name) -> Option<usize>
+    requires { firms.now.names ≡ map (λ a. a.firm) accounts.now }
     ensures { result ≡ position (λ a. same_name firm.now a.firm) accounts.now }
 {
-    accounts
-        .iter()
-        .position(|account| same_names(firm, &account.firm))
+    let _ = accounts;
+    firms.place(firm)
 }

@@ -1,8 +1,8 @@
 use Rattle.std.proofs.Common.{sym}
 use Rattle.setoff_model.specs.Same.{same_name}
 use Rattle.claim_history.specs.declared.fact.AccountFact.{AccountFact}
-use Rattle.fact_tables.proofs.Keyed.{row_place}
+use Rattle.name_index.proofs.Rows.{row_place}
 use Rattle.fact_tables.proofs.account_table.account_place.Goals as goal
 
 pub returns : goal.returns
-returns c = sym (row_place (λ (a : AccountFact). a.firm) (same_name c.args.firm.now) c.args.names.now.names c.args.accounts.now c.requires c.place.result c.place.ensures)
+returns c = sym (row_place (λ (a : AccountFact). a.firm) c.args.names.now.names c.args.accounts.now c.requires (same_name c.args.firm.now) c.place.result c.place.ensures)

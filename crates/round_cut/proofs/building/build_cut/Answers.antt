@@ -22,10 +22,11 @@ loop-claim-preserved c =
           more_parties c.args.accounts.now c.args.kind (claims_due c.args.horizon (take i all)) (claims_due c.args.horizon (take (i + 1) all)) x c.loop-claim.parties.items w.add_claim.new.parties.items more c.loop-claim.invariant.parties w.in_ok-add_claim.ensures.parties in
           let due : w.add_claim.new.due.items ≡ claims_in (claims_due c.args.horizon (take (i + 1) all)) =
           more_claims c.args.accounts.now c.args.kind (claims_due c.args.horizon (take i all)) (claims_due c.args.horizon (take (i + 1) all)) x w.add_claim.new.parties.items c.loop-claim.due.items w.add_claim.new.due.items more parties c.loop-claim.invariant.due w.in_ok-add_claim.ensures.due in
-          rw (w.parties-is, w.due-is) (record { parties = parties; due = due; few = omega (arith, w.in_ok-add_claim.ensures.len, c.loop-claim.invariant.few) })
+          rw (w.parties-is, w.due-is, w.names-is) (record { names = w.in_ok-add_claim.ensures.names; parties = parties; due = due; few = omega (arith, w.in_ok-add_claim.ensures.len, c.loop-claim.invariant.few) })
       | else-is_due w ↦
           let same : claims_due c.args.horizon (take (i + 1) all) ≡ claims_due c.args.horizon (take i all) = due_no c.args.horizon all i x c.is_due.result c.loop-claim-test.true c.claim-item.is c.is_due.ensures w.if-is_due.false in
-          rw (w.parties-is, w.due-is) (record {
+          rw (w.parties-is, w.due-is, w.names-is) (record {
+            names = c.loop-claim.invariant.names;
             parties = c.loop-claim.invariant.parties ∙ ap (parties_in c.args.accounts.now c.args.kind) (sym same);
             due = c.loop-claim.invariant.due ∙ ap claims_in (sym same);
             few = omega (arith, c.loop-claim.invariant.few);

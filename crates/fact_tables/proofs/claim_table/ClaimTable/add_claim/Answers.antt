@@ -4,7 +4,8 @@ use Rattle.setoff_model.specs.Same.{same_key}
 use Rattle.setoff_model.proofs.SameNames.{key_same}
 use Rattle.claim_history.specs.declared.fact.ClaimFact.{ClaimFact}
 use Rattle.fact_tables.specs.Tables.{ClaimsView, new_claim, KeysOnce}
-use Rattle.fact_tables.proofs.Keyed.{is_new, longer}
+use Rattle.fact_tables.proofs.Keyed.{is_new}
+use Rattle.name_index.proofs.Rows.{longer}
 use Rattle.fact_tables.proofs.claim_table.ClaimTable.add_claim.Goals as goal
 
 pub add-requires-clause-new : goal.add-requires-clause-new
@@ -21,4 +22,4 @@ invariant_of-self c =
     let room = subst (λ (t : ClaimsView). 0 < t.room) (sym c.self.view_is) c.requires.room in
     let pushed = c.push.ensures.items ∙ ap (λ (b : Bool). if b then facts ++ claim ∷ [] else facts) (c.push.ensures.succeeds (omega (arith, room))) in
     rw (pushed, c.add.ensures.keys)
-    (record { keys_are = longer (λ (r : ClaimFact). r.key) c.self.inside.keys.keys facts claim c.self.invariant.keys_are; once = once })
+    (record { keys_are = longer (λ (r : ClaimFact). r.key) c.self.inside.keys.keys facts c.self.invariant.keys_are claim; once = once })

@@ -4,13 +4,13 @@ use Rattle.setoff_model.specs.Same.{same_key}
 use Rattle.claim_history.specs.declared.fact.ClaimFact.{ClaimFact}
 use Rattle.fact_tables.specs.Tables.{ClaimsView, with_receipt}
 use Rattle.fact_tables.proofs.Places.{step_at, step_none}
-use Rattle.fact_tables.proofs.Keyed.{row_place}
+use Rattle.name_index.proofs.Rows.{row_place}
 use Rattle.fact_tables.proofs.claim_table.ClaimTable.receive.Goals as goal
 
 pub returns-in-Some-clause-facts : goal.returns-in-Some-clause-facts
 returns-in-Some-clause-facts c =
     let facts = c.self.inside.facts.items in
-    let found = row_place (λ (r : ClaimFact). r.key) (same_key c.args.key.now) c.self.inside.keys.keys facts c.self.invariant.keys_are _ (sym c.in-Some.is ∙ c.place.ensures) in
+    let found = row_place (λ (r : ClaimFact). r.key) c.self.inside.keys.keys facts c.self.invariant.keys_are (same_key c.args.key.now) _ (sym c.in-Some.is ∙ c.place.ensures) in
     c.put.ensures.facts ∙ ap (λ (t : ClaimsView). set t.facts c.in-Some.place (record c.index-claim.result.now { left = c.saturating_sub.result })) (sym c.self.view_is)
     ∙ ap (λ (n : ℕ). set facts c.in-Some.place (record c.index-claim.result.now { left = n })) c.saturating_sub.ensures
     ∙ ap (λ (x : ClaimFact). set facts c.in-Some.place (record x { left = x.left - c.args.amount })) c.index-claim.ensures
@@ -20,7 +20,7 @@ returns-in-Some-clause-facts c =
 pub returns-in_default-clause-facts : goal.returns-in_default-clause-facts
 returns-in_default-clause-facts c =
     let facts = c.self.inside.facts.items in
-    let none = row_place (λ (r : ClaimFact). r.key) (same_key c.args.key.now) c.self.inside.keys.keys facts c.self.invariant.keys_are _ (sym c.in_default.is ∙ c.place.ensures) in
+    let none = row_place (λ (r : ClaimFact). r.key) c.self.inside.keys.keys facts c.self.invariant.keys_are (same_key c.args.key.now) _ (sym c.in_default.is ∙ c.place.ensures) in
     ap (λ (t : ClaimsView). t.facts) (sym c.self.view_is)
     ∙ step_none (λ (r : ClaimFact). same_key c.args.key.now r.key) (λ r. record r { left = r.left - c.args.amount }) facts none
     ∙ ap (λ (t : ClaimsView). map (with_receipt c.args.key.now c.args.amount) t.facts) c.self.view_is
