@@ -11,6 +11,3 @@ mod solver;
 pub use flow::{Flow, flow_at_rest};
 pub use plain_solver::PlainSolver;
 pub use solver::Solver;
-
-#[cfg(test)]
-mod net_tests;

@@ -22,7 +22,7 @@ pub struct Push {
 }
 
 // The node that excess is moved from, the node that it is moved to, and the flow of the arc after that.
-#[derive(Clone, Copy, Debug)]
+#[derive(Clone, Copy)]
 struct Step {
     from: usize,
     to: usize,

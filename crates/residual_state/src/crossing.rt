@@ -7,7 +7,7 @@ ghost use Rattle.residual_state.specs.Crossings.{IsCrossing};
 use crate::edge::{Edge, edge_at};
 
 // A step of a label over an arc, and how much flow can be moved that way.
-#[derive(Clone, Copy, Debug)]
+#[derive(Clone, Copy)]
 pub(crate) struct Crossing {
     pub(crate) from: usize,
     pub(crate) to: usize,

@@ -8,7 +8,7 @@ use std::alloc::{AllocError, Global};
 
 // A labelled node: the arc that its label came over, the place of the label that it came from, and how much flow can
 // be moved to it. At a node that the search begins at, the last place is its own.
-#[derive(Clone, Copy, Debug)]
+#[derive(Clone, Copy)]
 pub(crate) struct Label {
     pub(crate) node: usize,
     pub(crate) arc: usize,
@@ -17,7 +17,7 @@ pub(crate) struct Label {
 }
 
 // The labels in order, which nodes are labelled, and the place of the label of each.
-#[derive(Debug, Drop)]
+#[derive(Drop)]
 pub(crate) struct Labels {
     pub(crate) found: Vec<Label>,
     pub(crate) labelled: Vec<bool>,

@@ -10,7 +10,7 @@ use crate::edge::Edge;
 use crate::price::raise_over;
 
 // An arc over which labels pass after a raise of the labelled nodes.
-#[derive(Clone, Copy, Debug)]
+#[derive(Clone, Copy)]
 pub(crate) struct Next {
     pub(crate) arc: usize,
     pub(crate) raise: u64,
