@@ -9,7 +9,7 @@ use Rattle.setoff_model.specs.declared.name.Key.{Key}
 use Rattle.setoff_model.specs.Same.{same_name, same_key}
 use Rattle.setoff_model.specs.declared.kind.Kind.{Kind}
 use Rattle.setoff_model.specs.declared.cut.CutClaim.{CutClaim}
-use Rattle.setoff_model.specs.CutView.{CutView, OutcomeView, obligations}
+use Rattle.setoff_model.specs.CutView.{CutView, OutcomeView, WellFormed, obligations}
 use Rattle.setoff_model.specs.Setoff.{IsLawful, Proves, total_of}
 use Rattle.setoff_model.proofs.Deciding.{proof_test_law}
 use Rattle.claim_history.specs.declared.act.Act.TheVariants as act
@@ -34,6 +34,7 @@ use Rattle.claim_history.proofs.Replies.{accepted_due, opens, publishes}
 use Rattle.claim_history.proofs.Greatest.{reply_published}
 use Rattle.claim_history.proofs.Agreement.{openings_law}
 use Rattle.std.proofs.lemmas.List.Sums.{count_by-le-length}
+use Rattle.round_cut.proofs.OpenCut.{open_formed_law}
 use Rattle.claim_book.specs.declared.round.KeptRound.{KeptRound}
 use Rattle.claim_book.specs.Book.{BookParts, ledger_of, round_kept, is_abandoned, IsClose, IsBook}
 use Rattle.fact_tables.specs.Settling.{settled_claim, settled_account}
@@ -310,6 +311,7 @@ none_kept entries e number outcome is accepted asks next =
 -- what becomes of a book by an accepted publication, whose round has the cut
 pub record IsSettled (book : BookParts) (e : Entry) (d : List ℕ) (cut : CutView) : Type 0 where
   pub one_each : length d ≡ length cut.claims
+  pub formed : WellFormed cut
   pub total : total_of d < 10 ^ 18
   pub grows : IsBook (with_published e (record { cut = cut; discharges = d }) book)
   pub round : OpenRound
@@ -323,6 +325,7 @@ settled_by book kept e number outcome is round_is valid accepted asks next =
     let p = settling book.entries e number outcome accepted asks next in
     record {
       one_each = fits.0;
+      formed = subst WellFormed (sym (same_kept kept (state_of book.entries).open_round p.round round_is p.was_open)) (open_formed_law book.entries is.legal is.valid p.round p.was_open);
       total = fits.1;
       grows = publish_grows book kept e number outcome is round_is valid accepted asks next;
       round = p.round;

@@ -27,20 +27,3 @@ flow_sum_fits side claims d i f sum x y long small lt is so_far next =
 pub flow_small : (side : CutClaim → ℕ) (claims : List CutClaim) (d : List ℕ) (i f sum : ℕ) → length d ≡ length claims → total_of d < 10 ^ 18 → i ≤ length claims → sum ≡ flow_at i (map side claims) d f → sum < 10 ^ 18
 flow_small side claims d i f sum long small le so_far =
     omega (arith, so_far, small, flow_at-le i (map side claims) d f (omega (arith, long, le)), sum_by-take-le (λ n. n) d i)
-
--- ---- rows that are not yet settled
-
--- a row that the loop has not come to is as it was
-rest_same : {X : Type 0} (f : X → X) (xs ys : List X) (i : ℕ) (x : X) → i < length xs → ys ≡ map f (take i xs) ++ drop i xs → x ≡ get_or ys i x → x ≡ get_or xs i x
-rest_same {X = X} f xs ys i x lt is at =
-    let long : length (map f (take i xs)) ≡ i = length-map (take i xs) f ∙ length-take-le i xs (omega (arith, lt)) in
-    let place : i + (i - i) ≡ i = omega arith in
-    at
-    ∙ ap (λ (zs : List X). get_or zs i x) is
-    ∙ get_or-append_right (map f (take i xs)) (drop i xs) i i x long (omega arith)
-    ∙ get_or-drop i xs (i - i) x
-    ∙ ap (λ (k : ℕ). get_or xs k x) place
-
-pub rest_small : (f : AccountFact → AccountFact) (xs ys : List AccountFact) (i : ℕ) (x : AccountFact) → i < length xs → ys ≡ map f (take i xs) ++ drop i xs → x ≡ get_or ys i x → AreSmall xs → IsWithin (10 ^ 15) (10 ^ 15) x.balance
-rest_small f xs ys i x lt is at small =
-    subst (λ (a : AccountFact). IsWithin (10 ^ 15) (10 ^ 15) a.balance) (sym (rest_same f xs ys i x lt is at)) (small i x lt)

@@ -5,10 +5,11 @@ use Rattle.std.proofs.Common.{take_all, ◌≡◌, ℕ, ◌+◌, ◌≤◌, Bool
 use Rattle.std.proofs.lemmas.List.{length-map, take-append-le}
 use Rattle.std.proofs.Math.Seq.{map-set_same}
 use Rattle.std.proofs.lemmas.List.Sums.{sum_by-append}
-use Rattle.setoff_model.specs.Same.{same_key}
+use Rattle.setoff_model.specs.Same.{same_name, same_key}
 use Rattle.setoff_model.specs.declared.name.Key.{Key}
 use Rattle.claim_history.specs.declared.fact.ClaimFact.{ClaimFact}
-use Rattle.fact_tables.specs.Tables.{AreClaims, KeysOnce}
+use Rattle.claim_history.specs.declared.fact.AccountFact.{AccountFact}
+use Rattle.fact_tables.specs.Tables.{AreClaims, KeysOnce, FirmsOnce}
 use Rattle.fact_tables.proofs.Places.{count_cons, sum_by-map}
 
 -- ---- one more row
@@ -43,14 +44,18 @@ pub if_same : {X Y : Type 0} (h : X → Y) (b : Bool) (x y : X) → h x ≡ h y 
 if_same h true x y same = same
 if_same h false x y same = refl
 
+-- what was lent and written comes back whole
+pub took_back : {X : Type 0} (n : ℕ) (ys rest : List X) → length ys ≡ n → take n (ys ++ rest) ≡ ys
+took_back n ys rest long =
+    let le : n ≤ length ys = omega (arith, long) in
+    let ge : length ys ≤ n = omega (arith, long) in
+    take-append-le n ys rest le ∙ take_all n ys ge
+
 -- the keys of rows that were written in place
 pub written : {X Y : Type 0} (h : X → Y) (step : X → X) (n : ℕ) (ks : List Y) (xs ys zs rest : List X) → ks ≡ map h xs → ((x : X) → h (step x) ≡ h x) → ys ≡ map step zs → zs ≡ xs → length zs ≡ n
     → ks ≡ map h (take n (ys ++ rest))
 written {X = X} h step n ks xs ys zs rest keys_are same stepped read long =
-    let len : length ys ≡ n = ap length stepped ∙ length-map zs step ∙ long in
-    let le : n ≤ length ys = omega (arith, len) in
-    let ge : length ys ≤ n = omega (arith, len) in
-    keys_are ∙ ap (map h) (sym read) ∙ sym (same_keys h step zs same) ∙ ap (map h) (sym stepped) ∙ sym (ap (map h) (take-append-le n ys rest le ∙ take_all n ys ge))
+    keys_are ∙ ap (map h) (sym read) ∙ sym (same_keys h step zs same) ∙ ap (map h) (sym stepped ∙ sym (took_back n ys rest (ap length stepped ∙ length-map zs step ∙ long)))
 
 -- ---- claims
 
@@ -66,3 +71,10 @@ same_claims keys xs ys same are = record { keys_are = are.keys_are ∙ sym same;
 
 pub claim_put : (keys : List Key) (xs : List ClaimFact) (i : ℕ) (y d : ClaimFact) → y.key ≡ (get_or xs i d).key → AreClaims keys xs → AreClaims keys (set xs i y)
 claim_put keys xs i y d same are = same_claims keys xs (set xs i y) (map-set_same (λ (c : ClaimFact). c.key) xs i y d same) are
+
+-- ---- accounts
+
+pub firms_once : (xs ys : List AccountFact) → map (λ a. a.firm) ys ≡ map (λ a. a.firm) xs → FirmsOnce xs → FirmsOnce ys
+firms_once xs ys same once firm =
+    let test = λ (f : List ℕ). cond (same_name firm f) 1 0 in
+    subst (λ n. n ≤ 1) (sym (sum_by-map test (λ (a : AccountFact). a.firm) xs) ∙ ap (sum_by test) (sym same) ∙ sum_by-map test (λ (a : AccountFact). a.firm) ys) (once firm)

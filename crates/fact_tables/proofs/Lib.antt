@@ -2,3 +2,4 @@ pub mod Places
 pub mod Balances
 pub mod Flowing
 pub mod Keyed
+pub mod Settle

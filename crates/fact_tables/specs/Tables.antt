@@ -102,6 +102,10 @@ pub record AreClaims (keys : List Key) (claims : List ClaimFact) : Type 0 where
   pub keys_are : keys ≡ map (λ c. c.key) claims
   pub once : KeysOnce claims
 
+-- each balance is from -most to most
+abbrev pub AreWithin : ℕ → List AccountFact → Type 0
+AreWithin most accounts = All (λ a. IsWithin most most a.balance) accounts
+
 -- from -10^15 to 10^15 cents
 abbrev pub AreSmall : List AccountFact → Type 0
 AreSmall accounts = All (λ a. IsWithin (10 ^ 15) (10 ^ 15) a.balance) accounts

@@ -1,14 +1,13 @@
 //! The accounts of a book.
-ghost use Rattle.std.specs.Prelude.{◌≡◌, ◌+◌, ◌<◌, ◌≤◌, ◌^◌, ◌++◌, ◌∷◌, [], find, map, length, position, vec_len, vec_capacity, true, false, OnOk, OnErr};
+ghost use Rattle.std.specs.Prelude.{◌≡◌, ◌+◌, ◌*◌, ◌<◌, ◌≤◌, ◌^◌, ◌++◌, ◌∷◌, [], find, map, length, position, vec_len, vec_capacity, true, false, OnOk, OnErr};
 ghost use Rattle.std.specs.List.{list_any};
 ghost use Rattle.setoff_model.specs.Setoff.{total_of};
-ghost use Rattle.setoff_model.specs.Limits.{most_amount};
+ghost use Rattle.setoff_model.specs.CutView.{WellFormed};
 ghost use Rattle.setoff_model.specs.Same.{same_name};
 ghost use Rattle.claim_history.specs.Acts.{is_valid};
 ghost use Rattle.fact_tables.specs.Settling.{settled_account};
-ghost use Rattle.fact_tables.specs.Tables.{new_account, funded, drawn, limited, offered, accounts_with, FirmsOnce, AreSmall, AreAccounts};
+ghost use Rattle.fact_tables.specs.Tables.{new_account, funded, drawn, limited, offered, accounts_with, FirmsOnce, AreSmall, AreWithin, AreAccounts};
 
-use crate::settling::discharge_accounts;
 use claim_history::{AccountFact, Act, Entry, accepted};
 use name_index::NameIndex;
 use setoff_model::limits::FIRST_CEILING;
@@ -91,16 +90,17 @@ impl AccountTable {
     /// Puts into each account what the round of a cut discharged towards its firm, and takes out what it discharged by it. It takes
     /// no memory.
     ///
-    /// There is one discharge for each claim of the cut, their total is below 10^18 cents, and the balances stay small. The flows of
-    /// each party are summed over all claims of the cut, so its work is the product of both numbers.
+    /// There is one discharge for each claim of the cut, which is well formed, their total is below 10^18 cents, and the balances
+    /// stay small. The accounts of each claim of the cut are found by the index.
     pub fn discharge(&mut self, cut: &Cut, discharges: &[u64])
         requires one_each { length discharges.now ≡ length cut.now.claims }
+        requires formed { WellFormed cut.now }
         requires total { total_of discharges.now < 10 ^ 18 }
         requires small { AreSmall (map (settled_account (record { cut = cut.now; discharges = discharges.now })) self.old.facts) }
         ensures facts { self.new.facts ≡ map (settled_account (record { cut = cut.now; discharges = discharges.now })) self.old.facts }
         ensures room { self.new.room ≡ self.old.room }
     {
-        discharge_accounts(&mut self.facts, cut, discharges);
+        discharge_accounts(&mut self.facts, &self.names, cut, discharges);
     }
 }
 
@@ -186,8 +186,8 @@ fn add_account(accounts: &mut Vec<AccountFact>, names: &mut NameIndex, firm: &Na
 fn fund(accounts: &mut [AccountFact], names: &NameIndex, firm: &Name, amount: u64)
     requires names { names.now.names ≡ map (λ a. a.firm) accounts.old }
     requires once { FirmsOnce accounts.old }
-    requires small { AreSmall accounts.old }
-    requires amount { amount ≤ most_amount }
+    requires near { AreWithin (3 * 10 ^ 18) accounts.old }
+    requires amount { amount < 10 ^ 18 }
     ensures { accounts.new ≡ map (funded firm.now amount) accounts.old }
 {
     if let Some(place) = account_place(accounts, names, firm) {
@@ -199,8 +199,8 @@ fn fund(accounts: &mut [AccountFact], names: &NameIndex, firm: &Name, amount: u6
 fn draw(accounts: &mut [AccountFact], names: &NameIndex, firm: &Name, amount: u64)
     requires names { names.now.names ≡ map (λ a. a.firm) accounts.old }
     requires once { FirmsOnce accounts.old }
-    requires small { AreSmall accounts.old }
-    requires amount { amount ≤ most_amount }
+    requires near { AreWithin (3 * 10 ^ 18) accounts.old }
+    requires amount { amount < 10 ^ 18 }
     ensures { accounts.new ≡ map (drawn firm.now amount) accounts.old }
 {
     if let Some(place) = account_place(accounts, names, firm) {
@@ -235,5 +235,29 @@ fn set_offer(accounts: &mut [AccountFact], names: &NameIndex, firm: &Name, amoun
     if let Some(place) = account_place(accounts, names, firm) {
         let account = &mut accounts[place];
         account.offer = amount;
+    }
+}
+
+// Changes the accounts as `AccountTable::discharge` does, claim by claim.
+fn discharge_accounts(
+    accounts: &mut [AccountFact],
+    names: &NameIndex,
+    cut: &Cut,
+    discharges: &[u64],
+)
+    requires names { names.now.names ≡ map (λ a. a.firm) accounts.old }
+    requires once { FirmsOnce accounts.old }
+    requires small { AreSmall accounts.old }
+    requires one_each { length discharges.now ≡ length cut.now.claims }
+    requires formed { WellFormed cut.now }
+    requires total { total_of discharges.now < 10 ^ 18 }
+    ensures { accounts.new ≡ map (settled_account (record { cut = cut.now; discharges = discharges.now })) accounts.old }
+{
+    let parties = cut.parties();
+    for (i, claim) in cut.claims().iter().enumerate() {
+        let creditor = parties[claim.creditor as usize];
+        let debtor = parties[claim.debtor as usize];
+        fund(accounts, names, &creditor.firm, discharges[i]);
+        draw(accounts, names, &debtor.firm, discharges[i]);
     }
 }

@@ -1,11 +1,11 @@
 //! The claims of a book.
 ghost use Rattle.std.specs.Prelude.{◌≡◌, ◌+◌, ◌<◌, ◌≤◌, ◌++◌, ◌∷◌, [], ◌^◌, ◌&&◌, sum, filter, find, map, set, length, get_or, OnOk, OnErr};
+ghost use Rattle.setoff_model.specs.CutView.{WellFormed};
 ghost use Rattle.setoff_model.specs.Same.{same_name, same_key};
 ghost use Rattle.claim_history.specs.Facts.{is_confirmed as confirmed};
 ghost use Rattle.fact_tables.specs.Settling.{settled_claim};
 ghost use Rattle.fact_tables.specs.Tables.{new_claim, with_status, with_receipt, claims_with, KeysOnce};
 
-use crate::settling::discharge_claims;
 use claim_history::{Act, ClaimFact, Day, Entry, Status, accepted};
 use name_index::KeyIndex;
 use setoff_model::{Cut, Key, Name, same_names};
@@ -132,16 +132,17 @@ impl ClaimTable {
         }
     }
 
-    /// Takes off each claim what the round of a cut discharged of it. There is one discharge for each claim of the cut. It takes no
-    /// memory.
-    ///
-    /// It looks each claim up in the cut, so its work is the product of both numbers.
+    /// Takes off each claim what the round of a cut discharged of it. There is one discharge for each claim of the cut, which is
+    /// well formed. It takes no memory, and each claim of the cut is found by the index.
     pub fn discharge(&mut self, cut: &Cut, discharges: &[u64])
-        requires { length discharges.now ≡ length cut.now.claims }
+        requires one_each { length discharges.now ≡ length cut.now.claims }
+        requires formed { WellFormed cut.now }
         ensures facts { self.new.facts ≡ map (settled_claim (record { cut = cut.now; discharges = discharges.now })) self.old.facts }
         ensures room { self.new.room ≡ self.old.room }
     {
-        discharge_claims(&mut self.facts, cut, discharges);
+        for (i, claim) in cut.claims().iter().enumerate() {
+            self.receive(&claim.key, discharges[i]);
+        }
     }
 
     fn add_claim(&mut self, key: &Key, debtor: &Name, amount: u64, due: &Day)

@@ -1,2 +1,4 @@
 pub mod Same
 pub mod Rows
+pub mod Places
+pub mod Pushed

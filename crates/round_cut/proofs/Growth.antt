@@ -17,7 +17,7 @@ use Rattle.claim_history.specs.declared.fact.AccountFact.{AccountFact}
 use Rattle.claim_history.specs.Cut.{distinct}
 use Rattle.round_cut.specs.CutOfFacts.{takes_part, claims_due, firms_in, party_in, claim_among, parties_in, claims_in}
 use Rattle.round_cut.specs.Growing.{is_party, with_party, with_parties_of, placed}
-use Rattle.round_cut.proofs.Places.{or_left, place_stays, any_stays}
+use Rattle.name_index.proofs.Places.{or_left, place_stays, any_stays}
 use Rattle.claim_history.proofs.Opening.{any_distinct}
 use Rattle.round_cut.proofs.Distinct.{with_name, distinct_push}
 

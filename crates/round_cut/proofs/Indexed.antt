@@ -22,10 +22,10 @@ module _ {X : Type 0} (firm : X → List ℕ) (xs : List X) (i : ℕ) (x : X) (l
       ap (list_any (same_name (firm x))) are
       ∙ list_any-map (same_name (firm x)) firm (take i xs)
       ∙ list_any_none (λ y. same_name (firm x) (firm y)) (take i xs) (λ k d less.
-          let before : k < i = omega (arith, less, short) in
-          let differ = apart k i d before lt in
-          not_one (same_name (firm x) (firm (get_or (take i xs) k d))) (same_name_is (firm x) (firm (get_or (take i xs) k d))) (λ same.
-            differ (ap firm (sym (get_or-take i xs k d before)) ∙ sym same ∙ ap firm (is ∙ at_default d))))
+      let before : k < i = omega (arith, less, short) in
+      let differ = apart k i d before lt in
+      not_one (same_name (firm x) (firm (get_or (take i xs) k d))) (same_name_is (firm x) (firm (get_or (take i xs) k d))) (λ same.
+      differ (ap firm (sym (get_or-take i xs k d before)) ∙ sym same ∙ ap firm (is ∙ at_default d))))
     where
       at_default : (d : X) → get_or xs i x ≡ get_or xs i d
       at_default d = get_or_default xs i x d lt

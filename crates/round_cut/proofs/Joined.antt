@@ -12,7 +12,7 @@ use Rattle.claim_history.specs.declared.fact.AccountFact.{AccountFact}
 use Rattle.round_cut.specs.Windows.{window_of}
 use Rattle.round_cut.specs.CutOfFacts.{window_or_none, window_in, party_in}
 use Rattle.round_cut.specs.Growing.{is_party, with_party, placed}
-use Rattle.round_cut.proofs.Places.{found_at, find_none, position_any, place_last, place_stays, any_joined}
+use Rattle.name_index.proofs.Places.{found_at, find_none, position_any, place_last, place_stays, any_joined}
 
 -- ---- accounts
 

@@ -1,4 +1,3 @@
-pub mod Places
 pub mod Distinct
 pub mod Growth
 pub mod Joined

@@ -34,7 +34,15 @@ pub fn build_cut(
     let mut due = Vec::new(alloc);
     for claim in claims {
         if is_due(claim, horizon) {
-            add_claim(&mut parties, &mut names, &mut due, accounts, &firms, kind, claim)?;
+            add_claim(
+                &mut parties,
+                &mut names,
+                &mut due,
+                accounts,
+                &firms,
+                kind,
+                claim,
+            )?;
         }
     }
     Ok(Cut::new(round, kind, parties, due))

@@ -1,10 +1,11 @@
 use Rattle.std.specs.Prelude.{if◌then◌else◌, pos, ◌+ℤ◌, ◌-ℤ◌}
-use Rattle.std.proofs.Common.{Bool, sym, subst, ap, ◌∙◌, refl}
+use Rattle.std.proofs.Common.{◌*◌, ◌^◌, Bool, sym, subst, ap, ◌∙◌, refl}
 use Rattle.setoff_model.specs.Same.{same_name}
 use Rattle.setoff_model.proofs.SameNames.{name_same}
 use Rattle.claim_history.specs.declared.act.Act.{Act}
 use Rattle.claim_history.specs.declared.fact.AccountFact.{AccountFact}
-use Rattle.fact_tables.specs.Tables.{FirmsOnce, accounts_after, new_account, funded, drawn, limited, offered}
+use Rattle.fact_tables.specs.Tables.{AreWithin, FirmsOnce, accounts_after, new_account, funded, drawn, limited, offered}
+use Rattle.fact_tables.proofs.Balances.{near}
 use Rattle.fact_tables.proofs.Keyed.{is_new, if_same, written}
 use Rattle.fact_tables.proofs.account_table.change_accounts.Goals as goal
 
@@ -50,3 +51,9 @@ returns-in-Offer-clause-names c =
     let firm = λ (a : AccountFact). a.firm in
     written firm (offered c.in-Offer.firm c.in-Offer.amount) c.args.accounts.now.len c.args.names.now.names c.args.accounts.now.items c.set_offer.new.accounts c.deref_mut-in-Offer.result.now _ c.requires.names
     (λ a. if_same firm (same_name c.in-Offer.firm a.firm) (record a { offer = c.in-Offer.amount }) a refl) c.set_offer.ensures c.deref_mut-in-Offer.ensures.value c.deref_mut-in-Offer.ensures.len
+
+pub fund-requires-clause-near : goal.fund-requires-clause-near
+fund-requires-clause-near c = subst (AreWithin (3 * 10 ^ 18)) (sym c.deref_mut.ensures.value) (near c.args.accounts.now.items c.requires.small)
+
+pub draw-requires-clause-near : goal.draw-requires-clause-near
+draw-requires-clause-near c = subst (AreWithin (3 * 10 ^ 18)) (sym c.deref_mut-in-Draw.ensures.value) (near c.args.accounts.now.items c.requires.small)

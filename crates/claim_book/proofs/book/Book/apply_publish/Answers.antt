@@ -29,8 +29,8 @@ take_cut-cut-requires c =
     let next = subst (λ (b : BookView). MayFollow b.history c.args.entry) (sym c.self.view_is) c.requires.next in
     round_there _ c.args.entry c.self.invariant c.requires.publishes (sym c.accepted.ensures ∙ c.if-not-accepted.false) next
 
-pub discharge-requires : goal.discharge-requires
-discharge-requires c =
+pub discharge-requires-clause-one_each : goal.discharge-requires-clause-one_each
+discharge-requires-clause-one_each c =
     let next = subst (λ (b : BookView). MayFollow b.history c.args.entry) (sym c.self.view_is) c.requires.next in
     let asks = c.outcome_in.ensures.1 in
     let is = settles _ c.args.entry c.outcome_in.ensures.0 c.outcome_in.result.now c.take_cut-cut.result c.self.invariant c.requires.valid (sym c.accepted.ensures ∙ c.if-not-accepted.false) asks next c.take_cut-cut.ensures.cut in
@@ -61,3 +61,13 @@ returns-clause-cut c =
     let accepted = sym c.accepted.ensures ∙ c.if-not-accepted.false in
     let is = settles _ c.args.entry c.outcome_in.ensures.0 c.outcome_in.result.now c.take_cut-cut.result c.self.invariant c.requires.valid accepted c.outcome_in.ensures.1 next c.take_cut-cut.ensures.cut in
     (accepted, (is.round, ap (λ (b : BookView). (state_of b.history).open_round) (sym c.self.view_is) ∙ is.was_open, is.cut_is))
+
+pub discharge-requires-clause-formed : goal.discharge-requires-clause-formed
+discharge-requires-clause-formed c =
+    let next = subst (λ (b : BookView). MayFollow b.history c.args.entry) (sym c.self.view_is) c.requires.next in
+    (settles _ c.args.entry c.outcome_in.ensures.0 c.outcome_in.result.now c.take_cut-cut.result c.self.invariant c.requires.valid (sym c.accepted.ensures ∙ c.if-not-accepted.false) c.outcome_in.ensures.1 next c.take_cut-cut.ensures.cut).formed
+
+pub discharge-requires-2-clause-formed : goal.discharge-requires-2-clause-formed
+discharge-requires-2-clause-formed c =
+    let next = subst (λ (b : BookView). MayFollow b.history c.args.entry) (sym c.self.view_is) c.requires.next in
+    (settles _ c.args.entry c.outcome_in.ensures.0 c.outcome_in.result.now c.take_cut-cut.result c.self.invariant c.requires.valid (sym c.accepted.ensures ∙ c.if-not-accepted.false) c.outcome_in.ensures.1 next c.take_cut-cut.ensures.cut).formed

@@ -1,13 +1,32 @@
-use Rattle.std.specs.Prelude.{map}
-use Rattle.std.proofs.Common.{◌∙◌, ap, refl}
+use Rattle.std.specs.Prelude.{map, slice_index}
+use Rattle.std.proofs.Common.{◌≡◌, ℕ, List, ◌-◌, ◌<◌, ◌≤◌, length, get_or, ◌∙◌, ap, subst, refl, arith}
+use Rattle.setoff_model.specs.declared.cut.CutClaim.{CutClaim}
 use Rattle.claim_history.specs.declared.fact.ClaimFact.{ClaimFact}
-use Rattle.fact_tables.specs.Settling.{settled_claim}
-use Rattle.fact_tables.proofs.Keyed.{same_keys, same_claims}
+use Rattle.fact_tables.specs.Tables.{with_receipt}
+use Rattle.fact_tables.proofs.Settle.{claim_after, claim_next, claims_whole, map_step, map_start}
 use Rattle.fact_tables.proofs.claim_table.ClaimTable.discharge.Goals as goal
 
-pub invariant_of-self : goal.invariant_of-self
-invariant_of-self c =
-    let step = settled_claim (record { cut = c.args.cut.now; discharges = c.args.discharges.now }) in
-    let facts = c.self.inside.facts.items in
-    same_claims c.self.inside.keys.keys facts c.discharge_claims.new.claims.items
-    (ap (map (λ (r : ClaimFact). r.key)) c.discharge_claims.ensures.items ∙ same_keys (λ (r : ClaimFact). r.key) step facts (λ r. refl)) c.self.invariant
+pub loop-i-init : goal.loop-i-init
+loop-i-init c =
+    let none : (n : ℕ) → n - 0 ≡ n = λ n. omega arith in
+    record { facts = map_start (claim_after c.args.cut.now c.args.discharges.now 0) c.args.self.now.facts (λ x. ap (λ (n : ℕ). record x { left = n }) (none x.left)); room = refl }
+
+pub loop-i-preserved : goal.loop-i-preserved
+loop-i-preserved c =
+    let cut = c.args.cut.now in
+    let i = c.loop-i.i in
+    let x = c.claim-item.result in
+    let lt = subst (λ (cs : List CutClaim). i < length cs) c.claims-claim-items.ensures c.loop-i-test.true in
+    let is = c.claim-item.is ∙ ap (λ (cs : List CutClaim). get_or cs i x) c.claims-claim-items.ensures in
+    record {
+      facts = c.receive.ensures.facts
+          ∙ ap (map (with_receipt x.key (slice_index c.args.discharges.now i))) c.loop-i.invariant.facts
+          ∙ map_step (with_receipt x.key (slice_index c.args.discharges.now i)) (claim_after cut c.args.discharges.now i) _ c.args.self.now.facts
+          (claim_next cut c.args.discharges.now i x (slice_index c.args.discharges.now i) c.requires.formed.keys lt is refl);
+      room = c.receive.ensures.room ∙ c.loop-i.invariant.room;
+    }
+
+pub returns-clause-facts : goal.returns-clause-facts
+returns-clause-facts c =
+    c.loop-i.invariant.facts
+    ∙ claims_whole c.args.cut.now c.args.discharges.now c.loop-i.i c.args.self.now.facts (subst (λ (cs : List CutClaim). length cs ≤ c.loop-i.i) c.claims-claim-items.ensures (omega arith))

@@ -21,7 +21,7 @@ stay_step true n m h = refl
 stay_step false n m h = ap (λ k. 1 + k) (h refl)
 
 -- a first place stays, whatever is put at the end
-place_push : {X : Type 0} (p : X → Bool) (xs : List X) (y : X) → list_any p xs ≡ true → position_or_len p (xs ++ y ∷ []) ≡ position_or_len p xs
+pub place_push : {X : Type 0} (p : X → Bool) (xs : List X) (y : X) → list_any p xs ≡ true → position_or_len p (xs ++ y ∷ []) ≡ position_or_len p xs
 place_push p [] y e = absurd (true≢false (sym e))
 place_push p (x ∷ xs) y e = stay_step (p x) _ _ (λ f. place_push p xs y (or_rest (p x) (list_any p xs) e f))
 
