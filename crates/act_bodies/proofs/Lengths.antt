@@ -6,7 +6,7 @@ use Rattle.std.proofs.lemmas.Bool.{leb-true, and_parts}
 use Rattle.std.proofs.lemmas.List.Concat.{flat_map-cons}
 use Rattle.setoff_model.specs.Limits.{most_claims, most_firms}
 use Rattle.setoff_model.specs.declared.name.Key.{Key}
-use Rattle.setoff_model.specs.Names.{is_name, is_letter, is_name_byte}
+use Rattle.setoff_model.specs.Names.{is_name}
 use Rattle.setoff_model.specs.CutView.{OutcomeView}
 use Rattle.setoff_model.proofs.Padded.{length-name}
 use Rattle.claim_history.specs.declared.act.Act.{Act}
