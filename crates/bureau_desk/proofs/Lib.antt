@@ -1,3 +1,6 @@
 pub mod Cuts
 pub mod Keeping
+pub mod Opened
+pub mod Faults
+mod Results
 pub mod Publishable

@@ -13,7 +13,7 @@ use Rattle.claim_history.specs.History.{answer_of, IsLegal, AreValid}
 use Rattle.claim_history.specs.Needs.{IsWithinLimits}
 use Rattle.disk_model.specs.Calls.{Seen, IsPresent}
 use Rattle.claim_history.specs.Callers.{accepted_calls, has_closed}
-use Rattle.recorded_book.specs.Calls.{HoldsFirst}
+use Rattle.recorded_book.specs.Calls.{CanBeKept, HoldsFirst, StandsForLeft}
 use Rattle.recorded_book.specs.Moments.{HasMoments, HeldSince}
 use Rattle.recorded_book.specs.Devices.{AreBetween}
 use Rattle.claim_history.specs.Rounds.{cuts_after}
@@ -101,6 +101,7 @@ pub record KeepsDesk {D : Type 0} (seen : D → Seen) (d : DeskView D) : Type 0 
   pub legal : IsLegal d.history
   pub valid : AreValid d.history
   pub within : IsWithinLimits d.history
+  pub keepable : CanBeKept d.history
   -- the entries that were opened, and those at the last clearing, are among those of the history
   pub opened_few : d.opened_with ≤ length d.history
   pub cleared_few : d.cleared_with ≤ length d.history
@@ -113,6 +114,10 @@ pub record KeepsDesk {D : Type 0} (seen : D → Seen) (d : DeskView D) : Type 0 
   pub rounds_are : d.rounds ≡ cuts_after d.cleared_with d.history
   -- the moments of the accepted calls, from the first sync of the opening on
   pub moments : IsTrue (seen d.disk).tells → HasMoments (seen d.disk) (seen d.at_first_sync).moment d.opened_with d.history
+  -- a crash now leaves bytes that stand for the accepted calls, alone or with one that the disk failed for after them; and so the
+  -- disk reads
+  pub stands : IsTrue (seen d.disk).tells → (c : List ℕ) → IsPresent (seen d.disk) c → StandsForLeft d.history c
+  pub reads_left : IsTrue (seen d.disk).tells → StandsForLeft d.history (seen d.disk).reads
   -- a crash now leaves all accepted calls
   pub present : IsTrue (seen d.disk).tells → (c : List ℕ) → IsPresent (seen d.disk) c → HoldsFirst (accepted_calls d.history) c
   -- a crash since the last clearing leaves those that were accepted by then

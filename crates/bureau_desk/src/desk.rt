@@ -9,7 +9,7 @@ ghost use Rattle.bureau_desk.specs.Publishing.{IsPublishable, IsPublishReply};
 ghost use Rattle.claim_history.specs.History.{is_accepted};
 ghost use Rattle.round_journal.specs.Stops.{HasCause};
 ghost use Rattle.round_journal.specs.Opened.{IsQuiet};
-ghost use Rattle.bureau_desk.specs.Opening.{IsDeskOpen, HasDeskCause, IsBegun, IsNotBegun, StopsAt, HasViewed};
+ghost use Rattle.bureau_desk.specs.Opening.{IsDeskOpen, IsDeskRefused, HasDeskCause, HasViewCause, IsBegun, IsBeginFault, IsNotBegun, StopsAt, HasViewed};
 ghost use Rattle.bureau_desk.specs.Desks.{HasSameBase, KeepsDesk, HasPublished};
 
 use crate::desk_refused::{DeskCause, DeskRefused};
@@ -48,12 +48,15 @@ impl<D: Disk> Desk<D> {
     /// Opens a desk on a disk: its history is that of the records of the disk's journal, each with its one reply. Where they
     /// leave a round open, the bureau itself abandons it, and that is kept on the disk, too.
     ///
+    /// Until the first sync has succeeded the disk reads as it did, and a crash leaves what it could have left before. From then on
+    /// each image holds the records, alone or with the abandonment. More than nine bytes that stand for no sound records stay.
+    ///
     /// An Err hands the disk back. Memory: there was none. Device: the disk's count of faults rose, or stands at its last value.
     /// BadHeader and BadRecord: as for a journal. BadAct and Overfull: the first record that is refused by those before it, or
     /// is above the limits: BadAct where it is refused, else Overfull.
     pub fn open(alloc: Global, disk: D) -> Result<Desk<D>, DeskRefused<D>>
         ensures ok { IfOk result (IsDeskOpen D.seen disk) }
-        ensures err { IfErr result (λ e. HasDeskCause (D.seen disk).tells (D.seen disk).reads (D.seen disk).count (D.seen e.disk).count e.cause) }
+        ensures err { IfErr result (λ e. IsDeskRefused (D.seen disk) (D.seen e.disk) e.cause) }
     {
         let (journal, records) = match Journal::open(alloc, disk) {
             Ok(opened) => opened,
@@ -74,10 +77,10 @@ impl<D: Disk> Desk<D> {
     }
 
     /// The book of the records of a disk's journal, each with its one reply. It writes nothing, and abandons no round. The causes of
-    /// an Err are those of `open`.
+    /// an Err are those of `open`, and Device has the counts of the disk before the call and after it.
     pub fn view(alloc: Global, disk: &mut D) -> Result<Book, DeskCause>
         ensures ok { IfOk result (λ book. HasViewed (D.seen disk.old).tells (D.seen disk.old).reads book.history) }
-        ensures err { IfErr result (HasDeskCause (D.seen disk.old).tells (D.seen disk.old).reads (D.seen disk.old).count (D.seen disk.new).count) }
+        ensures err { IfErr result (HasViewCause (D.seen disk.old).tells (D.seen disk.old).reads (D.seen disk.old).count (D.seen disk.new).count) }
         ensures quiet { IsQuiet (D.seen disk.old) (D.seen disk.new) }
     {
         match read_records(alloc, disk) {
@@ -138,11 +141,11 @@ impl<D: Disk> Desk<D> {
     /// Device comes only where the disk's count of faults rose in this call, or stands at its last value. Then the round is
     /// open, and the outcome stands in the entry.
     pub fn publish(&mut self, caller: u32, checked: Checked) -> PublishReply
-        requires caller { 1 ≤ caller }
         requires owned { IsPublishable self.old.history caller checked.cut }
         ensures published { HasPublished D.seen self.old self.new caller checked.cut checked.outcome result }
         ensures base { HasSameBase self.old self.new }
     {
+        let _kept = self.kept.book();
         let (cut, outcome) = checked.parts();
         let (reply, published) = self.kept.publish(caller, cut.round(), outcome);
         match published {
@@ -235,7 +238,7 @@ fn begun<D: Disk>(kept: RecordedBook<D>, rounds: Vec<Cut>) -> Result<Desk<D>, De
     requires empty { rounds.items ≡ [] }
     requires accepted { All (λ e. is_accepted e ≡ true) kept.book.history }
     ensures ok { IfOk result (IsBegun D.seen kept) }
-    ensures err { IfErr result (λ e. IsNotBegun (D.seen kept.recorder.journal.disk).count (D.seen e.disk).count e.cause) }
+    ensures err { IfErr result (λ e. IsNotBegun D.seen kept e.disk e.cause) }
 {
     let mut kept = kept;
     match kept.abandon() {
@@ -251,7 +254,7 @@ fn begun<D: Disk>(kept: RecordedBook<D>, rounds: Vec<Cut>) -> Result<Desk<D>, De
 }
 
 fn abandon_cause(why: NotAbandoned) -> DeskCause
-    ensures { (low high : ℕ) → IsNotAbandoned low high why → IsNotBegun low high result }
+    ensures { (low high : ℕ) → IsNotAbandoned low high why → IsBeginFault low high result }
 {
     match why {
         NotAbandoned::Memory => DeskCause::Memory,
@@ -260,7 +263,7 @@ fn abandon_cause(why: NotAbandoned) -> DeskCause
 }
 
 fn journal_cause(cause: JournalCause) -> DeskCause
-    ensures { (tells : Bool) (bytes : List ℕ) (low high : ℕ) → HasCause tells bytes low high cause → HasDeskCause tells bytes low high result }
+    ensures { (tells : Bool) (bytes : List ℕ) (low high : ℕ) → HasCause tells bytes low high cause → HasViewCause tells bytes low high result }
 {
     match cause {
         JournalCause::Memory => DeskCause::Memory,
@@ -271,7 +274,7 @@ fn journal_cause(cause: JournalCause) -> DeskCause
 }
 
 fn replay_cause(stop: ReplayStop) -> DeskCause
-    ensures { (tells : Bool) (bytes : List ℕ) (low high : ℕ) → StopsAt tells bytes stop → HasDeskCause tells bytes low high result }
+    ensures { (tells : Bool) (bytes : List ℕ) (low high : ℕ) → StopsAt tells bytes stop → HasViewCause tells bytes low high result }
 {
     match stop {
         ReplayStop::Memory => DeskCause::Memory,

@@ -2,7 +2,7 @@
 use Rattle.std.proofs.Common.{◌≡◌, ◌∙◌, ℕ, ◌+◌, Bool, true, if◌then◌else◌, List, [], ◌∷◌, ◌++◌, length, take, map, filter, flat_map, reverse, All, None, IsTrue, refl, sym, ap, subst, append_assoc, arith, length-append}
 use Rattle.std.specs.List.{sum_by}
 use Rattle.std.proofs.lemmas.List.{reverse-append, map-append, append-nil, length-map}
-use Rattle.std.proofs.lemmas.List.Elements.{All-head, All-tail, All-weaker}
+use Rattle.std.proofs.lemmas.List.Elements.{All-cons, All-head, All-map, All-nil, All-tail, All-weaker}
 use Rattle.std.proofs.lemmas.List.Sums.{sum_by-cons}
 use Rattle.disk_model.specs.Calls.{Seen}
 use Rattle.claim_history.specs.declared.entry.Entry.{Entry}
@@ -21,7 +21,7 @@ use Rattle.round_journal.specs.declared.record.Record.{Record}
 use Rattle.journal_replay.specs.Replays.{history_of, AreSound}
 use Rattle.journal_replay.specs.Replays.{call_of as call_in}
 use Rattle.claim_history.specs.Callers.{call_of, accepted_calls}
-use Rattle.recorded_book.specs.Calls.{bodies_of_calls}
+use Rattle.recorded_book.specs.Calls.{bodies_of_calls, CanBeKept}
 use Rattle.recorded_book.specs.Moments.{HasMoments}
 use Rattle.recorded_book.specs.Devices.{IsBetween, AreBetween}
 use Rattle.recorded_book.specs.Recorded.{RecorderView, Records}
@@ -47,7 +47,7 @@ replay_calls (call ∷ calls) past =
 pub calls_of_records : (records : List Record) → AreSound records → accepted_calls (history_of records) ≡ map call_in records
 calls_of_records records sound = all_accepted (history_of records) sound.accepted ∙ replay_calls (map call_in records) []
 
-bodies_same : (records : List Record) → bodies_of_calls (map call_in records) ≡ bodies_of records
+pub bodies_same : (records : List Record) → bodies_of_calls (map call_in records) ≡ bodies_of records
 bodies_same [] = refl
 bodies_same (r ∷ records) = ap (λ (l : List (List ℕ)). body_of r.caller r.act ∷ l) (bodies_same records)
 
@@ -67,6 +67,17 @@ records_long (r ∷ records) all =
 pub place_of_records : (records : List Record) (gate : ℕ) → AreKeepable records → AreSound records → gate ≡ length (front (bodies_of records)) → gate + 1 ≡ used_bytes_of (history_of records)
 place_of_records records gate keepable sound place =
     omega (arith, place, length-append header (flat_map record_bytes (bodies_of records)), records_long records keepable, (calls_law (map call_in records)).bytes sound.accepted)
+
+-- ---- their calls can be kept
+
+all_of_map : {X Y : Type 0} (P : Y → Type 0) (f : X → Y) (xs : List X) → All P (map f xs) → All (λ x. P (f x)) xs
+all_of_map P f [] all = All-nil (λ x. P (f x))
+all_of_map P f (x ∷ xs) all = All-cons (λ x. P (f x)) x xs (All-head P (f x) (map f xs) all) (all_of_map P f xs (All-tail P (f x) (map f xs) all))
+
+pub keepable_records : (records : List Record) → AreKeepable records → CanBeKept (history_of records)
+keepable_records records all =
+    let P : Call → Type 0 = λ call. is_keepable call.caller call.act ≡ true in
+    all_of_map P call_of (history_of records) (subst (λ (calls : List Call). All P calls) (sym (replay_calls (map call_in records) [])) (All-map P call_in records all))
 
 -- ---- no device
 
@@ -98,6 +109,7 @@ records_opened seen disk journal records spare is sound =
       place = place_of_records records journal.gate is.found.keepable sound is.place;
       opened_few = omega arith;
       cleared_few = omega arith;
+      keepable = keepable_records records is.found.keepable;
       counted = omega (arith, no_count history sound.accepted);
       same = refl;
       later = omega arith;
@@ -148,6 +160,7 @@ records_begun {D = D} seen r r' history has accepted journal opened opened_with 
       place = has.place;
       opened_few = has.opened_few;
       cleared_few = omega arith;
+      keepable = has.keepable;
       counted = has.counted;
       same = refl;
       later = omega arith;

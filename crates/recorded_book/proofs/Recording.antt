@@ -12,7 +12,7 @@ use Rattle.claim_history.specs.declared.entry.Why.TheVariants as why
 use Rattle.claim_history.specs.History.{Call, is_accepted, is_no_refusal, second_count, last_count}
 use Rattle.claim_history.specs.Needs.{is_of_device, body_length_of, record_length_of, own_bytes}
 use Rattle.claim_history.proofs.Room.{use_law}
-use Rattle.act_bodies.specs.Bodies.{body_of}
+use Rattle.act_bodies.specs.Bodies.{body_of, is_keepable}
 use Rattle.round_journal.specs.Bytes.{StandsFor}
 use Rattle.round_journal.specs.Kept.{JournalView, IsKept, IsLast, HoldsOne}
 use Rattle.claim_history.specs.Callers.{call_of, accepted_calls}
@@ -97,8 +97,8 @@ module _ {D : Type 0} (seen : D → Seen) where
   view_at journal spare opened opened_with cleared cleared_with = record { journal = journal; spare = spare; at_opening_end = opened; opened_with = opened_with; at_clearing = cleared; cleared_with = cleared_with }
 
   -- an entry that makes no call of the disk: it is refused, and tells of no device
-  pub records_noted : (r : RecorderView D) (history : List Entry) (e : Entry) → is_accepted e ≡ false → is_of_device e.reply ≡ false → Records seen r history → Records seen r (history ++ e ∷ [])
-  records_noted r history e refused undevice has =
+  pub records_noted : (r : RecorderView D) (history : List Entry) (e : Entry) → is_accepted e ≡ false → is_of_device e.reply ≡ false → is_keepable e.caller e.act ≡ true → Records seen r history → Records seen r (history ++ e ∷ [])
+  records_noted r history e refused undevice can has =
       let uses = use_law history e in
       let long : length (history ++ e ∷ []) ≡ length history + 1 = length-append history (e ∷ []) in
       let empty : List ℕ → Type 0 = λ c. ⊥ in
@@ -107,6 +107,7 @@ module _ {D : Type 0} (seen : D → Seen) where
         place = omega (arith, has.place, uses.bytes, own_refused e.act e.reply refused);
         opened_few = omega (arith, has.opened_few, long);
         cleared_few = omega (arith, has.cleared_few, long);
+        keepable = All-push (λ (x : Entry). is_keepable x.caller x.act ≡ true) history e has.keepable can;
         counted = omega (arith, count_more history e, undevice_count e.reply undevice, has.counted);
         same = has.same;
         later = has.later;
@@ -126,6 +127,7 @@ module _ {D : Type 0} (seen : D → Seen) where
         place = has.place;
         opened_few = has.opened_few;
         cleared_few = omega arith;
+        keepable = has.keepable;
         counted = has.counted;
         same = has.same;
         later = has.later;
@@ -143,6 +145,7 @@ module _ {D : Type 0} (seen : D → Seen) where
   -- an append of the call of an entry
   module _ (j j' : JournalView D) (spare spare' : ℕ) (opened : D) (opened_with : ℕ) (cleared : D) (cleared_with : ℕ) (history : List Entry) (e : Entry) (body : List ℕ)
       (has : Records seen (view_at j spare opened opened_with cleared cleared_with) history)
+      (can : is_keepable e.caller e.act ≡ true)
       (body_is : body ≡ body_of e.caller e.act)
       (same_opened : j'.at_first_sync ≡ j.at_first_sync)
       (same_tells : (seen j'.disk).tells ≡ (seen j.disk).tells)
@@ -169,6 +172,7 @@ module _ {D : Type 0} (seen : D → Seen) where
           place = omega (arith, has.place, gate, length_is, uses.bytes, own_accepted e.act e.reply accepted);
           opened_few = omega (arith, has.opened_few, long);
           cleared_few = omega (arith, has.cleared_few, long);
+          keepable = All-push (λ (x : Entry). is_keepable x.caller x.act ≡ true) history e has.keepable can;
           counted = omega (arith, count_more history e, accepted_count e.reply accepted, has.counted, counts);
           same = same_tells ∙ has.same;
           later = omega (arith, has.later, counts);
@@ -200,6 +204,7 @@ module _ {D : Type 0} (seen : D → Seen) where
           place = omega (arith, has.place, gate, uses.bytes, own_refused e.act e.reply refused);
           opened_few = omega (arith, has.opened_few, long);
           cleared_few = omega (arith, has.cleared_few, long);
+          keepable = All-push (λ (x : Entry). is_keepable x.caller x.act ≡ true) history e has.keepable can;
           counted = omega (arith, count_more history e, second, has.counted, counts);
           same = same_tells ∙ has.same;
           later = omega (arith, has.later, counts);

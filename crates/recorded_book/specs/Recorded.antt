@@ -7,7 +7,7 @@ use Rattle.claim_history.specs.Needs.{used_bytes_of}
 use Rattle.act_bodies.specs.Bodies.{body_of}
 use Rattle.round_journal.specs.Kept.{JournalView, IsKept}
 use Rattle.claim_history.specs.Callers.{accepted_calls}
-use Rattle.recorded_book.specs.Calls.{bodies_of_calls, TriedLast}
+use Rattle.recorded_book.specs.Calls.{bodies_of_calls, CanBeKept, TriedLast}
 use Rattle.recorded_book.specs.Moments.{HasMoments, HeldSince}
 use Rattle.recorded_book.specs.Devices.{AreBetween}
 
@@ -44,6 +44,8 @@ pub record Records {D : Type 0} (seen : D → Seen) (r : RecorderView D) (histor
   -- the entries that were opened, and those at the last clearing, are among those of the history
   pub opened_few : r.opened_with ≤ length history
   pub cleared_few : r.cleared_with ≤ length history
+  -- each of its calls can be kept
+  pub keepable : CanBeKept history
   -- no entry tells of a count above the present one
   pub counted : last_count (reverse history) ≤ (seen r.journal.disk).count
   -- since the end of the opening the disk tells its bytes as then, and its count has not fallen

@@ -1,5 +1,5 @@
 //! A book whose accepted acts are in a journal.
-ghost use Rattle.std.specs.Prelude.{◌≡◌, ◌+◌, ◌≤◌, length, Some, is_some, true, false, ◌*◌, All, ℕ, List, IfOk, IfErr, OnOk, OnErr};
+ghost use Rattle.std.specs.Prelude.{◌≡◌, ◌+◌, ◌≤◌, length, Some, is_some, true, false, ◌*◌, All, IsTrue, ℕ, List, IfOk, IfErr, OnOk, OnErr};
 ghost use Rattle.setoff_model.specs.Setoff.{total_of};
 ghost use Rattle.setoff_model.specs.CutView.{WellFormed};
 ghost use Rattle.claim_history.specs.Cut.{cut_of};
@@ -17,6 +17,8 @@ ghost use Rattle.claim_book.specs.Book.{room_for, GivesCut, ledger_of, open_cut_
 ghost use Rattle.journal_replay.specs.Replays.{history_of, AreSound};
 ghost use Rattle.round_journal.specs.Opened.{IsOpen};
 ghost use Rattle.round_journal.specs.declared.record.Record.{Record};
+ghost use Rattle.disk_model.specs.Calls.{Passes};
+ghost use Rattle.recorded_book.specs.Calls.{HoldsAbandoning};
 ghost use Rattle.recorded_book.specs.Recorded.{Records};
 ghost use Rattle.recorded_book.specs.Acting.{HasActed, IsActError, IsLater, IsUntouched, IsSpared, IsOutcomeDue, HasClosed, IsCloseDue, IsCutReply, IsNotAbandoned, IsOpenedHistory, entry_of};
 
@@ -72,10 +74,11 @@ impl<D: Disk> RecordedBook<D> {
     }
 
     /// Abandons the open round as the bureau itself, where one is open. An Err means that there was no memory, or that the disk
-    /// failed.
+    /// failed. Each image since the start holds what was left, or, where a round was open, the accepted calls and the abandonment.
     pub fn abandon(&mut self) -> Result<(), NotAbandoned>
         ensures done { OnOk result (IsOpenedHistory self.old.book.history self.new.book.history) }
         ensures cause { IfErr result (IsNotAbandoned (D.seen self.old.recorder.journal.disk).count (D.seen self.new.recorder.journal.disk).count) }
+        ensures crash { IsTrue (D.seen self.old.recorder.journal.disk).tells → Passes (D.seen self.old.recorder.journal.disk) (D.seen self.new.recorder.journal.disk) (HoldsAbandoning self.old.book.history) }
         ensures later { IsLater D.seen self.old.recorder self.new.recorder }
     {
         if !has_open(self.book.book()) {

@@ -69,6 +69,7 @@ impl<D: Disk> Recorder<D> {
         ensures journal { self.new.journal ≡ self.old.journal }
         ensures later { IsLater D.seen self.old self.new }
     {
+        self.body.clear();
         self.body.reserve(bytes)
     }
 

@@ -1,6 +1,6 @@
 -- What an open journal keeps of its disk.
-use Rattle.std.specs.Prelude.{◌≡◌, ◌⊎◌, ◌<◌, ◌^◌, ℕ, Bool, List, [], ◌∷◌, ◌++◌, length, Option, Some, None, is_some, IfSome, IsTrue}
-use Rattle.disk_model.specs.Calls.{Seen, IsPresent}
+use Rattle.std.specs.Prelude.{◌≡◌, ◌⊎◌, ◌<◌, ◌^◌, ℕ, Bool, true, false, List, [], ◌∷◌, ◌++◌, length, Option, Some, None, is_some, IfSome, IsTrue}
+use Rattle.disk_model.specs.Calls.{Seen, IsPresent, Passes}
 use Rattle.round_journal.specs.Bytes.{measured, front, AreShort, StandsFor, EndsClosed}
 
 -- What contracts see of a journal: its disk, the place of the gate for the next record, whether an append that failed may
@@ -47,6 +47,30 @@ pub record IsStaged (disk : Seen) (gate : ℕ) (bodies : List (List ℕ)) (body 
   pub fits : length body < 2 ^ 32
   pub place : gate ≡ length (front bodies)
   pub images : (c : List ℕ) → IsPresent disk c → HasStaged (front bodies) (staged body) c
+
+-- An append whose gate was settled failed before it began to open the gate. In each image since, the bodies end with a gate that
+-- is not open, and nothing is left to settle.
+pub record HasFailedShut (old new : Seen) (gate : ℕ) (unsettled : Bool) (bodies : List (List ℕ)) : Type 0 where
+  pub settled : unsettled ≡ false
+  pub kept : IsKeptAt new gate unsettled bodies None
+  pub crash : Passes old new (HasBodies bodies None)
+
+-- It failed once it had begun to open the gate. The record had been synced behind the gate by then, and stands there in each image
+-- since.
+pub record HasFailedOpening {D : Type 0} (seen : D → Seen) (old new : D) (gate : ℕ) (unsettled : Bool) (bodies : List (List ℕ)) (body : List ℕ) : Type 0 where
+  pub begun : D
+  pub before : Passes (seen old) (seen begun) (HasBodies bodies None)
+  pub behind : IsStaged (seen begun) gate bodies body
+  pub crash : Passes (seen begun) (seen new) (HasStaged (front bodies) (staged body))
+  pub kept : IsKeptAt (seen new) gate unsettled bodies (Some body)
+
+-- How an append failed: while it closed a gate that an earlier one had left unsettled, which is so still; or once it had none to
+-- settle, in one of those two ways.
+abbrev pub HasFailedIn : {D : Type 0} → (D → Seen) → D → D → ℕ → Bool → List (List ℕ) → Option (List ℕ) → List ℕ → Type 0
+HasFailedIn {D} seen old new gate unsettled bodies last body =
+    ((is_some last ≡ true) × IsKeptAt (seen new) gate unsettled bodies last × Passes (seen old) (seen new) (HasBodies bodies last))
+    ⊎ ((begun : D) × Passes (seen old) (seen begun) (HasBodies bodies last) × IsKeptAt (seen begun) gate false bodies None
+    × (HasFailedShut (seen begun) (seen new) gate unsettled bodies ⊎ HasFailedOpening seen begun new gate unsettled bodies body))
 
 -- what an append that failed may leave as the last one tried: what was, nothing, or its own
 abbrev pub IsLast : Option (List ℕ) → List ℕ → Option (List ℕ) → Type 0

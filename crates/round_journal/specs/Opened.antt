@@ -69,6 +69,7 @@ pub record IsOpen {D : Type 0} (seen : D → Seen) (old : D) (journal : JournalV
   pub found : AreFound (seen old).tells (seen old).reads records
   pub place : journal.gate ≡ length (front (bodies_of records))
   pub kept : IsTrue (seen old).tells → IsKept seen journal (bodies_of records) None
+  pub first_reads : (seen journal.at_first_sync).reads ≡ (seen old).reads
   pub turned : IsTrue (seen old).tells → HasTurned (seen old) (seen journal.at_first_sync).moment (seen journal.disk)
   pub spared : IsTrue (seen old).tells → IsSpared (seen old).reads (seen journal.disk).reads
   pub same : (seen journal.disk).tells ≡ (seen old).tells

@@ -4,7 +4,7 @@ ghost use Rattle.disk_model.specs.Calls.{Passes};
 ghost use Rattle.fault_count.specs.Counts.{HasRisen};
 ghost use Rattle.setoff_model.specs.Limits.{most_journal_bytes};
 ghost use Rattle.round_journal.specs.Bytes.{most_body};
-ghost use Rattle.round_journal.specs.Kept.{IsKept, IsLast, HoldsOne};
+ghost use Rattle.round_journal.specs.Kept.{HasFailedIn, IsKept, IsLast, HoldsOne};
 ghost use Rattle.round_journal.specs.Opened.{IsOpen, IsRefused};
 
 use crate::cause::JournalCause;
@@ -81,13 +81,16 @@ impl<D: Disk> Journal<D> {
     /// open the gate, two calls before these close it again.
     ///
     /// After an Ok every present image has the record. An Err means that the disk failed. Then the records are kept as
-    /// they were, and an image may have the new one behind them, or the one of the append that failed before.
+    /// they were, and an image may have the new one behind them, or the one of the append that failed before. Where it
+    /// failed before it began to open the gate, and with none to close first, nothing is left to settle.
     pub fn append(&mut self, body: &[u8]) -> Result<(), Device>
         requires short { length body.now ≤ most_body }
         requires near { self.old.gate + 5 + length body.now ≤ most_journal_bytes }
         ensures done { OnOk result ((bodies : List (List ℕ)) (last : Option (List ℕ)) → IsKept D.seen self.old bodies last → IsKept D.seen self.new (bodies ++ body.now ∷ []) None) }
         ensures failed { OnErr result ((bodies : List (List ℕ)) (last : Option (List ℕ)) → IsKept D.seen self.old bodies last
             → (after : Option (List ℕ)) × IsLast last body.now after × IsKept D.seen self.new bodies after) }
+        ensures failed_in { OnErr result ((bodies : List (List ℕ)) (last : Option (List ℕ)) → IsKept D.seen self.old bodies last
+            → HasFailedIn D.seen self.old.disk self.new.disk self.new.gate self.new.unsettled bodies last body.now) }
         ensures crash { (bodies : List (List ℕ)) (last : Option (List ℕ)) → IsKept D.seen self.old bodies last
             → Passes (D.seen self.old.disk) (D.seen self.new.disk) (HoldsOne bodies last body.now) }
         ensures gate { OnOk result (self.new.gate ≡ self.old.gate + 5 + length body.now) }

@@ -32,6 +32,7 @@ mod stop;
 mod whole;
 mod written;
 
+pub use act_bodies::{body_length, encode};
 pub use cause::{JournalCause, RecordWhy};
 pub use device::Device;
 pub use journal::Journal;

@@ -1,10 +1,10 @@
 //! The bytes of a journal on its disk, and the writes of an append.
-ghost use Rattle.std.specs.Prelude.{◌≡◌, ◌+◌, ◌^◌, ◌<◌, ◌≤◌, ℕ, false, List, [], ◌∷◌, ◌++◌, length, Option, Some, None, IsTrue, OnOk, OnErr, vec_capacity};
+ghost use Rattle.std.specs.Prelude.{◌≡◌, ◌+◌, ◌^◌, ◌<◌, ◌≤◌, ℕ, true, false, List, [], ◌∷◌, ◌++◌, length, Option, Some, None, IsTrue, OnOk, OnErr, vec_capacity};
 ghost use Rattle.disk_model.specs.Calls.{Passes};
 ghost use Rattle.setoff_model.specs.Limits.{most_journal_bytes};
 ghost use Rattle.fault_count.specs.Counts.{IsCounted};
 ghost use Rattle.round_journal.specs.Bytes.{front, most_body};
-ghost use Rattle.round_journal.specs.Kept.{staged, HasBodies, HasStaged, IsKeptAt, IsStaged, IsLast, HoldsOne};
+ghost use Rattle.round_journal.specs.Kept.{staged, HasBodies, HasFailedIn, HasStaged, IsKeptAt, IsStaged, IsLast, HoldsOne};
 
 use crate::written::write_and_sync;
 use disk_model::{Disk, DiskFailed};
@@ -30,6 +30,8 @@ impl<D: Disk> Log<D> {
             → IsKeptAt (D.seen self.new.disk) self.new.gate self.new.unsettled (bodies ++ body.now ∷ []) None) }
         ensures failed { OnErr result ((bodies : List (List ℕ)) (last : Option (List ℕ)) → IsKeptAt (D.seen self.old.disk) self.old.gate self.old.unsettled bodies last
             → (after : Option (List ℕ)) × IsLast last body.now after × IsKeptAt (D.seen self.new.disk) self.new.gate self.new.unsettled bodies after) }
+        ensures failed_in { OnErr result ((bodies : List (List ℕ)) (last : Option (List ℕ)) → IsKeptAt (D.seen self.old.disk) self.old.gate self.old.unsettled bodies last
+            → HasFailedIn D.seen self.old.disk self.new.disk self.new.gate self.new.unsettled bodies last body.now) }
         ensures crash { (bodies : List (List ℕ)) (last : Option (List ℕ)) → IsKeptAt (D.seen self.old.disk) self.old.gate self.old.unsettled bodies last
             → Passes (D.seen self.old.disk) (D.seen self.new.disk) (HoldsOne bodies last body.now) }
         ensures gate { OnOk result (self.new.gate ≡ self.old.gate + 5 + length body.now) }
@@ -53,6 +55,7 @@ impl<D: Disk> Log<D> {
         ensures crash { (bodies : List (List ℕ)) (last : Option (List ℕ)) → IsKeptAt (D.seen self.old.disk) self.old.gate self.old.unsettled bodies last
             → Passes (D.seen self.old.disk) (D.seen self.new.disk) (HasBodies bodies last) }
         ensures settled { OnOk result (self.new.unsettled ≡ false) }
+        ensures due { OnErr result (self.old.unsettled ≡ true) }
         ensures gate { self.new.gate ≡ self.old.gate }
         ensures tells { (D.seen self.new.disk).tells ≡ (D.seen self.old.disk).tells }
         ensures cause { IsCounted (D.seen self.old.disk).count (D.seen self.new.disk).count result }

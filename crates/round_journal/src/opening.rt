@@ -27,6 +27,7 @@ pub(crate) fn open_disk<D: Disk>(alloc: Global, disk: &mut D) -> Result<Opening<
     ensures found { IfOk result (λ o. AreFound (D.seen disk.old).tells (D.seen disk.old).reads o.scan.records.items) }
     ensures place { IfOk result (λ o. o.scan.gate ≡ length (front (bodies_of o.scan.records.items))) }
     ensures kept { IfOk result (λ o. IsTrue (D.seen disk.old).tells → IsKeptAt (D.seen disk.new) o.scan.gate false (bodies_of o.scan.records.items) None) }
+    ensures first { IfOk result (λ o. (D.seen o.opened.value).reads ≡ (D.seen disk.old).reads) }
     ensures turned { IfOk result (λ o. IsTrue (D.seen disk.old).tells → HasTurned (D.seen disk.old) (D.seen o.opened.value).moment (D.seen disk.new)) }
     ensures opened { IfErr result (λ _. IsTrue (D.seen disk.old).tells → HasOpened (D.seen disk.old) (D.seen disk.new)) }
     ensures spared { IfOk result (λ _. IsTrue (D.seen disk.old).tells → IsSpared (D.seen disk.old).reads (D.seen disk.new).reads) }
@@ -43,6 +44,7 @@ pub(crate) fn open_disk<D: Disk>(alloc: Global, disk: &mut D) -> Result<Opening<
 // The bytes after a sync, and the disk as it was when the sync had succeeded.
 fn read_synced<D: Disk>(alloc: Global, disk: &mut D) -> Result<(Vec<u8>, Snapshot<D>), Stop>
     ensures synced { IfOk result (λ r. IsTrue (D.seen disk.old).tells → IsSynced (D.seen disk.new) r.0.items) }
+    ensures first { IfOk result (λ r. (D.seen r.1.value).reads ≡ (D.seen disk.old).reads) }
     ensures turned { IfOk result (λ r. IsTrue (D.seen disk.old).tells → HasTurned (D.seen disk.old) (D.seen r.1.value).moment (D.seen disk.new)) }
     ensures opened { IfErr result (λ _. IsTrue (D.seen disk.old).tells → HasOpened (D.seen disk.old) (D.seen disk.new)) }
     ensures reads { (D.seen disk.new).reads ≡ (D.seen disk.old).reads }

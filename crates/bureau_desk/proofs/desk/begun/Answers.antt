@@ -18,5 +18,10 @@ invariant_of-result g c =
 pub returns-in-Err-clause-err : goal.returns-in-Err-clause-err
 returns-in-Err-clause-err g c =
     let low = (g.D.Disk.seen c.args.kept.recorder.journal.disk).count in
-    subst (λ (d : g.row.D.Denot). IsNotBegun low (g.D.Disk.seen d).count c.abandon_cause.result) (sym c.close.ensures)
-    (c.abandon_cause.ensures low (g.D.Disk.seen c.abandon.new.self.recorder.journal.disk).count c.in-Err.ensures.cause)
+    subst (λ (d : g.row.D.Denot). IsNotBegun g.D.Disk.seen c.args.kept d c.abandon_cause.result) (sym c.close.ensures)
+    (record {
+      has = c.abandon_cause.ensures low (g.D.Disk.seen c.abandon.new.self.recorder.journal.disk).count c.in-Err.ensures.cause;
+      crash = c.abandon.ensures.crash;
+      same = c.abandon.ensures.later.same;
+      later = c.abandon.ensures.later.counts;
+    })

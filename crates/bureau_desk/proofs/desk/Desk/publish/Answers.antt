@@ -9,10 +9,16 @@ use Rattle.claim_history.specs.States.{state_of}
 use Rattle.claim_history.specs.History.{answer_of}
 use Rattle.claim_book.specs.Book.{GivesCut}
 use Rattle.recorded_book.specs.Acting.{entry_of}
+use Rattle.recorded_book.proofs.Acted.{closed_by_other}
 use Rattle.bureau_desk.specs.Publishing.{IsPublishable}
 use Rattle.bureau_desk.specs.Desks.{DeskView, IsDesk}
 use Rattle.bureau_desk.proofs.Cuts.{desk_failed, desk_published, failed_reply, published_reply}
 use Rattle.bureau_desk.proofs.desk.Desk.publish.Goals as goal
+
+pub publish-reply-requires-clause-caller : goal.publish-reply-requires-clause-caller
+publish-reply-requires-clause-caller g c =
+    let owned = subst (λ (s : DeskView g.row.D.Denot). IsPublishable s.history c.args.caller c.args.checked.cut) (sym c.self.view_is) c.requires.owned in
+    closed_by_other c.self.inside.kept.book.history c.args.caller c.book-kept.ensures.records.keepable owned.closed
 
 pub invariant_of-self-in-None : goal.invariant_of-self-in-None
 invariant_of-self-in-None g c =

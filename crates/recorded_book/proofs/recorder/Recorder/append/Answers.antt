@@ -21,7 +21,7 @@ returns-clause-done g c =
     records_accepted g.D.Disk.seen c.self.inside.journal c.append.new.self (vec_capacity c.self.inside.body) (vec_capacity c.encode.new.buffer) c.self.inside.opened.value c.self.inside.opened_with c.self.inside.cleared.value c.self.inside.cleared_with
     history (record { caller = c.args.caller; act = c.args.act.now; reply = due }) c.deref.result.now
     (subst (λ (s : RecorderView g.row.D.Denot). Records g.D.Disk.seen s history) (sym c.self.view_is) has)
-    (c.deref.ensures.value ∙ c.encode.ensures.body) c.append.ensures.opened c.append.ensures.tells c.append.ensures.counts c.append.ensures.crash
+    c.requires.kept (c.deref.ensures.value ∙ c.encode.ensures.body) c.append.ensures.opened c.append.ensures.tells c.append.ensures.counts c.append.ensures.crash
     accepted gate (omega (arith, c.deref.ensures.len, c.encode.ensures.len)) done)
 
 pub returns-clause-failed : goal.returns-clause-failed
@@ -31,7 +31,7 @@ returns-clause-failed g c =
     records_failed g.D.Disk.seen c.self.inside.journal c.append.new.self (vec_capacity c.self.inside.body) (vec_capacity c.encode.new.buffer) c.self.inside.opened.value c.self.inside.opened_with c.self.inside.cleared.value c.self.inside.cleared_with
     history (record { caller = c.args.caller; act = c.args.act.now; reply = reply.Refused (why.Device e.before e.after) }) c.deref.result.now
     (subst (λ (s : RecorderView g.row.D.Denot). Records g.D.Disk.seen s history) (sym c.self.view_is) has)
-    (c.deref.ensures.value ∙ c.encode.ensures.body) c.append.ensures.opened c.append.ensures.tells c.append.ensures.counts c.append.ensures.crash
+    c.requires.kept (c.deref.ensures.value ∙ c.encode.ensures.body) c.append.ensures.opened c.append.ensures.tells c.append.ensures.counts c.append.ensures.crash
     refl refl gate (omega (arith, cause.1))
     (between_own (g.D.Disk.seen c.self.inside.journal.disk).count (g.D.Disk.seen c.append.new.self.disk).count e.before e.after c.args.caller c.args.act.now cause.0 cause.1 c.append.ensures.counts)
     failed)
@@ -42,4 +42,4 @@ returns-clause-crash g c history has =
     (append_goes g.D.Disk.seen c.self.inside.journal c.append.new.self (vec_capacity c.self.inside.body) (vec_capacity c.encode.new.buffer) c.self.inside.opened.value c.self.inside.opened_with c.self.inside.cleared.value c.self.inside.cleared_with
     history (record { caller = c.args.caller; act = c.args.act.now; reply = reply.Done }) c.deref.result.now
     (subst (λ (s : RecorderView g.row.D.Denot). Records g.D.Disk.seen s history) (sym c.self.view_is) has)
-    (c.deref.ensures.value ∙ c.encode.ensures.body) c.append.ensures.opened c.append.ensures.tells c.append.ensures.counts c.append.ensures.crash)
+    c.requires.kept (c.deref.ensures.value ∙ c.encode.ensures.body) c.append.ensures.opened c.append.ensures.tells c.append.ensures.counts c.append.ensures.crash)
