@@ -2,8 +2,6 @@
 # Writes requests of drawn claims and one round to standard output: bench/drawn.sh FIRMS CLAIMS SEED [HORIZON]
 # Each claim has a debtor, a creditor and an amount drawn by a linear congruential generator of 32 bits, and is confirmed.
 # The last line closes a PLAIN round with the horizon, by default 2025-12-31. With `none` there is no such line.
-# With `dimacs` it writes the net of these claims instead, as a minimum cost flow problem in the DIMACS format: an arc for each
-# debtor and creditor, with their claims' sum as its capacity and a cost of -1 a cent.
 set -eu
 exec python3 - "${1:?usage: bench/drawn.sh FIRMS CLAIMS SEED [HORIZON]}" "${2:?}" "${3:?}" "${4:-2025-12-31}" <<'PYTHON'
 import sys
@@ -38,16 +36,6 @@ def requests():
         yield f"1 CLOSE PLAIN {horizon}"
 
 
-def problem():
-    arcs = {}
-    for _ in range(claims):
-        debtor, creditor, cents = drawn()
-        arcs[debtor, creditor] = arcs.get((debtor, creditor), 0) + cents
-    yield f"p min {firms} {len(arcs)}"
-    for (debtor, creditor), cents in arcs.items():
-        yield f"a {debtor} {creditor} 0 {cents} -1"
-
-
-for line in problem() if horizon == "dimacs" else requests():
+for line in requests():
     print(line)
 PYTHON

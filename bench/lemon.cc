@@ -1,7 +1,7 @@
 // Solves a minimum cost flow problem by LEMON: lemon FILE RUNS SECONDS METHOD..
 // FILE is in the DIMACS format, with no supplies. A METHOD is `simplex`, its network simplex, or `scaling`, `push` or `augment`, its
 // cost scaling by partial augmentations, pushes or augmentations. Each runs RUNS times in a process of its own, which ends where a run
-// takes longer than SECONDS. Prints its name, the least processor milliseconds of a run with the building of the graph, and the cost times -1.
+// takes more than SECONDS of a processor. Prints its name, the least processor milliseconds of a run with the building of the graph, and the cost times -1.
 #include <lemon/cost_scaling.h>
 #include <lemon/network_simplex.h>
 #include <lemon/smart_graph.h>
@@ -11,6 +11,7 @@
 #include <cstdlib>
 #include <ctime>
 #include <string>
+#include <sys/time.h>
 #include <sys/wait.h>
 #include <unistd.h>
 #include <vector>
@@ -74,7 +75,8 @@ template <class Method, class Run> static void timed(const std::string &name, co
     double least = 1e9;
     long long total = 0;
     for (int i = 0; i < runs; i++) {
-      alarm(limit);
+      itimerval time = {{0, 0}, {limit, 0}};
+      setitimer(ITIMER_PROF, &time, nullptr);
       double began = seconds();
       total = solve<Method>(problem, run);
       least = std::min(least, seconds() - began);

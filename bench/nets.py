@@ -21,6 +21,12 @@ def even(draw):
     return 1 + int(draw.random() * 65_536)
 
 
+def step(draw):
+    """The next number of the generator of bench/drawn.sh."""
+    draw.state = (draw.state * 1_664_525 + 1_013_904_223) % 2**32
+    return draw.state // 65_536
+
+
 def log_uniform(draw):
     return min(MOST, int(math.exp(draw.random() * math.log(MOST + 1))))
 
@@ -35,21 +41,29 @@ def between(draw, firms, pick=None):
     return debtor, creditor
 
 
-def drawn(draw, size, amount=even):
-    firms = scaled(FIRMS, size)
-    return firms, [(*between(draw, firms), amount(draw)) for _ in range(scaled(CLAIMS, size))]
-
-
 def scaled(number, size):
-    return max(3, int(number * size))
+    return max(2, int(number * size))
 
 
-def trial(draw, size):
-    return drawn(draw, size)
+def claim_by_steps(draw, firms):
+    debtor = step(draw) % firms
+    creditor = step(draw) % (firms - 1)
+    return debtor, creditor + (creditor >= debtor), step(draw) + 1
+
+
+def drawn(firms, claims):
+    """Claims as bench/drawn.sh draws them."""
+
+    def family(draw, size):
+        many = scaled(firms, size)
+        return many, [claim_by_steps(draw, many) for _ in range(scaled(claims, size))]
+
+    return family
 
 
 def wide(draw, size):
-    return drawn(draw, size, log_uniform)
+    firms = scaled(FIRMS, size)
+    return firms, [(*between(draw, firms), log_uniform(draw)) for _ in range(scaled(CLAIMS, size))]
 
 
 def dense(draw, size):
@@ -165,8 +179,12 @@ def grid(draw, size):
 
 
 FAMILIES = {
-    "drawn": (trial, "claims drawn between any two firms, to 655.36"),
-    "wide": (wide, "the same with log-uniform amounts"),
+    "drawn-2": (drawn(2, 2), "2 claims between 2 firms, by the generator of bench/drawn.sh, to 655.36"),
+    "drawn-60": (drawn(60, 400), "400 claims between 60 firms, by the same"),
+    "drawn-400": (drawn(400, 4_000), "4,000 claims between 400 firms, by the same"),
+    "drawn-2000": (drawn(2_000, 20_000), "20,000 claims between 2,000 firms, by the same"),
+    "drawn": (drawn(FIRMS, CLAIMS), "262,144 claims between 16,384 firms, by the same"),
+    "wide": (wide, "as many claims drawn between any two firms, log-uniform"),
     "dense": (dense, "512 firms, each owes each, log-uniform"),
     "power": (power, "firm k is drawn with weight k^-0.8, log-uniform"),
     "local": (local, "each of 8,192 firms owes the next 32, log-uniform"),
@@ -197,6 +215,7 @@ def net(name, seed, size):
     """The windows of the parties and the claims of a family; one whose name ends with -funded has windows."""
     funded = name.endswith("-funded")
     draw = random.Random(seed)
+    draw.state = seed
     firms, claims = FAMILIES[name.removesuffix("-funded")][0](draw, size)
     return windows(draw, firms, funded), claims, funded
 

@@ -5,7 +5,7 @@ The families are those of bench/nets.py; without one all are taken, at full size
 crates as they stand, in a copy of the repository under bench/out, and by LEMON's network simplex and its three cost scalings, which
 bench/lemon.cc compiles from the headers of the package liblemon-dev. For each net it prints a line of a table: the processor
 milliseconds of either side, with the building of its graph, the least of three; how many times as fast the solver is as the
-best of LEMON; the bytes that the solver took for each arc at most; and the load of the machine. The totals are compared, and the
+best of LEMON; the bytes that the solver held at most, for each arc; and the load of the machine. The totals are compared, and the
 status is 1 where two differ.
 
 The solver's milliseconds are those of the whole program that solves some times, less those of the one that reads alone. With
@@ -24,6 +24,7 @@ OUT = HERE / "out"
 COPY = OUT / "repository"
 PROGRAM = COPY / "crates/timed_solver/out/timed_solver"
 LEMON = OUT / "lemon"
+COUNTER = OUT / "allocations.so"
 SECONDS = int(os.environ.get("BENCH_SECONDS", "25"))
 METHODS = ("simplex", "scaling", "push", "augment")
 DEPENDENCIES = "bureau_edge flow_solver level_solver netting_graph setoff_model statement_text"
@@ -34,7 +35,7 @@ ENOUGH, MOST_SOLVES = 1.5, 100
 
 def families():
     words = subprocess.run([sys.executable, HERE / "nets.py"], capture_output=True, text=True, check=True).stdout
-    return [line.split()[0] for line in words[words.index("drawn ") :].splitlines()]
+    return [line.split()[0] for line in words[words.index("drawn-2 ") :].splitlines()]
 
 
 def below(crates):
@@ -82,28 +83,36 @@ def build():
         subprocess.run(["rt", "run", "--", "0"], cwd=source.parent.parent, stdin=subprocess.DEVNULL, stdout=log, stderr=log)
     if not PROGRAM.exists():
         sys.exit(f"bench: the solver was not built; {OUT / 'build.log'} says why")
+    subprocess.run(["cc", "-O2", "-shared", "-fPIC", "-o", COUNTER, HERE / "allocations.c", "-ldl"], check=True)
     subprocess.run(["c++", "-O3", "-march=native", "-o", LEMON, HERE / "lemon.cc", "-llemon"], check=True)
 
 
 def run(statement, times):
-    """What a run of the program wrote, its processor seconds, and its peak of memory in bytes."""
+    """What a run of the program wrote, and its processor seconds."""
     with open(statement, "rb") as text, tempfile.TemporaryFile() as output:
         process = subprocess.Popen([PROGRAM, str(times)], stdin=text, stdout=output)
         _, status, used = os.wait4(process.pid, 0)
         process.returncode = os.waitstatus_to_exitcode(status)
         output.seek(0)
-        return output.read().decode().split(), used.ru_utime + used.ru_stime, used.ru_maxrss * 1024
+        return output.read().decode().split(), used.ru_utime + used.ru_stime
+
+
+def allocations(statement, times, after):
+    """How many allocations a run made, and how much more it held at most than at that one."""
+    with open(statement, "rb") as text:
+        words = subprocess.run([PROGRAM, str(times)], stdin=text, env={"LD_PRELOAD": str(COUNTER), "AFTER": str(after)}, capture_output=True, check=True)
+    return tuple(map(int, words.stderr.split()))
 
 
 def solver(statement):
-    """The total, the arcs, the least milliseconds of three, and the bytes for each arc."""
-    idle = [run(statement, 0) for _ in range(RUNS)]
-    reading, resting = min(seconds for _, seconds, _ in idle), min(peak for _, _, peak in idle)
-    words, once, peak = run(statement, 1)
+    """The total, the arcs, the least milliseconds of three, and the bytes that were held for each arc at most."""
+    reading = min(run(statement, 0)[1] for _ in range(RUNS))
+    words, once = run(statement, 1)
     times = max(1, min(MOST_SOLVES, int(ENOUGH / max(once - reading, 0.001))))
     least = min((run(statement, times)[1] - reading) / times for _ in range(RUNS))
     total, arcs, _ = map(int, words)
-    return total, arcs, least * 1e3, max(0, peak - resting) / max(arcs, 1)
+    held = allocations(statement, 1, allocations(statement, 0, 0)[0])[1]
+    return total, arcs, least * 1e3, held / max(arcs, 1)
 
 
 def lemon(problem):

@@ -28,6 +28,7 @@ pub(crate) fn edges_of(alloc: Global, net: &Net) -> Result<Vec<Edge>, AllocError
 {
     let mut edges = claim_edges(alloc, net.arcs())?;
     let windows = window_edges(alloc, net.parties())?;
+    edges.reserve_exact(windows.len())?;
     edges.extend_from_slice(&windows)?;
     Ok(edges)
 }
@@ -50,7 +51,7 @@ fn window_edges(alloc: Global, parties: &[Party]) -> Result<Vec<Edge>, AllocErro
     requires rooms { All (λ f. f.room ≤ most_window) parties.now }
     ensures { IfOk result (λ edges. AreWindows parties.now (length parties.now) edges.items) }
 {
-    let mut edges = Vec::new(alloc);
+    let mut edges = Vec::with_capacity(alloc, parties.len())?;
     for (place, party) in parties.iter().enumerate() {
         edges.push(Edge {
             tail: place,

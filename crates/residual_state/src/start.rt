@@ -24,6 +24,7 @@ pub(crate) fn flows_at_start(alloc: Global, net: &Net) -> Result<Vec<u64>, Alloc
         .iter()
         .map(|party| party.spend)
         .collect::<Vec<u64>>(alloc)?;
+    flows.reserve_exact(spends.len())?;
     flows.extend_from_slice(&spends)?;
     Ok(flows)
 }
