@@ -37,6 +37,12 @@ use Rattle.std.proofs.lemmas.List.Sums.{count_by-le-length}
 use Rattle.round_cut.proofs.OpenCut.{open_formed_law}
 use Rattle.claim_book.specs.declared.round.KeptRound.{KeptRound}
 use Rattle.claim_book.specs.Book.{BookParts, ledger_of, round_kept, is_abandoned, IsClose, IsBook}
+use Rattle.std.specs.Prelude.{◌*◌, sum_by}
+use Rattle.std.proofs.Math.Nat.{mul-le-mul_right}
+use Rattle.std.proofs.lemmas.List.Sums.{sum_by-le}
+use Rattle.setoff_model.specs.Limits.{most_amount, most_claims}
+use Rattle.round_cut.proofs.History.{facts_law}
+use Rattle.fact_tables.specs.Sums.{MayStand}
 use Rattle.fact_tables.specs.Settling.{settled_claim, settled_account}
 use Rattle.fact_tables.specs.Tables.{accounts_after, accounts_with, claims_after, claims_with, FirmsOnce, KeysOnce, AreSmall, AreAccounts}
 use Rattle.fact_tables.proofs.Places.{find_once, sum_by-map}
@@ -145,8 +151,17 @@ grown book parts e is valid next new =
     }
 
 -- what the tables of a book keep
-pub keys_once : (book : BookParts) → IsBook book → KeysOnce book.claims
-keys_once book is = subst KeysOnce (sym is.claims_are) (claims_once book.entries is.legal)
+-- all open amounts together fit 64 bits
+claims_small : (entries : List Entry) → IsLegal entries → AreValid entries → sum_by (λ (c : ClaimFact). c.left) (claim_facts (ledger_of entries)) < 2 ^ 64
+claims_small entries legal valid =
+    let facts = facts_law entries legal valid in
+    let claims = claim_facts (ledger_of entries) in
+    let most = sum_by-le (λ (c : ClaimFact). c.left) most_amount claims (λ k d lt. (facts.each_claim k d lt).left) in
+    let product : length claims * most_amount ≤ most_claims * most_amount = mul-le-mul_right most_amount facts.few_claims in
+    omega (arith, most, product)
+
+pub may_stand : (book : BookParts) → IsBook book → MayStand book.claims
+may_stand book is = subst MayStand (sym is.claims_are) (record { once = claims_once book.entries is.legal; small = claims_small book.entries is.legal is.valid })
 
 pub are_accounts : (book : BookParts) → IsBook book → AreAccounts book.accounts
 are_accounts book is = subst AreAccounts (sym is.accounts_are) (record { once = accounts_once book.entries is.legal; small = accounts_small book.entries is.legal is.valid })

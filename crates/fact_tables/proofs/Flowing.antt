@@ -1,11 +1,7 @@
 -- The flow of a party, summed claim by claim.
 use Rattle.std.specs.Prelude.{map, slice_index, if◌then◌else◌, ◌==◌}
-use Rattle.std.proofs.Common.{◌≡◌, ℕ, ◌+◌, ◌-◌, ◌++◌, drop, ◌<◌, ◌≤◌, ◌^◌, List, length, get_or, take, sum, sym, ◌∙◌, ap, subst, Fits, w64, add-one, arith}
-use Rattle.std.proofs.lemmas.List.{length-map, length-take-le, get_or-append_right, get_or-drop}
+use Rattle.std.proofs.Common.{◌≡◌, ℕ, ◌+◌, ◌<◌, ◌≤◌, ◌^◌, List, length, get_or, sum, sym, ◌∙◌, ap, Fits, w64, add-one, arith}
 use Rattle.std.proofs.lemmas.List.Sums.{sum_by-take-le}
-use Rattle.claim_history.specs.declared.fact.AccountFact.{AccountFact}
-use Rattle.claim_history.specs.Laws.{IsWithin}
-use Rattle.fact_tables.specs.Tables.{AreSmall}
 use Rattle.setoff_model.specs.declared.cut.CutClaim.{CutClaim}
 use Rattle.setoff_model.specs.Setoff.{flow_at, total_of}
 use Rattle.setoff_model.proofs.Flows.{column, flow_at-le}

@@ -9,7 +9,7 @@ use Rattle.setoff_model.specs.Same.{same_name, same_key}
 use Rattle.setoff_model.specs.declared.name.Key.{Key}
 use Rattle.claim_history.specs.declared.fact.ClaimFact.{ClaimFact}
 use Rattle.claim_history.specs.declared.fact.AccountFact.{AccountFact}
-use Rattle.fact_tables.specs.Tables.{AreClaims, KeysOnce, FirmsOnce}
+use Rattle.fact_tables.specs.Tables.{KeysOnce, FirmsOnce}
 use Rattle.fact_tables.proofs.Places.{count_cons, sum_by-map}
 
 -- ---- one more row
@@ -60,17 +60,10 @@ written {X = X} h step n ks xs ys zs rest keys_are same stepped read long =
 -- ---- claims
 
 -- how often a key stands is told by the keys
-keys_once : (xs ys : List ClaimFact) → map (λ c. c.key) xs ≡ map (λ c. c.key) ys → KeysOnce xs → KeysOnce ys
+pub keys_once : (xs ys : List ClaimFact) → map (λ c. c.key) xs ≡ map (λ c. c.key) ys → KeysOnce xs → KeysOnce ys
 keys_once xs ys same once key =
     let test = λ (k : Key). cond (same_key key k) 1 0 in
     subst (λ n. n ≤ 1) (sym (sum_by-map test (λ (c : ClaimFact). c.key) xs) ∙ ap (sum_by test) same ∙ sum_by-map test (λ (c : ClaimFact). c.key) ys) (once key)
-
--- claims with the same keys
-pub same_claims : (keys : List Key) (xs ys : List ClaimFact) → map (λ c. c.key) ys ≡ map (λ c. c.key) xs → AreClaims keys xs → AreClaims keys ys
-same_claims keys xs ys same are = record { keys_are = are.keys_are ∙ sym same; once = keys_once xs ys (sym same) are.once }
-
-pub claim_put : (keys : List Key) (xs : List ClaimFact) (i : ℕ) (y d : ClaimFact) → y.key ≡ (get_or xs i d).key → AreClaims keys xs → AreClaims keys (set xs i y)
-claim_put keys xs i y d same are = same_claims keys xs (set xs i y) (map-set_same (λ (c : ClaimFact). c.key) xs i y d same) are
 
 -- ---- accounts
 

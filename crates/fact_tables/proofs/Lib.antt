@@ -3,3 +3,4 @@ pub mod Balances
 pub mod Flowing
 pub mod Keyed
 pub mod Settle
+pub mod Summed

@@ -1,5 +1,5 @@
 -- A publication settles its cut claim by claim.
-use Rattle.std.specs.Prelude.{map, take, position, Option, Some, None, if◌then◌else◌, ◌==◌, ◌≢◌, All, AllPairs, slice_index, ℤ, pos, ◌+ℤ◌, ◌-ℤ◌}
+use Rattle.std.specs.Prelude.{map, take, Option, Some, None, if◌then◌else◌, ◌==◌, ◌≢◌, AllPairs, slice_index, ℤ, pos, ◌+ℤ◌, ◌-ℤ◌}
 use Rattle.std.specs.List.{list_any}
 use Rattle.std.specs.Bool.{Decides}
 use Rattle.std.proofs.Common.{◌≡◌, ℕ, suc, ◌+◌, ◌-◌, ◌*◌, ◌<◌, ◌≤◌, ◌^◌, Bool, true, false, List, [], ◌∷◌, ◌++◌, length, get_or, refl, sym, ◌∙◌, ap, ap₂, subst, true≢false, arith, length-take-le, inl, inr}
@@ -15,7 +15,7 @@ use Rattle.setoff_model.specs.Same.{same_name, same_key}
 use Rattle.setoff_model.specs.Setoff.{flow_at, total_of}
 use Rattle.setoff_model.specs.CutView.{creditors, debtors}
 use Rattle.setoff_model.proofs.Lists.{position_none}
-use Rattle.setoff_model.proofs.SameNames.{same_name_is, same_key_is, name_same, key_same}
+use Rattle.setoff_model.proofs.SameNames.{same_name_is, same_key_is}
 use Rattle.setoff_model.specs.declared.name.Key.{Key}
 use Rattle.setoff_model.specs.declared.cut.Party.{Party}
 use Rattle.setoff_model.specs.declared.cut.CutClaim.{CutClaim}
@@ -23,14 +23,14 @@ use Rattle.setoff_model.specs.CutView.{CutView}
 use Rattle.claim_history.specs.declared.fact.ClaimFact.{ClaimFact}
 use Rattle.claim_history.specs.declared.fact.AccountFact.{AccountFact}
 use Rattle.claim_history.specs.Laws.{IsWithin}
-use Rattle.claim_history.specs.Facts.{Settled, at_place, claim_place, flow_of, party_place}
+use Rattle.claim_history.specs.Facts.{at_place, claim_place, flow_of, party_place}
 use Rattle.name_index.proofs.Pushed.{none_there, pushed_here, pushed_other}
 use Rattle.fact_tables.specs.Settling.{settled_claim, settled_account}
 use Rattle.fact_tables.specs.Tables.{with_receipt, funded, drawn, AreSmall, AreWithin}
 use Rattle.fact_tables.proofs.Flowing.{flow_step, flow_small}
 use Rattle.fact_tables.proofs.Keyed.{same_keys, if_same}
 
-not_one : {P : Type 0} (b : Bool) → Decides b P → (P → ⊥) → b ≡ false
+pub not_one : {P : Type 0} (b : Bool) → Decides b P → (P → ⊥) → b ≡ false
 not_one true d never = absurd (never (d.0 refl))
 not_one false d never = refl
 

@@ -97,11 +97,6 @@ FirmsOnce accounts = (firm : List ℕ) → count_by (λ a. same_name firm a.firm
 abbrev pub KeysOnce : List ClaimFact → Type 0
 KeysOnce claims = (key : Key) → count_by (λ c. same_key key c.key) claims ≤ 1
 
--- the claims of the keys of an index, in its order, no key twice
-pub record AreClaims (keys : List Key) (claims : List ClaimFact) : Type 0 where
-  pub keys_are : keys ≡ map (λ c. c.key) claims
-  pub once : KeysOnce claims
-
 -- each balance is from -most to most
 abbrev pub AreWithin : ℕ → List AccountFact → Type 0
 AreWithin most accounts = All (λ a. IsWithin most most a.balance) accounts

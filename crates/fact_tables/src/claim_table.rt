@@ -1,14 +1,16 @@
 //! The claims of a book.
-ghost use Rattle.std.specs.Prelude.{◌≡◌, ◌+◌, ◌<◌, ◌≤◌, ◌++◌, ◌∷◌, [], ◌^◌, ◌&&◌, sum, filter, find, map, set, length, get_or, OnOk, OnErr};
+ghost use Rattle.std.specs.Prelude.{◌≡◌, ◌+◌, ◌<◌, ◌≤◌, ◌++◌, ◌∷◌, [], ◌&&◌, sum, filter, find, map, set, length, get_or, OnOk, OnErr, if◌then◌else◌};
 ghost use Rattle.setoff_model.specs.CutView.{WellFormed};
 ghost use Rattle.setoff_model.specs.Same.{same_name, same_key};
 ghost use Rattle.claim_history.specs.Facts.{is_confirmed as confirmed};
 ghost use Rattle.fact_tables.specs.Settling.{settled_claim};
-ghost use Rattle.fact_tables.specs.Tables.{new_claim, with_status, with_receipt, claims_with, KeysOnce};
+ghost use Rattle.fact_tables.specs.Tables.{new_claim, with_status, with_receipt, claims_with};
+ghost use Rattle.fact_tables.specs.Sums.{MayStand};
 
+use crate::firm_sums::FirmSums;
 use claim_history::{Act, ClaimFact, Day, Entry, Status, accepted};
 use name_index::KeyIndex;
-use setoff_model::{Cut, Key, Name, same_names};
+use setoff_model::{Cut, Key, Name};
 use std::alloc::{AllocError, Global};
 use std::marker::Model;
 
@@ -19,17 +21,20 @@ use std::marker::Model;
 pub struct ClaimTable {
     facts: Vec<ClaimFact>,
     keys: KeyIndex,
+    receivables: FirmSums,
+    payables: FirmSums,
 }
 
 impl Model for ClaimTable {
     ghost use Rattle.std.specs.Prelude.{◌-◌, min, vec_len, vec_capacity};
-    ghost use Rattle.fact_tables.specs.Tables.{ClaimsView, AreClaims};
+    ghost use Rattle.fact_tables.specs.Tables.{ClaimsView};
+    ghost use Rattle.fact_tables.specs.Sums.{IsClaimTable};
 
     ghost Value = { ClaimsView };
 
-    ghost view = { λ t. record { facts = t.facts.items; room = min (vec_capacity t.facts - vec_len t.facts) t.keys.room } };
+    ghost view = { λ t. record { facts = t.facts.items; room = min (min (vec_capacity t.facts - vec_len t.facts) t.keys.room) (min t.receivables.room t.payables.room) } };
 
-    ghost invariant = { λ t. AreClaims t.keys.keys t.facts.items };
+    ghost invariant = { λ t. IsClaimTable t.keys.keys t.facts.items t.receivables t.payables };
 }
 
 impl ClaimTable {
@@ -41,6 +46,8 @@ impl ClaimTable {
         ClaimTable {
             facts: Vec::new(alloc),
             keys: KeyIndex::new(alloc),
+            receivables: FirmSums::new(alloc),
+            payables: FirmSums::new(alloc),
         }
     }
 
@@ -54,6 +61,8 @@ impl ClaimTable {
         ensures needed { OnErr result (self.old.room < claims) }
     {
         self.keys.reserve(claims)?;
+        self.receivables.reserve(claims)?;
+        self.payables.reserve(claims)?;
         self.facts.reserve(claims)
     }
 
@@ -76,33 +85,23 @@ impl ClaimTable {
 
     /// What a firm is owed on its confirmed claims, in cents.
     pub fn owed_to(&self, firm: &Name) -> u64
-        requires { sum (map (λ c. c.left) (filter (λ c. confirmed c.status && same_name firm.now c.key.creditor) self.now.facts)) < 2 ^ 64 }
         ensures { result ≡ sum (map (λ c. c.left) (filter (λ c. confirmed c.status && same_name firm.now c.key.creditor) self.now.facts)) }
     {
-        self.facts
-            .iter()
-            .filter(|claim| is_confirmed(claim.status) && same_names(firm, &claim.key.creditor))
-            .map(|claim| claim.left)
-            .sum()
+        self.receivables.sum(firm)
     }
 
     /// What a firm owes on confirmed claims, in cents.
     pub fn owed_by(&self, firm: &Name) -> u64
-        requires { sum (map (λ c. c.left) (filter (λ c. confirmed c.status && same_name firm.now c.debtor) self.now.facts)) < 2 ^ 64 }
         ensures { result ≡ sum (map (λ c. c.left) (filter (λ c. confirmed c.status && same_name firm.now c.debtor) self.now.facts)) }
     {
-        self.facts
-            .iter()
-            .filter(|claim| is_confirmed(claim.status) && same_names(firm, &claim.debtor))
-            .map(|claim| claim.left)
-            .sum()
+        self.payables.sum(firm)
     }
 
-    /// Changes the claims as an entry says, where it is accepted. There is room for one more, and no key is filed twice. It takes
-    /// no memory.
+    /// Changes the claims as an entry says, where it is accepted. There is room for one more, no key is filed twice, and the open
+    /// amounts together stay below 2^64 cents. It takes no memory.
     pub fn apply(&mut self, entry: &Entry)
         requires room { 0 < self.old.room }
-        requires once { KeysOnce (claims_with entry.now self.old.facts) }
+        requires stand { MayStand (claims_with entry.now self.old.facts) }
         ensures facts { self.new.facts ≡ claims_with entry.now self.old.facts }
         ensures room { self.old.room ≤ self.new.room + 1 }
     {
@@ -147,11 +146,13 @@ impl ClaimTable {
 
     fn add_claim(&mut self, key: &Key, debtor: &Name, amount: u64, due: &Day)
         requires room { 0 < self.old.room }
-        requires once { KeysOnce (self.old.facts ++ new_claim key.now debtor.now amount due.now ∷ []) }
+        requires stand { MayStand (self.old.facts ++ new_claim key.now debtor.now amount due.now ∷ []) }
         ensures facts { self.new.facts ≡ self.old.facts ++ new_claim key.now debtor.now amount due.now ∷ [] }
         ensures room { self.old.room ≤ self.new.room + 1 }
     {
         self.keys.add(*key);
+        self.receivables.begin(&key.creditor);
+        self.payables.begin(debtor);
         let _ = self.facts.push(ClaimFact {
             key: *key,
             debtor: *debtor,
@@ -188,19 +189,30 @@ impl ClaimTable {
         }
     }
 
-    // Puts a claim of the same key at a place.
+    // Puts a claim of the same key and debtor at a place, with no more open.
     fn put(&mut self, place: usize, claim: ClaimFact)
         requires within { place < length self.old.facts }
         requires key { claim.key ≡ (get_or self.old.facts place claim).key }
+        requires debtor { claim.debtor ≡ (get_or self.old.facts place claim).debtor }
+        requires left { claim.left ≤ (get_or self.old.facts place claim).left }
         ensures facts { self.new.facts ≡ set self.old.facts place claim }
         ensures room { self.new.room ≡ self.old.room }
     {
+        let old = self.facts[place];
+        let less = counted(&old);
+        let more = counted(&claim);
+        self.receivables.change(&claim.key.creditor, less, more);
+        self.payables.change(&claim.debtor, less, more);
         self.facts[place] = claim;
     }
 }
 
-fn is_confirmed(status: Status) -> bool
-    ensures { result ≡ confirmed status }
+// What a claim counts in the sums: its open amount where it is confirmed.
+fn counted(claim: &ClaimFact) -> u64
+    ensures { result ≡ (if confirmed claim.now.status then claim.now.left else 0) }
 {
-    matches!(status, Status::Confirmed)
+    match claim.status {
+        Status::Confirmed => claim.left,
+        Status::Filed | Status::Disputed | Status::Withdrawn => 0,
+    }
 }

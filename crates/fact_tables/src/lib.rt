@@ -9,6 +9,7 @@
 
 mod account_table;
 mod claim_table;
+mod firm_sums;
 mod settling;
 
 pub use account_table::AccountTable;

@@ -1,7 +1,7 @@
 -- Rows, and an index of their keys.
 use Rattle.std.specs.Prelude.{map, position, Option, Some, None}
-use Rattle.std.specs.List.{list_any, position_or_len}
-use Rattle.std.proofs.Common.{◌≡◌, ℕ, Bool, false, cond, List, [], ◌∷◌, ◌++◌, nat_lt, length, sym, ◌∙◌, ap, ap₂}
+use Rattle.std.specs.List.{list_any}
+use Rattle.std.proofs.Common.{◌≡◌, ℕ, Bool, false, cond, List, [], ◌∷◌, ◌++◌, nat_lt, sym, ◌∙◌, ap, ap₂}
 use Rattle.std.proofs.lemmas.List.{length-map, map-append}
 use Rattle.setoff_model.proofs.Lists.{place_map, position_none, list_any-map}
 

@@ -1,8 +1,8 @@
 -- An index of the firms of accounts, and of those of parties, as it grows.
-use Rattle.std.specs.Prelude.{map, take, All, AllPairs, ◌≢◌}
+use Rattle.std.specs.Prelude.{map, take, AllPairs, ◌≢◌}
 use Rattle.std.specs.List.{list_any}
 use Rattle.std.specs.Bool.{Decides}
-use Rattle.std.proofs.Common.{◌≡◌, ℕ, suc, ◌+◌, ◌<◌, Bool, true, false, List, [], ◌∷◌, ◌++◌, length, get_or, refl, sym, ◌∙◌, ap, subst, arith, length-take-le}
+use Rattle.std.proofs.Common.{◌≡◌, ℕ, suc, ◌+◌, ◌<◌, Bool, true, false, List, [], ◌∷◌, ◌++◌, length, get_or, refl, sym, ◌∙◌, ap, arith, length-take-le}
 use Rattle.std.proofs.Math.Seq.{take-suc}
 use Rattle.std.proofs.lemmas.List.{get_or-take, get_or_default, map-append}
 use Rattle.std.proofs.lemmas.List.Folds.{list_any_none}

@@ -1,14 +1,14 @@
 use Rattle.std.proofs.Common.{sym, ap, subst, arith}
 use Rattle.claim_history.specs.History.{MayFollow}
 use Rattle.claim_book.specs.Book.{BookView}
-use Rattle.claim_book.proofs.Books.{keys_once, are_accounts, book_grows}
+use Rattle.claim_book.proofs.Books.{may_stand, are_accounts, book_grows}
 use Rattle.claim_book.proofs.Kept.{keeps_room}
 use Rattle.claim_book.proofs.book.Book.apply.Goals as goal
 
-pub apply-requires-clause-once : goal.apply-requires-clause-once
-apply-requires-clause-once c =
+pub apply-requires-clause-stand : goal.apply-requires-clause-stand
+apply-requires-clause-stand c =
     let next = subst (λ (b : BookView). MayFollow b.history c.args.entry) (sym c.self.view_is) c.requires.next in
-    keys_once _ (book_grows _ c.args.entry c.self.invariant c.requires.valid c.requires.apart c.requires.no_opening next)
+    may_stand _ (book_grows _ c.args.entry c.self.invariant c.requires.valid c.requires.apart c.requires.no_opening next)
 
 pub apply-requires-2-clause-accounts : goal.apply-requires-2-clause-accounts
 apply-requires-2-clause-accounts c =

@@ -1,7 +1,6 @@
 use Rattle.std.specs.Prelude.{map, slice_index}
 use Rattle.std.proofs.Common.{◌≡◌, ℕ, List, ◌-◌, ◌<◌, ◌≤◌, length, get_or, ◌∙◌, ap, subst, refl, arith}
 use Rattle.setoff_model.specs.declared.cut.CutClaim.{CutClaim}
-use Rattle.claim_history.specs.declared.fact.ClaimFact.{ClaimFact}
 use Rattle.fact_tables.specs.Tables.{with_receipt}
 use Rattle.fact_tables.proofs.Settle.{claim_after, claim_next, claims_whole, map_step, map_start}
 use Rattle.fact_tables.proofs.claim_table.ClaimTable.discharge.Goals as goal

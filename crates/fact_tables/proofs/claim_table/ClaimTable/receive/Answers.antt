@@ -14,7 +14,7 @@ returns-in-Some-clause-facts c =
     c.put.ensures.facts ∙ ap (λ (t : ClaimsView). set t.facts c.in-Some.place (record c.index-claim.result.now { left = c.saturating_sub.result })) (sym c.self.view_is)
     ∙ ap (λ (n : ℕ). set facts c.in-Some.place (record c.index-claim.result.now { left = n })) c.saturating_sub.ensures
     ∙ ap (λ (x : ClaimFact). set facts c.in-Some.place (record x { left = x.left - c.args.amount })) c.index-claim.ensures
-    ∙ step_at (λ (r : ClaimFact). same_key c.args.key.now r.key) (λ r. record r { left = r.left - c.args.amount }) facts c.in-Some.place c.index-claim.result.now found (c.self.invariant.once c.args.key.now)
+    ∙ step_at (λ (r : ClaimFact). same_key c.args.key.now r.key) (λ r. record r { left = r.left - c.args.amount }) facts c.in-Some.place c.index-claim.result.now found (c.self.invariant.stand.once c.args.key.now)
     ∙ ap (λ (t : ClaimsView). map (with_receipt c.args.key.now c.args.amount) t.facts) c.self.view_is
 
 pub returns-in_default-clause-facts : goal.returns-in_default-clause-facts

@@ -13,7 +13,7 @@ returns-in-Some-clause-facts c =
     let found = row_place (λ (r : ClaimFact). r.key) c.self.inside.keys.keys facts c.self.invariant.keys_are (same_key c.args.key.now) _ (sym c.in-Some.is ∙ c.place.ensures) in
     c.put.ensures.facts ∙ ap (λ (t : ClaimsView). set t.facts c.in-Some.place (record c.index-claim.result.now { status = c.args.status })) (sym c.self.view_is)
     ∙ ap (λ (x : ClaimFact). set facts c.in-Some.place (record x { status = c.args.status })) c.index-claim.ensures
-    ∙ step_at (λ (r : ClaimFact). same_key c.args.key.now r.key) (λ r. record r { status = c.args.status }) facts c.in-Some.place c.index-claim.result.now found (c.self.invariant.once c.args.key.now)
+    ∙ step_at (λ (r : ClaimFact). same_key c.args.key.now r.key) (λ r. record r { status = c.args.status }) facts c.in-Some.place c.index-claim.result.now found (c.self.invariant.stand.once c.args.key.now)
     ∙ ap (λ (t : ClaimsView). map (with_status c.args.key.now c.args.status) t.facts) c.self.view_is
 
 pub returns-in_default-clause-facts : goal.returns-in_default-clause-facts
