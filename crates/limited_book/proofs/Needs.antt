@@ -1,6 +1,5 @@
 -- What an act needs, as a book finds it.
-use Rattle.std.specs.Prelude.{Option, Some, None, Result, IfOk, IfErr}
-use Rattle.std.specs.Option.{option_map}
+use Rattle.std.specs.Prelude.{Result, IfOk, IfErr}
 use Rattle.std.proofs.Common.{◌≡◌, ℕ, ◌+◌, ◌*◌, true, false, List, length, refl, sym, ◌∙◌, ap, ap₂, true≢false, arith}
 use Rattle.std.proofs.lemmas.Result.{IfOk-weaker, MatchResult-weaker}
 use Rattle.setoff_model.specs.declared.kind.Kind.{Kind}
@@ -11,7 +10,7 @@ use Rattle.claim_history.specs.declared.entry.Reply.{Reply}
 use Rattle.claim_history.specs.declared.entry.Reply.TheVariants as reply
 use Rattle.claim_history.specs.declared.entry.Entry.{Entry}
 use Rattle.claim_history.specs.Cut.{cut_of}
-use Rattle.claim_history.specs.States.{OpenRound, State, after, state_of}
+use Rattle.claim_history.specs.States.{State, after, state_of}
 use Rattle.claim_history.specs.History.{answer_of, is_opening, replied}
 use Rattle.claim_history.specs.Needs.{endings_bytes, endings_entries, is_full, needed_bytes_of, needed_entries_of, open_after, own_bytes, used_bytes_of, used_entries_of}
 use Rattle.claim_history.proofs.Replies.{opens}
