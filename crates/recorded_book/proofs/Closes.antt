@@ -13,7 +13,7 @@ use Rattle.claim_history.specs.declared.entry.Why.{Why}
 use Rattle.claim_history.specs.declared.entry.Why.TheVariants as why
 use Rattle.claim_history.specs.Cut.{cut_of}
 use Rattle.claim_history.specs.States.{OpenRound, State, state, state_of, after}
-use Rattle.claim_history.specs.History.{answer, close_answer, close_refusals, is_opening}
+use Rattle.claim_history.specs.History.{answer, close_answer, close_refusals, is_no_refusal, is_opening}
 use Rattle.claim_history.proofs.Rows.{by_rows}
 use Rattle.claim_book.specs.Book.{open_cut_of}
 use Rattle.recorded_book.specs.Devices.{IsReplied}
@@ -21,6 +21,9 @@ use Rattle.recorded_book.specs.Acting.{entry_of, publication_bytes}
 
 pub got_due : (before counted : ℕ) (due got : Reply) → IsReplied before counted due got → ((w : Why) → got ≡ reply.Refused w → ⊥) → got ≡ due
 got_due before counted due got told other = ⊎_elim (λ same. same) (λ failed. absurd (other (why.Device before counted) failed.1)) told
+
+pub got_refused : (before counted : ℕ) (due got : Reply) (w : Why) → reply.Refused w ≡ due → IsReplied before counted due got → got ≡ reply.Refused w
+got_refused before counted due got w is told = ⊎_elim (λ same. same ∙ sym is) (λ failed. absurd (cc (ap is_no_refusal is, failed.0))) told
 
 -- the state after one entry more
 pub state_more : (history later : List Entry) (e : Entry) → later ≡ history ++ e ∷ [] → state_of later ≡ after e.caller e.act e.reply (state_of history)

@@ -11,7 +11,7 @@ use Rattle.claim_history.specs.declared.entry.Reply.TheVariants as reply
 use Rattle.claim_history.specs.declared.entry.Why.TheVariants as why
 use Rattle.claim_history.specs.History.{Call, is_accepted, is_no_refusal, second_count, last_count}
 use Rattle.claim_history.specs.Needs.{is_of_device, body_length_of, record_length_of, own_bytes}
-use Rattle.claim_history.proofs.Room.{use_law}
+use Rattle.claim_history.proofs.Room.{accepted_owns, use_law}
 use Rattle.act_bodies.specs.Bodies.{body_of, is_keepable}
 use Rattle.round_journal.specs.Bytes.{StandsFor}
 use Rattle.round_journal.specs.Kept.{JournalView, IsKept, IsLast, HoldsOne}
@@ -70,9 +70,6 @@ accepted_is_no_device r is = refl
 
 pub count_more : (history : List Entry) (e : Entry) → last_count (reverse (history ++ e ∷ [])) ≡ max (second_count e.reply) (last_count (reverse history))
 count_more history e = ap last_count (reverse-append history (e ∷ []))
-
-own_accepted : (a : Act) (r : Reply) → is_no_refusal r ≡ true → own_bytes a r ≡ record_length_of a
-own_accepted a r is = ap (λ (b : Bool). if b then record_length_of a else 0) is
 
 own_refused : (a : Act) (r : Reply) → is_no_refusal r ≡ false → own_bytes a r ≡ 0
 own_refused a r is = ap (λ (b : Bool). if b then record_length_of a else 0) is
@@ -169,7 +166,7 @@ module _ {D : Type 0} (seen : D → Seen) where
         let long : length (history ++ e ∷ []) ≡ length history + 1 = length-append history (e ∷ []) in
         let undevice = accepted_is_no_device e.reply accepted in
         record {
-          place = omega (arith, has.place, gate, length_is, uses.bytes, own_accepted e.act e.reply accepted);
+          place = omega (arith, has.place, gate, length_is, uses.bytes, accepted_owns e.act e.reply accepted);
           opened_few = omega (arith, has.opened_few, long);
           cleared_few = omega (arith, has.cleared_few, long);
           keepable = All-push (λ (x : Entry). is_keepable x.caller x.act ≡ true) history e has.keepable can;

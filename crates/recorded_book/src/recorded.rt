@@ -198,6 +198,7 @@ impl<D: Disk> RecordedBook<D> {
         }
         match self.book.answer(caller, &act) {
             Reply::Opened { round } => self.open_round(caller, kind, horizon, round),
+            Reply::Refused(why) => self.refuse_round(caller, kind, horizon, why),
             due => self.continue_round(caller, kind, horizon, due),
         }
     }
@@ -267,7 +268,32 @@ impl<D: Disk> RecordedBook<D> {
         }
     }
 
-    // Continues the open round, or refuses the Close.
+    // Refuses the Close.
+    fn refuse_round(
+        &mut self,
+        caller: u32,
+        kind: Kind,
+        horizon: Day,
+        why: Why,
+    ) -> Result<CutReply, ActError>
+        requires asked { IsCloseDue self.old caller kind horizon (replies.Refused why) }
+        ensures closed { IfOk result (HasClosed D.seen self.old.recorder.journal.disk self.new.recorder.journal.disk self.old.book.history self.new.book.history caller (acts.Close kind horizon)) }
+        ensures error { IfErr result (IsActError self.old.book.history caller (acts.Close kind horizon)) }
+        ensures untouched { OnErr result (IsUntouched self.old self.new) }
+        ensures room { OnOk result (1 ≤ self.new.book.room) }
+        ensures spared { IsSpared self.old → IsSpared self.new }
+        ensures later { IsLater D.seen self.old.recorder self.new.recorder }
+    {
+        let act = Act::Close { kind, horizon };
+        let refusal = Reply::Refused(why);
+        if let Err(full) = self.book.fits(caller, &act, refusal) {
+            return Err(error_of(full));
+        }
+        let _reply = self.put(caller, act, refusal);
+        Ok(CutReply::Refused(why))
+    }
+
+    // Continues the open round.
     fn continue_round(
         &mut self,
         caller: u32,

@@ -6,7 +6,8 @@ use Rattle.claim_history.specs.History.{IsLegal}
 use Rattle.claim_history.specs.Needs.{IsWithinLimits}
 use Rattle.claim_book.specs.Book.{BookView}
 use Rattle.recorded_book.specs.Acting.{RecordedView}
-use Rattle.recorded_book.proofs.Abandonments.{abandon_keepable, abandon_fits}
+use Rattle.act_bodies.proofs.Keepable.{abandon_keepable}
+use Rattle.recorded_book.proofs.Abandonments.{abandon_fits}
 use Rattle.recorded_book.proofs.recorded.RecordedBook.abandon.Goals as goal
 
 pub put-requires-clause-kept : goal.put-requires-clause-kept
