@@ -14,6 +14,9 @@ use std::rt::Files;
 /// A file of the operating system. It tells no bytes, since no clause knows what a system's file holds. Contracts see
 /// the count of its faults: each call that fails adds one. A read or a write that a signal interrupts is made again, up
 /// to 64 times.
+///
+/// The first length or read takes the system's lock on the file, shared with others that read. The first write or sync
+/// takes it whole. A lock that another program holds is a fault, and no call waits for it. The locks end with this value.
 #[derive(Drop)]
 pub struct FileDisk<'a, R> {
     file: SystemFile<'a, R>,
@@ -27,7 +30,8 @@ impl<'a, R> Model for FileDisk<'a, R> {
 }
 
 impl<'a, R: Files<File = File>> FileDisk<'a, R> {
-    /// The file of this path. It is opened, or created where it is missing, at the first call.
+    /// The file of this path. It is opened at the first call. Where it is missing it has no bytes, and the first write
+    /// makes it; that another has made it by then is a fault.
     pub fn new(rt: &'a R, path: String) -> FileDisk<'a, R>
         ensures { result ≡ 0 }
     {

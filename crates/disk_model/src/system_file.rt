@@ -11,14 +11,24 @@ use std::rt::Files;
 // How often an interrupted call is made before the interruption counts as a fault.
 const TRIES: u32 = 64;
 
-/// A file of the system, by its path. It is opened, or created, at its first call.
+/// A file of the system, by its path. It is opened at its first call, and made at its first write where it is missing.
 #[derive(Drop)]
 pub(crate) struct SystemFile<'a, R> {
     rt: &'a R,
     path: String,
-    file: Option<File>,
+    held: Held,
     // Whether a sync of the folder has brought the name to the medium.
     in_folder: bool,
+}
+
+// What is held of a file: nothing yet; that it is missing; or the open file, with the system's lock on it, shared with
+// others that read, or whole.
+#[derive(Drop)]
+enum Held {
+    Nothing,
+    Missing,
+    Shared(File),
+    Whole(File),
 }
 
 impl<'a, R: Files<File = File>> SystemFile<'a, R> {
@@ -26,37 +36,35 @@ impl<'a, R: Files<File = File>> SystemFile<'a, R> {
         SystemFile {
             rt,
             path,
-            file: None,
+            held: Held::Nothing,
             in_folder: false,
         }
     }
 
-    /// The number of bytes.
+    /// The number of bytes. A missing file has none.
     pub(crate) fn len(&mut self) -> io::Result<u64> {
-        let file = opened(self.rt, &self.path, &mut self.file)?;
-        Ok(file.metadata()?.len())
+        match self.shared()? {
+            Some(file) => Ok(file.metadata()?.len()),
+            None => Ok(0),
+        }
     }
 
     /// Fills `into` with the bytes from `at` on. An end before it is full is an error.
     pub(crate) fn read_at(&mut self, at: u64, into: &mut [u8]) -> io::Result<()> {
-        let file = opened(self.rt, &self.path, &mut self.file)?;
-        let mut done = 0;
-        while done < into.len() {
-            let place = at.checked_add(done as u64).ok_or(ErrorKind::InvalidInput)?;
-            let count = read_again(file, &mut into[done..], place)?;
-            if count == 0 {
-                return Err(ErrorKind::UnexpectedEof.into());
-            }
-            done += count;
+        if into.is_empty() {
+            return Ok(());
         }
-        Ok(())
+        match self.shared()? {
+            Some(file) => read_whole(file, at, into),
+            None => Err(ErrorKind::UnexpectedEof.into()),
+        }
     }
 
     /// Writes a piece at an offset, in as many calls as the system needs.
     pub(crate) fn write_at(&mut self, at: u64, piece: &[u8]) -> io::Result<()>
         requires { at + length piece.now < 2 ^ 62 }
     {
-        let file = opened(self.rt, &self.path, &mut self.file)?;
+        let file = self.made()?;
         let mut done = 0;
         while done < piece.len() {
             let count = write_again(file, &piece[done..], at + done as u64)?;
@@ -70,29 +78,97 @@ impl<'a, R: Files<File = File>> SystemFile<'a, R> {
 
     /// Brings the file to the medium, and, once, its name in the folder.
     pub(crate) fn sync(&mut self) -> io::Result<()> {
-        opened(self.rt, &self.path, &mut self.file)?.sync_all()?;
+        if let Some(file) = self.whole()? {
+            file.sync_all()?;
+        }
         if !self.in_folder {
             File::open(self.rt, folder_of(&self.path))?.sync_all()?;
-            self.in_folder = true;
+            self.in_folder = matches!(self.held, Held::Whole(_));
         }
         Ok(())
     }
+
+    // The open file for reading. None where it is missing.
+    fn shared(&mut self) -> io::Result<Option<&File>> {
+        if matches!(self.held, Held::Nothing) {
+            self.held = opened(self.rt, &self.path, false)?;
+        }
+        match &self.held {
+            Held::Shared(file) => Ok(Some(file)),
+            Held::Whole(file) => Ok(Some(file)),
+            _ => Ok(None),
+        }
+    }
+
+    // The open file for writing. None where it is missing. A shared lock is given up before the whole one is asked.
+    fn whole(&mut self) -> io::Result<Option<&File>> {
+        if matches!(self.held, Held::Nothing | Held::Shared(_)) {
+            self.held = Held::Nothing;
+            self.held = opened(self.rt, &self.path, true)?;
+        }
+        match &self.held {
+            Held::Whole(file) => Ok(Some(file)),
+            _ => Ok(None),
+        }
+    }
+
+    // The open file for writing, which is made where it is missing. It is an error where another has made it since.
+    fn made(&mut self) -> io::Result<&File> {
+        if self.whole()?.is_none() {
+            self.held = Held::Whole(created(self.rt, &self.path)?);
+        }
+        match &self.held {
+            Held::Whole(file) => Ok(file),
+            _ => Err(ErrorKind::NotFound.into()),
+        }
+    }
 }
 
-// The open file. It is opened for reading and writing, and created where it is missing.
-fn opened<'a, R: Files<File = File>>(
-    rt: &R,
-    path: &String,
-    file: &'a mut Option<File>,
-) -> io::Result<&'a File> {
-    if file.is_none() {
-        let mut options = OpenOptions::new();
-        let _ = options.read(true);
-        let _ = options.write(true);
-        let _ = options.create(true);
-        *file = Some(options.open(rt, path.as_str())?);
+// Opens a file that is there, for reading or for writing, too, and locks it. A lock that another holds is an error.
+fn opened<R: Files<File = File>>(rt: &R, path: &str, writes: bool) -> io::Result<Held> {
+    let mut options = OpenOptions::new();
+    let _ = options.read(true);
+    let _ = options.write(writes);
+    match options.open(rt, path) {
+        Ok(file) => locked(file, writes),
+        Err(error) if error.kind() == ErrorKind::NotFound => Ok(Held::Missing),
+        Err(error) => Err(error),
     }
-    file.as_ref().ok_or(ErrorKind::NotFound.into())
+}
+
+fn locked(file: File, writes: bool) -> io::Result<Held> {
+    if writes {
+        file.try_lock()?;
+        Ok(Held::Whole(file))
+    } else {
+        file.try_lock_shared()?;
+        Ok(Held::Shared(file))
+    }
+}
+
+// Makes a file that is missing, and locks it.
+fn created<R: Files<File = File>>(rt: &R, path: &str) -> io::Result<File> {
+    let mut options = OpenOptions::new();
+    let _ = options.read(true);
+    let _ = options.write(true);
+    let _ = options.create_new(true);
+    let file = options.open(rt, path)?;
+    file.try_lock()?;
+    Ok(file)
+}
+
+// Fills `into` with the bytes of a file from `at` on.
+fn read_whole(file: &File, at: u64, into: &mut [u8]) -> io::Result<()> {
+    let mut done = 0;
+    while done < into.len() {
+        let place = at.checked_add(done as u64).ok_or(ErrorKind::InvalidInput)?;
+        let count = read_again(file, &mut into[done..], place)?;
+        if count == 0 {
+            return Err(ErrorKind::UnexpectedEof.into());
+        }
+        done += count;
+    }
+    Ok(())
 }
 
 // The folder that holds a file.

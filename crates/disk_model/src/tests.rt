@@ -175,11 +175,15 @@ fn a_file_is_written_synced_and_opened_again(rt: HostRuntime) -> Result<(), Fail
     let name = "disk_model_test";
     let _ = fs::remove_dir_all(&rt, name);
     let path = "disk_model_test/file";
-    let mut missing = FileDisk::new(&rt, String::from_str(rt.alloc(), path)?);
-    assert!(rt; missing.len() == Err(DiskFailed) && missing.faults() == 1);
+    let mut homeless = FileDisk::new(&rt, String::from_str(rt.alloc(), path)?);
+    assert!(rt;
+        homeless.sync().is_err() && homeless.write_at(0, b"a").is_err() && homeless.faults() == 2
+    );
     fs::create_dir(&rt, name)?;
     {
         let mut disk = FileDisk::new(&rt, String::from_str(rt.alloc(), path)?);
+        disk.sync()?;
+        assert!(rt; disk.len() == Ok(0) && !fs::exists(&rt, path)?);
         append(&mut disk, b"abcd")?;
         disk.sync()?;
         assert_eq!(rt; last::<_, 3>(&mut disk)?, *b"bcd");
@@ -197,5 +201,29 @@ fn a_file_is_written_synced_and_opened_again(rt: HostRuntime) -> Result<(), Fail
     }
     assert_eq!(rt; again.faults(), 2);
     fs::remove_dir_all(&rt, name)?;
+    Ok(())
+}
+
+// Those that read share the file, and one that writes has it alone.
+#[test]
+fn a_file_is_locked(rt: HostRuntime) -> Result<(), Fail> {
+    let path = "disk_model_locked";
+    let _ = fs::remove_file(&rt, path);
+    let mut early = FileDisk::new(&rt, String::from_str(rt.alloc(), path)?);
+    assert!(rt; early.len() == Ok(0));
+    let mut reader = FileDisk::new(&rt, String::from_str(rt.alloc(), path)?);
+    {
+        let mut writer = FileDisk::new(&rt, String::from_str(rt.alloc(), path)?);
+        append(&mut writer, b"ab")?;
+        assert!(rt; reader.len().is_err() && reader.sync().is_err() && reader.faults() == 2);
+        assert!(rt; early.len() == Ok(0) && early.write_at(0, b"xy").is_err());
+        assert!(rt; writer.len() == Ok(2) && writer.faults() == 0);
+    }
+    let mut second = FileDisk::new(&rt, String::from_str(rt.alloc(), path)?);
+    assert!(rt; reader.len() == Ok(2) && second.len() == Ok(2) && second.sync().is_err());
+    assert!(rt; reader.sync().is_ok() && second.len().is_err());
+    append(&mut reader, b"c")?;
+    assert_eq!(rt; last::<_, 3>(&mut reader)?, *b"abc");
+    fs::remove_file(&rt, path)?;
     Ok(())
 }
