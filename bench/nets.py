@@ -3,7 +3,7 @@
 
 FORM is `statement`, the text that `check` reads, with nothing discharged and all prices 0, or `dimacs`, the net as a
 minimum cost flow problem: the ground is its last node, an arc costs -1 a cent, and a window is an arc to the ground and one back.
-SIZE is a fraction of the full size, by default 1. `bench/nets.py` alone lists the families.
+SIZE is a fraction of the full size, by default 1. `bench/nets.py` alone lists the families, and FAMILY-funded is one with windows.
 
 A log-uniform amount is from 1 to 999,999,999,999 cents, each order of magnitude as likely as another.
 """
@@ -204,7 +204,7 @@ FAMILIES = {
 
 
 def windows(draw, firms, funded):
-    """Spend and room: each fifth firm may spend up to a thousand times its draw."""
+    """Spend and room: a fifth of the firms may spend up to 13,107.20 each."""
     if not funded:
         return [(0, 0)] * firms
     spends = [even(draw) * 20 if draw.random() < 0.2 else 0 for _ in range(firms)]
