@@ -1,0 +1,5 @@
+pub mod Turns
+pub mod Asked
+pub mod Owned
+pub mod Closed
+pub mod Finished
