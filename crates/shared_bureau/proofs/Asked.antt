@@ -1,5 +1,5 @@
 -- What a turn has added in which an act was asked.
-use Rattle.std.proofs.Common.{◌≡◌, ◌∙◌, ℕ, List, [], ◌∷◌, ◌++◌, All, refl, sym, ap, subst, Result, Ok, Err}
+use Rattle.std.proofs.Common.{◌≡◌, ◌∙◌, ℕ, List, [], ◌∷◌, refl, sym, ap, subst, Result, Ok, Err}
 use Rattle.std.specs.Prelude.{IfOk, IfErr, OnErr}
 use Rattle.std.proofs.lemmas.List.{append-nil}
 use Rattle.std.proofs.lemmas.List.Elements.{All-nil}
@@ -11,7 +11,7 @@ use Rattle.claim_history.specs.declared.entry.Entry.{Entry}
 use Rattle.claim_history.specs.declared.entry.Reply.{Reply}
 use Rattle.claim_history.specs.History.{IsLegal}
 use Rattle.turn_lock.specs.declared.turn.Seat.{Seat}
-use Rattle.turn_lock.specs.Seats.{number, seen}
+use Rattle.turn_lock.specs.Seats.{number}
 use Rattle.turn_lock.proofs.Views.{all_cons}
 use Rattle.recorded_book.specs.declared.act_error.ActError.{ActError}
 use Rattle.recorded_book.specs.declared.cut_reply.CutReply.{CutReply}

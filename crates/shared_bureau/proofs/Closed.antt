@@ -1,7 +1,6 @@
 -- A round that is closed, from its cut and its publication.
-use Rattle.std.proofs.Common.{◌≡◌, ◌∙◌, true, ℕ, List, [], ◌∷◌, ◌++◌, Some, refl, sym, ap, subst, append_assoc}
+use Rattle.std.proofs.Common.{◌≡◌, ◌∙◌, ℕ, List, [], ◌∷◌, ◌++◌, Some, refl, sym, ap, subst, append_assoc}
 use Rattle.std.proofs.lemmas.Option.{same_Some}
-use Rattle.std.proofs.lemmas.List.{append-nil}
 use Rattle.std.proofs.lemmas.List.Elements.{All-nil}
 use Rattle.std.specs.Option.{option_map}
 use mathlib.Core.List.{IsPrefix}
@@ -29,7 +28,6 @@ use Rattle.turn_lock.specs.Seats.{number, seen, own}
 use Rattle.turn_lock.proofs.Histories.{prefix_trans, prefix_self}
 use Rattle.recorded_book.specs.declared.cut_reply.CutReply.TheVariants.{Frozen, Refused}
 use Rattle.recorded_book.specs.Acting.{entry_of}
-use Rattle.bureau_desk.specs.declared.publish_reply.PublishReply.{PublishReply}
 use Rattle.bureau_desk.specs.declared.publish_reply.PublishReply.TheVariants as answers
 use Rattle.shared_bureau.specs.declared.close_end.CloseEnd.TheVariants as ends
 use Rattle.shared_bureau.specs.Owned.{OwnsRound}
@@ -118,21 +116,21 @@ module _ {T : Type 0} (old mid : Seat T Entry) (kind : Kind) (horizon : ℕ) (cu
 
       ended : Ended got
       ended = (
-          added,
-          record {
-            got = h.got;
-            outcome = outcome;
-            cut = cut;
-            is = refl;
-            asked = asked_longer (seen mid) (seen new) (number old) a h.got q.added.begins asked;
-            accepted = h.answer_is.0;
-            round_is = number_is;
-            published = subst (λ (n : ℕ). WasAsked (seen new) n (act.Publish cut.round outcome) got) number_same (asked_last mid new (act.Publish cut.round outcome) got q);
-            cut_is = subst (λ (l : List Entry). IsRoundCut l cut.round cut) q.added.begins.1 (cut_longer (seen mid) q.added.begins.0 cut.round cut round_cut);
-            proved = proved;
-            greatest = weak_duality.proved_is_greatest (obligations cut) outcome.discharges outcome.prices proved;
-            oldest_first = oldest;
-          },
+        added,
+        record {
+          got = h.got;
+          outcome = outcome;
+          cut = cut;
+          is = refl;
+          asked = asked_longer (seen mid) (seen new) (number old) a h.got q.added.begins asked;
+          accepted = h.answer_is.0;
+          round_is = number_is;
+          published = subst (λ (n : ℕ). WasAsked (seen new) n (act.Publish cut.round outcome) got) number_same (asked_last mid new (act.Publish cut.round outcome) got q);
+          cut_is = subst (λ (l : List Entry). IsRoundCut l cut.round cut) q.added.begins.1 (cut_longer (seen mid) q.added.begins.0 cut.round cut round_cut);
+          proved = proved;
+          greatest = weak_duality.proved_is_greatest (obligations cut) outcome.discharges outcome.prices proved;
+          oldest_first = oldest;
+        },
       )
 
     pub published : (total : ℕ) → HasPublished mid new cut outcome (answers.Published total) → HasClosed old new a (ends.Published cut.round total)

@@ -1,7 +1,6 @@
 -- What a lock that is finished says of its seats and of the desk.
-use Rattle.std.proofs.Common.{◌≡◌, ◌∙◌, ◌||◌, ◌==◌, true, ℕ, Bool, List, [], ◌∷◌, ◌++◌, map, drop, filter, All, ap, ap₂, sym, refl, subst, append_assoc}
+use Rattle.std.proofs.Common.{◌≡◌, ◌∙◌, ◌||◌, ◌==◌, ℕ, Bool, List, [], ◌∷◌, ◌++◌, map, drop, filter, All, ap, ap₂, sym, refl, subst, append_assoc}
 use Rattle.std.specs.Prelude.{IsTrue}
-use Rattle.std.specs.List.{list_any}
 use Rattle.std.proofs.lemmas.List.{map-append}
 use Rattle.std.proofs.lemmas.List.Elements.{All-nil, All-head, All-tail, filter-append}
 use mathlib.Core.List.{IsPrefix}
@@ -9,10 +8,9 @@ use Rattle.disk_model.specs.Calls.{Seen, IsPresent}
 use Rattle.claim_history.specs.declared.entry.Entry.{Entry}
 use Rattle.claim_history.specs.History.{Call, is_accepted}
 use Rattle.claim_history.specs.Callers.{call_of, entries_by, accepted_calls}
-use Rattle.turn_lock.specs.declared.view.SeatHistory.{SeatHistory}
 use Rattle.turn_lock.specs.declared.turn.Seat.{Seat}
 use Rattle.turn_lock.specs.Turns.{FitsLog, is_numbered}
-use Rattle.turn_lock.specs.Seats.{view, number, seen}
+use Rattle.turn_lock.specs.Seats.{view, seen}
 use Rattle.turn_lock.proofs.Views.{all_cons}
 use Rattle.recorded_book.specs.Calls.{HoldsFirst, HoldsCalls}
 use Rattle.bureau_desk.specs.Desks.{DeskView}

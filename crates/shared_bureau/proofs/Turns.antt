@@ -1,8 +1,7 @@
 -- One turn of a seat at a desk: what it may leave, and what it has added.
-use Rattle.std.proofs.Common.{◌≡◌, ◌∙◌, ◌≤◌, ℕ, List, [], ◌∷◌, ◌++◌, length, drop, All, sym, ap, subst, arith, length-append, if◌then◌else◌}
+use Rattle.std.proofs.Common.{◌≡◌, ◌∙◌, ◌≤◌, ℕ, List, [], ◌∷◌, ◌++◌, length, drop, All, sym, ap, subst, arith, length-append}
 use Rattle.std.proofs.lemmas.List.{reverse-append}
 use Rattle.std.proofs.Math.Seq.{drop-append_seam}
-use Rattle.std.specs.Prelude.{reverse}
 use mathlib.Core.List.{IsPrefix}
 use Rattle.disk_model.specs.Calls.{Seen}
 use Rattle.claim_history.specs.declared.entry.Entry.{Entry}
@@ -11,9 +10,9 @@ use Rattle.claim_history.specs.Callers.{entries_by}
 use Rattle.turn_lock.specs.declared.view.View.{View}
 use Rattle.turn_lock.specs.declared.turn.Seat.{Seat}
 use Rattle.turn_lock.specs.Turns.{Entered, MayLeave, released}
-use Rattle.turn_lock.specs.Seats.{lock, number, view, seen, own, opened, holds}
+use Rattle.turn_lock.specs.Seats.{lock, number, view, seen, own, opened}
 use Rattle.turn_lock.proofs.Histories.{prefix_more, entries_by_more}
-use Rattle.bureau_desk.specs.Desks.{DeskView, HasSameBase, base_of}
+use Rattle.bureau_desk.specs.Desks.{DeskView, HasSameBase}
 use Rattle.shared_bureau.specs.Adding.{HasAdded}
 use Rattle.shared_bureau.specs.Finishing.{base_numbers}
 

@@ -1,5 +1,5 @@
 -- What a call of a seat adds to the history and to the seat's own entries.
-use Rattle.std.specs.Prelude.{◌≡◌, ◌≤◌, false, ℕ, List, [], ◌∷◌, ◌++◌, length, drop}
+use Rattle.std.specs.Prelude.{◌≡◌, ◌≤◌, false, List, [], ◌∷◌, ◌++◌, length, drop}
 use mathlib.Core.List.{IsPrefix}
 use Rattle.setoff_model.specs.CutView.{CutView, OutcomeView}
 use Rattle.setoff_model.specs.Setoff.{total_of}

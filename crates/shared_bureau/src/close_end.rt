@@ -13,11 +13,7 @@ pub enum CloseEnd {
     /// round is open.
     Device { round: u32, before: u64, after: u64 },
     /// The Close needs more entries or bytes than there may be. It has no entry.
-    Full {
-        what: Room,
-        needed: u64,
-        limit: u64,
-    },
+    Full { what: Room, needed: u64, limit: u64 },
     /// There was no memory. A round that is named here is open: its Close is accepted, and nothing is published. Where none is
     /// named, there is no entry.
     Memory { round: Option<u32> },

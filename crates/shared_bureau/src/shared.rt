@@ -154,11 +154,13 @@ impl<D: Disk> Shared<D> {
             Ok(CutReply::Frozen(cut)) => cut,
             Ok(CutReply::Refused(why)) => return CloseEnd::NotOpened(why),
             Err(ActError::Memory) => return CloseEnd::Memory { round: None },
-            Err(ActError::Full {
-                what,
-                needed,
-                limit,
-            }) => {
+            Err(
+                ActError::Full {
+                    what,
+                    needed,
+                    limit,
+                },
+            ) => {
                 return CloseEnd::Full {
                     what,
                     needed,

@@ -1,5 +1,5 @@
-use Rattle.std.proofs.Common.{◌≡◌, ℕ, Some, sym, subst}
-use Rattle.setoff_model.specs.CutView.{CutView, WellFormed}
+use Rattle.std.proofs.Common.{ℕ, Some, sym, subst}
+use Rattle.setoff_model.specs.CutView.{CutView}
 use Rattle.claim_history.specs.declared.act.Act.TheVariants as acts
 use Rattle.turn_lock.specs.Seats.{number, seen, own}
 use Rattle.recorded_book.specs.declared.cut_reply.CutReply.{CutReply}
@@ -49,8 +49,11 @@ returns-in-Published g c =
     let h = subst (λ (t : CutReply). HasCut old mid (acts.Close c.args.kind c.args.horizon) t) c.in-Ok-Frozen.field-0-is c.in-Ok-Frozen.ensures.closed in
     let new = c.publish.new.seat in
     let p = subst (λ (x : CutView). HasPublished mid new x c.in-Ok.checked.outcome (told.Published c.in-Published.total)) c.in-Ok.ensures.cut c.in-Published.ensures.published in
-    record { closed = subst (λ (n : ℕ). HasClosed old new (acts.Close c.args.kind c.args.horizon) (ends.Published n c.in-Published.total)) (sym c.round-round.ensures)
-      (published old mid c.args.kind c.args.horizon cut h new c.in-Ok.checked.outcome c.in-Ok.ensures.proved c.in-Ok.ensures.oldest_first c.in-Published.total p); ready = c.publish.ensures.ready }
+    record {
+      closed = subst (λ (n : ℕ). HasClosed old new (acts.Close c.args.kind c.args.horizon) (ends.Published n c.in-Published.total)) (sym c.round-round.ensures)
+          (published old mid c.args.kind c.args.horizon cut h new c.in-Ok.checked.outcome c.in-Ok.ensures.proved c.in-Ok.ensures.oldest_first c.in-Published.total p);
+      ready = c.publish.ensures.ready;
+    }
 
 pub returns-in-Device : goal.returns-in-Device
 returns-in-Device g c =
@@ -60,5 +63,8 @@ returns-in-Device g c =
     let h = subst (λ (t : CutReply). HasCut old mid (acts.Close c.args.kind c.args.horizon) t) c.in-Ok-Frozen.field-0-is c.in-Ok-Frozen.ensures.closed in
     let new = c.publish.new.seat in
     let p = subst (λ (x : CutView). HasPublished mid new x c.in-Ok.checked.outcome (told.Device c.in-Device.before c.in-Device.after)) c.in-Ok.ensures.cut c.in-Device.ensures.published in
-    record { closed = subst (λ (n : ℕ). HasClosed old new (acts.Close c.args.kind c.args.horizon) (ends.Device n c.in-Device.before c.in-Device.after)) (sym c.round-round.ensures)
-      (failed old mid c.args.kind c.args.horizon cut h new c.in-Ok.checked.outcome c.in-Ok.ensures.proved c.in-Ok.ensures.oldest_first c.in-Device.before c.in-Device.after p); ready = c.publish.ensures.ready }
+    record {
+      closed = subst (λ (n : ℕ). HasClosed old new (acts.Close c.args.kind c.args.horizon) (ends.Device n c.in-Device.before c.in-Device.after)) (sym c.round-round.ensures)
+          (failed old mid c.args.kind c.args.horizon cut h new c.in-Ok.checked.outcome c.in-Ok.ensures.proved c.in-Ok.ensures.oldest_first c.in-Device.before c.in-Device.after p);
+      ready = c.publish.ensures.ready;
+    }

@@ -1,9 +1,8 @@
-use Rattle.std.proofs.Common.{◌≡◌, ◌∙◌, ℕ, sym, ap}
+use Rattle.std.proofs.Common.{◌∙◌, sym, ap}
 use Rattle.claim_history.specs.declared.entry.Entry.{Entry}
 use Rattle.turn_lock.specs.declared.view.View.{View}
 use Rattle.claim_history.specs.declared.act.Act.TheVariants as acts
 use Rattle.turn_lock.specs.Seats.{number}
-use Rattle.bureau_desk.specs.Desks.{DeskView}
 use Rattle.shared_bureau.proofs.Turns.{IsTurn, moved, may_leave}
 use Rattle.shared_bureau.proofs.Asked.{IsCut, adds_cut, cut_done, cut_error}
 use Rattle.shared_bureau.proofs.shared.Shared.cut.Goals as goal
@@ -17,7 +16,7 @@ leave-requires-clause-may g c =
     let new = c.value-2.result.now in
     let result = c.cut-reply.result in
     let asked : IsCut of_disk (acts.Close c.args.kind c.args.horizon) result (number old) found new = moved (IsCut of_disk (acts.Close c.args.kind c.args.horizon) result) (c.number.ensures ∙ c.enter-held.ensures.same.1) c.value.ensures.value (sym c.value-2.ensures.value)
-        (record { closed = c.cut-reply.ensures.closed; error = c.cut-reply.ensures.error; unchanged = c.cut-reply.ensures.unchanged; base = c.cut-reply.ensures.base }) in
+    (record { closed = c.cut-reply.ensures.closed; error = c.cut-reply.ensures.error; unchanged = c.cut-reply.ensures.unchanged; base = c.cut-reply.ensures.base }) in
     may_leave of_disk old mid found new c.enter-held.ensures.entered c.enter-held.ensures.same.1 asked.base (adds_cut of_disk (acts.Close c.args.kind c.args.horizon) (number old) found new result asked)
 
 pub returns-clause-closed : goal.returns-clause-closed
@@ -30,7 +29,7 @@ returns-clause-closed g c =
     let new = c.value-2.result.now in
     let result = c.cut-reply.result in
     let asked : IsCut of_disk (acts.Close c.args.kind c.args.horizon) result (number old) found new = moved (IsCut of_disk (acts.Close c.args.kind c.args.horizon) result) (c.number.ensures ∙ c.enter-held.ensures.same.1) c.value.ensures.value (sym c.value-2.ensures.value)
-        (record { closed = c.cut-reply.ensures.closed; error = c.cut-reply.ensures.error; unchanged = c.cut-reply.ensures.unchanged; base = c.cut-reply.ensures.base }) in
+    (record { closed = c.cut-reply.ensures.closed; error = c.cut-reply.ensures.error; unchanged = c.cut-reply.ensures.unchanged; base = c.cut-reply.ensures.base }) in
     let turn : IsTurn of_disk old mid found new last = record { lock_is = c.leave.ensures.same.0 ∙ c.enter-held.ensures.same.0; number_is = c.leave.ensures.same.1 ∙ c.enter-held.ensures.same.1; took = c.enter-held.ensures.entered; left = c.leave.ensures.left; legal = c.book-book.ensures.keeps.legal; valid = c.book-book.ensures.keeps.valid } in
     cut_done of_disk (acts.Close c.args.kind c.args.horizon) old mid found new last turn result asked
 
@@ -44,7 +43,7 @@ returns-clause-error g c =
     let new = c.value-2.result.now in
     let result = c.cut-reply.result in
     let asked : IsCut of_disk (acts.Close c.args.kind c.args.horizon) result (number old) found new = moved (IsCut of_disk (acts.Close c.args.kind c.args.horizon) result) (c.number.ensures ∙ c.enter-held.ensures.same.1) c.value.ensures.value (sym c.value-2.ensures.value)
-        (record { closed = c.cut-reply.ensures.closed; error = c.cut-reply.ensures.error; unchanged = c.cut-reply.ensures.unchanged; base = c.cut-reply.ensures.base }) in
+    (record { closed = c.cut-reply.ensures.closed; error = c.cut-reply.ensures.error; unchanged = c.cut-reply.ensures.unchanged; base = c.cut-reply.ensures.base }) in
     let turn : IsTurn of_disk old mid found new last = record { lock_is = c.leave.ensures.same.0 ∙ c.enter-held.ensures.same.0; number_is = c.leave.ensures.same.1 ∙ c.enter-held.ensures.same.1; took = c.enter-held.ensures.entered; left = c.leave.ensures.left; legal = c.book-book.ensures.keeps.legal; valid = c.book-book.ensures.keeps.valid } in
     cut_error of_disk (acts.Close c.args.kind c.args.horizon) old mid found new last turn result asked
 

@@ -1,4 +1,4 @@
-use Rattle.std.proofs.Common.{◌≡◌, ◌∙◌, ℕ, sym, ap, subst, drop}
+use Rattle.std.proofs.Common.{◌∙◌, ℕ, sym, ap, subst, drop}
 use Rattle.claim_history.specs.declared.act.Act.TheVariants as acts
 use Rattle.claim_history.specs.Callers.{entries_by}
 use Rattle.claim_history.specs.declared.entry.Entry.{Entry}
@@ -35,7 +35,7 @@ leave-requires-clause-may g c =
     let cut = c.args.checked.cut in
     let outcome = c.args.checked.outcome in
     let asked : IsPublished of_disk cut outcome c.publish-reply.result (number old) found new = moved (IsPublished of_disk cut outcome c.publish-reply.result) (c.number.ensures ∙ c.enter-held.ensures.same.1) (c.value-2.ensures.value ∙ c.value.ensures.value) (sym c.value-3.ensures.value)
-        (record { published = c.publish-reply.ensures.published; base = c.publish-reply.ensures.base }) in
+    (record { published = c.publish-reply.ensures.published; base = c.publish-reply.ensures.base }) in
     may_leave of_disk old mid found new c.enter-held.ensures.entered c.enter-held.ensures.same.1 asked.base
     (adds_one of_disk (acts.Publish cut.round outcome) (number old) found new asked.published.got asked.published.acted)
 
@@ -52,7 +52,7 @@ returns-clause-published g c =
     let cut = c.args.checked.cut in
     let outcome = c.args.checked.outcome in
     let asked : IsPublished of_disk cut outcome c.publish-reply.result (number old) found new = moved (IsPublished of_disk cut outcome c.publish-reply.result) (c.number.ensures ∙ c.enter-held.ensures.same.1) (c.value-2.ensures.value ∙ c.value.ensures.value) (sym c.value-3.ensures.value)
-        (record { published = c.publish-reply.ensures.published; base = c.publish-reply.ensures.base }) in
+    (record { published = c.publish-reply.ensures.published; base = c.publish-reply.ensures.base }) in
     let turn : IsTurn of_disk old mid found new last = record { lock_is = c.leave.ensures.same.0 ∙ c.enter-held.ensures.same.0; number_is = c.leave.ensures.same.1 ∙ c.enter-held.ensures.same.1; took = t; left = c.leave.ensures.left; legal = c.book-after.ensures.keeps.legal; valid = c.book-after.ensures.keeps.valid } in
     let legal : IsLegal found.history = subst (λ (d : DeskView D). IsLegal d.history) c.value.ensures.value c.book-before.ensures.keeps.legal in
     let mine = t.own ∙ ap (λ (n : ℕ). entries_by n (drop (opened old) found.history)) (sym old.numbered.number_is) in

@@ -1,8 +1,7 @@
-use Rattle.std.proofs.Common.{◌≡◌, ◌∙◌, ℕ, sym, ap}
+use Rattle.std.proofs.Common.{◌∙◌, sym, ap}
 use Rattle.claim_history.specs.declared.entry.Entry.{Entry}
 use Rattle.turn_lock.specs.declared.view.View.{View}
 use Rattle.turn_lock.specs.Seats.{number}
-use Rattle.bureau_desk.specs.Desks.{DeskView}
 use Rattle.shared_bureau.proofs.Turns.{IsTurn, moved, may_leave}
 use Rattle.shared_bureau.proofs.Asked.{IsAsked, adds, done, error}
 use Rattle.shared_bureau.proofs.shared.Shared.submit.Goals as goal
@@ -16,7 +15,7 @@ leave-requires-clause-may g c =
     let new = c.value-2.result.now in
     let result = c.act-reply.result in
     let asked : IsAsked of_disk c.args.act result (number old) found new = moved (IsAsked of_disk c.args.act result) (c.number.ensures ∙ c.enter-held.ensures.same.1) c.value.ensures.value (sym c.value-2.ensures.value)
-        (record { acted = c.act-reply.ensures.acted; error = c.act-reply.ensures.error; unchanged = c.act-reply.ensures.unchanged; base = c.act-reply.ensures.base }) in
+    (record { acted = c.act-reply.ensures.acted; error = c.act-reply.ensures.error; unchanged = c.act-reply.ensures.unchanged; base = c.act-reply.ensures.base }) in
     may_leave of_disk old mid found new c.enter-held.ensures.entered c.enter-held.ensures.same.1 asked.base (adds of_disk c.args.act (number old) found new result asked)
 
 pub returns-clause-done : goal.returns-clause-done
@@ -29,7 +28,7 @@ returns-clause-done g c =
     let new = c.value-2.result.now in
     let result = c.act-reply.result in
     let asked : IsAsked of_disk c.args.act result (number old) found new = moved (IsAsked of_disk c.args.act result) (c.number.ensures ∙ c.enter-held.ensures.same.1) c.value.ensures.value (sym c.value-2.ensures.value)
-        (record { acted = c.act-reply.ensures.acted; error = c.act-reply.ensures.error; unchanged = c.act-reply.ensures.unchanged; base = c.act-reply.ensures.base }) in
+    (record { acted = c.act-reply.ensures.acted; error = c.act-reply.ensures.error; unchanged = c.act-reply.ensures.unchanged; base = c.act-reply.ensures.base }) in
     let turn : IsTurn of_disk old mid found new last = record { lock_is = c.leave.ensures.same.0 ∙ c.enter-held.ensures.same.0; number_is = c.leave.ensures.same.1 ∙ c.enter-held.ensures.same.1; took = c.enter-held.ensures.entered; left = c.leave.ensures.left; legal = c.book-book.ensures.keeps.legal; valid = c.book-book.ensures.keeps.valid } in
     done of_disk c.args.act old mid found new last turn result asked
 
@@ -43,7 +42,7 @@ returns-clause-error g c =
     let new = c.value-2.result.now in
     let result = c.act-reply.result in
     let asked : IsAsked of_disk c.args.act result (number old) found new = moved (IsAsked of_disk c.args.act result) (c.number.ensures ∙ c.enter-held.ensures.same.1) c.value.ensures.value (sym c.value-2.ensures.value)
-        (record { acted = c.act-reply.ensures.acted; error = c.act-reply.ensures.error; unchanged = c.act-reply.ensures.unchanged; base = c.act-reply.ensures.base }) in
+    (record { acted = c.act-reply.ensures.acted; error = c.act-reply.ensures.error; unchanged = c.act-reply.ensures.unchanged; base = c.act-reply.ensures.base }) in
     let turn : IsTurn of_disk old mid found new last = record { lock_is = c.leave.ensures.same.0 ∙ c.enter-held.ensures.same.0; number_is = c.leave.ensures.same.1 ∙ c.enter-held.ensures.same.1; took = c.enter-held.ensures.entered; left = c.leave.ensures.left; legal = c.book-book.ensures.keeps.legal; valid = c.book-book.ensures.keeps.valid } in
     error of_disk c.args.act old mid found new last turn result asked
 
