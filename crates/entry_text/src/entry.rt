@@ -156,7 +156,10 @@ fn write_refusal(buffer: &mut Vec<u8>, why: Why)
     write_numbers(buffer, why);
 }
 
-fn write_reply(buffer: &mut Vec<u8>, reply: &Reply)
+/// Writes the text of a reply into a buffer that has room.
+///
+/// The amounts of a position, and the total of a publication, are below 10^18 cents in size. The text takes at most 90 bytes.
+pub fn write_reply(buffer: &mut Vec<u8>, reply: &Reply)
     requires range { IsReplyInRange reply.now }
     requires spare { vec_len buffer.old + 90 ≤ vec_capacity buffer.old }
     ensures text { buffer.new.items ≡ buffer.old.items ++ reply_text reply.now }

@@ -9,4 +9,4 @@ mod entry;
 #[cfg(test)]
 mod tests;
 
-pub use entry::write_entry;
+pub use entry::{write_entry, write_reply};

@@ -1,0 +1,14 @@
+//! What comes of the lines of a batch.
+//!
+//! A line of the input asks one act. It is replied to, by one entry or, where it is a Close that is accepted, by this entry
+//! and the publication of its round; or there was no memory for it; or its act was full. `IsServed` says what the entries of a
+//! batch are, of any number of lanes: those of each lane are those of its lines, in order.
+#![tactic(auto)]
+
+mod answer;
+mod ends;
+mod line_end;
+
+pub use answer::Answer;
+pub use ends::{some_full, some_memory};
+pub use line_end::LineEnd;
