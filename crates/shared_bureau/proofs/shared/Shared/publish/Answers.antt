@@ -12,8 +12,8 @@ use Rattle.shared_bureau.proofs.Asked.{IsPublished, adds_one, published}
 use Rattle.shared_bureau.proofs.Owned.{publishable}
 use Rattle.shared_bureau.proofs.shared.Shared.publish.Goals as goal
 
-pub publish-reply-requires-clause-owned : goal.publish-reply-requires-clause-owned
-publish-reply-requires-clause-owned g c =
+pub publish-reply-requires : goal.publish-reply-requires
+publish-reply-requires g c =
     let D = g.row.D.Denot in
     let t = c.enter-held.ensures.entered in
     let old = c.args.seat.now in
@@ -22,8 +22,10 @@ publish-reply-requires-clause-owned g c =
     let legal : IsLegal found.history = subst (λ (d : DeskView D). IsLegal d.history) c.value.ensures.value c.book-before.ensures.keeps.legal in
     let mine = t.own ∙ ap (λ (n : ℕ). entries_by n (drop (opened old) found.history)) (sym old.numbered.number_is) in
     let may = publishable found.history (seen old) (own old) (opened old) (number old) cut c.requires.owned t.begins mine t.numbered legal in
-    subst (λ (d : DeskView D). IsPublishable d.history c.number.result cut) (sym (c.value-2.ensures.value ∙ c.value.ensures.value))
-    (subst (λ (n : ℕ). IsPublishable found.history n cut) (sym (c.number.ensures ∙ c.enter-held.ensures.same.1)) may)
+    record {
+      owned = subst (λ (d : DeskView D). IsPublishable d.history c.number.result cut) (sym (c.value-2.ensures.value ∙ c.value.ensures.value))
+          (subst (λ (n : ℕ). IsPublishable found.history n cut) (sym (c.number.ensures ∙ c.enter-held.ensures.same.1)) may);
+    }
 
 pub leave-requires-clause-may : goal.leave-requires-clause-may
 leave-requires-clause-may g c =
