@@ -231,8 +231,10 @@ fn opened(alloc: Global) -> Option<(Shared<MemoryDisk>, Registrar<MemoryDesk>)>
 {
     let disk = MemoryDisk::new(alloc, Vec::new(alloc), Vec::new(alloc));
     let desk = Desk::open(alloc, disk).ok()?;
-    let (shared, registrar, _) = Shared::open(alloc, desk, 0).ok()?;
-    Some((shared, registrar))
+    match Shared::open(alloc, desk, 0) {
+        Ok((shared, registrar, _)) => Some((shared, registrar)),
+        Err(_) => None,
+    }
 }
 
 // The first seat closes a round, which it alone may continue, with the same kind. The second finds it frozen and not its own, and
