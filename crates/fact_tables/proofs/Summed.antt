@@ -58,13 +58,16 @@ sum_changed firms sums firm other i value less more long found is = by (same_nam
   where
     within : i < length firms
     within = (position-Some (same_name firm) firms i firm found).0
+
     name : firm ≡ get_or firms i firm
     name = (same_name_is firm (get_or firms i firm)).0 (position-Some (same_name firm) firms i firm found).1
+
     elsewhere : (p : Option ℕ) → position (same_name other) firms ≡ p → (firm ≡ other → ⊥) → at_place (set sums i (value - less + more)) p ≡ at_place sums p
     elsewhere None e differ = refl
     elsewhere (Some j) e differ =
         let at = position-Some (same_name other) firms j firm e in
         get_or-set_other sums i j (value - less + more) 0 (λ same. differ (name ∙ ap (λ (k : ℕ). get_or firms k firm) (sym same) ∙ sym ((same_name_is other (get_or firms j firm)).0 at.1)))
+
     by : (b : Bool) → same_name firm other ≡ b
         → at_place (set sums i (value - less + more)) (position (same_name other) firms) ≡ (if b then at_place sums (position (same_name other) firms) - less + more else at_place sums (position (same_name other) firms))
     by true same =
@@ -193,6 +196,7 @@ sums_filed side xs s t y are none begun known sums = record {
   where
     nothing : (firm : List ℕ) → sum_by (weight side firm) (y ∷ []) ≡ 0
     nothing firm = omega (arith, sum_by-cons (weight side firm) y [], counted_le (same_name firm (side y)) (counted y), none)
+
     more : (firm : List ℕ) → sum_by (weight side firm) xs ≡ sum_by (weight side firm) (xs ++ y ∷ [])
     more firm = omega (arith, sum_by-append (weight side firm) xs (y ∷ []), nothing firm)
 

@@ -76,7 +76,7 @@ invariant_of-self c =
         small = omega (arith, c.self.invariant.stand.small, total_kept (λ (r : ClaimFact). r.debtor) facts c.self.inside.payables place x y c.self.invariant.owed_by lt c.index.ensures debtor left);
       };
       owed_to = sums_follow (λ (r : ClaimFact). r.key.creditor) facts c.self.inside.receivables place x y c.self.invariant.owed_to lt c.index.ensures creditor c.change.new.self c.change.ensures.known
-      (λ other. c.change.ensures.sums other ∙ ap₂ (λ (less more : ℕ). if same_name y.key.creditor other then sum_of c.self.inside.receivables other - less + more else sum_of c.self.inside.receivables other) c.counted-less.ensures c.counted-more.ensures);
+          (λ other. c.change.ensures.sums other ∙ ap₂ (λ (less more : ℕ). if same_name y.key.creditor other then sum_of c.self.inside.receivables other - less + more else sum_of c.self.inside.receivables other) c.counted-less.ensures c.counted-more.ensures);
       owed_by = sums_follow (λ (r : ClaimFact). r.debtor) facts c.self.inside.payables place x y c.self.invariant.owed_by lt c.index.ensures debtor c.change-2.new.self c.change-2.ensures.known
-      (λ other. c.change-2.ensures.sums other ∙ ap₂ (λ (less more : ℕ). if same_name y.debtor other then sum_of c.self.inside.payables other - less + more else sum_of c.self.inside.payables other) c.counted-less.ensures c.counted-more.ensures);
+          (λ other. c.change-2.ensures.sums other ∙ ap₂ (λ (less more : ℕ). if same_name y.debtor other then sum_of c.self.inside.payables other - less + more else sum_of c.self.inside.payables other) c.counted-less.ensures c.counted-more.ensures);
     }
