@@ -65,6 +65,7 @@ printf '%10s %10s %10s %12s %10s\n' lines seconds us/line bytes/line sqlite-s
 for lines; do
   write lines "$lines" >"$folder/requests"
   write sql "$lines" >"$folder/rows"
+  rm -f bureau.journal
   /usr/bin/time -f '%e %M' -o "$folder/program" "$program" run <"$folder/requests" >"$folder/written"
   /usr/bin/time -f '%e' -o "$folder/sqlite" sqlite3 :memory: <"$folder/rows"
   if [ "$(grep -c ' = refused ' "$folder/written")" -gt 0 ] || [ "$(wc -l <"$folder/written")" -lt "$lines" ]; then

@@ -13,11 +13,13 @@ trap 'rm -rf "$folder"' EXIT
 "$here/drawn.sh" "$1" "$2" "$3" none >"$folder/requests"
 "$here/drawn.sh" "$1" "$2" "$3" 1970-01-01 >"$folder/empty"
 "$here/drawn.sh" "$1" "$2" "$3" >"$folder/round"
+rm -f bureau.journal
 "$program" run <"$folder/round" | grep '^[A-Z]' >"$folder/statement"
 
 # The least seconds of five runs of a command of the program over an input.
 least() {
   for _ in 1 2 3 4 5; do
+    rm -f bureau.journal
     /usr/bin/time -f '%e' -o "$folder/time" "$program" "$1" <"$folder/$2" >/dev/null
     cat "$folder/time"
   done | sort -n | head -1

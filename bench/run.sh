@@ -14,6 +14,7 @@ trap 'rm -f "$input" "$figures"' EXIT
 printf '%10s %10s %12s %12s %12s\n' lines seconds us/line peak-KB bytes/line
 for lines; do
   "$here/inputs.sh" "$lines" >"$input"
+  rm -f bureau.journal
   /usr/bin/time -f '%e %M' -o "$figures" "$program" run <"$input" >/dev/null
   read -r seconds kilobytes <"$figures"
   awk -v n="$lines" -v s="$seconds" -v k="$kilobytes" \

@@ -11,6 +11,7 @@ set -eu
 folder=$(mktemp -d)
 trap 'rm -rf "$folder"' EXIT
 "$here/drawn.sh" "$1" "$2" "$3" >"$folder/requests"
+rm -f bureau.journal
 valgrind --tool=callgrind --callgrind-out-file="$folder/profile" "$program" run <"$folder/requests" >/dev/null 2>"$folder/log"
 callgrind_annotate --threshold=100 --inclusive=yes "$folder/profile" >"$folder/counts"
 

@@ -1,11 +1,23 @@
--- What is due for words, by their command.
-use Rattle.std.proofs.Common.{ℕ, List}
-use Rattle.std.specs.Prelude.{Option}
+-- What the words ask for.
+use Rattle.std.specs.Prelude.{map, string_bytes}
+use Rattle.std.proofs.Common.{◌≡◌, ℕ, List, String, Global, ap, subst}
 use Rattle.bureau_program.specs.declared.command.Command.{Command}
-use Rattle.bureau_program.specs.declared.command.Command.TheVariants.{Run, Check}
-use Rattle.bureau_program.specs.Headline.{IsReadDue, IsDue, run_words, check_words}
-use Rattle.bureau_program.specs.Commands.{AreWordsOf, IsInputDue}
+use Rattle.bureau_program.specs.declared.command.Command.TheVariants.{Run, Check, Audit}
+use Rattle.bureau_program.specs.Due.{AreRun, AreCheck, AreAudit}
+use Rattle.bureau_program.specs.Commands.{AreWordsOf}
 
-pub due_for : (command : Command) (words : List (List ℕ)) (x y : Option (List ℕ)) → AreWordsOf command words → (status : ℕ) (text : List ℕ) → IsReadDue (IsInputDue command) x y status text → IsDue words x y status text
-due_for Run words x y h status text due = run_words h status text due
-due_for Check words x y h status text due = check_words h status text due
+pub run_asked : (command : Command) (words : List (List ℕ)) → command ≡ Run → AreWordsOf command words → AreRun words
+run_asked command words is are = subst (λ (k : Command). AreWordsOf k words) is are
+
+pub check_asked : (command : Command) (words : List (List ℕ)) → command ≡ Check → AreWordsOf command words → AreCheck words
+check_asked command words is are = subst (λ (k : Command). AreWordsOf k words) is are
+
+pub audit_asked : (command : Command) (words : List (List ℕ)) → command ≡ Audit → AreWordsOf command words → AreAudit words
+audit_asked command words is are = subst (λ (k : Command). AreWordsOf k words) is are
+
+-- the bytes of words
+abbrev pub bytes_of : List (String Global) → List (List ℕ)
+bytes_of words = map (λ (w : String Global). string_bytes w) words
+
+pub same_bytes : (words others : List (String Global)) → words ≡ others → bytes_of words ≡ bytes_of others
+same_bytes words others is = ap (λ (ws : List (String Global)). bytes_of ws) is

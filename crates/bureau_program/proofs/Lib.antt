@@ -1,5 +1,8 @@
-pub mod Served
-pub mod Published
-pub mod Dues
+pub mod Rising
+pub mod Audited
+pub mod Written
+pub mod Printed
+pub mod Reading
 pub mod Commands
+pub mod Served
 pub mod Completeness

@@ -1,61 +1,75 @@
--- What a run of the program is, from the bytes of its source to the bytes of its sink.
-use Rattle.std.specs.Prelude.{◌≡◌, ℕ, ◌+◌, List, [], ◌∷◌, length, codes, Option}
-use Rattle.std.specs.Io.KnownBytes.{Consumes}
-use Rattle.std.specs.Str.Lines.{lines}
-use Rattle.bureau_edge.specs.Streams.{TakesAll}
+-- What a run of batches is.
+use Rattle.std.specs.Prelude.{◌≡◌, ℕ, Bool, List, [], ◌∷◌, ◌++◌, length, drop, IsTrue}
+use Rattle.disk_model.specs.Calls.{Seen, IsPresent}
+use Rattle.claim_history.specs.declared.entry.Entry.{Entry}
+use Rattle.claim_history.specs.declared.entry.Reply.TheVariants as reply
+use Rattle.claim_history.specs.History.{IsLegal}
+use Rattle.claim_history.specs.Callers.{accepted_calls}
+use Rattle.claim_history.specs.Laws.{IsGreatestPublication}
 use Rattle.request_text.specs.declared.request.Request.{Request}
-use Rattle.request_text.specs.declared.error.LineCause.{LineCause}
-use Rattle.request_text.specs.Grammar.{IsRequestText, IsNoRequestText, IsFirstBadLine}
-use Rattle.setoff_model.specs.Limits.{most_input_bytes}
-use Rattle.setoff_model.specs.CutView.{CutView, OutcomeView}
-use Rattle.setoff_checker.specs.declared.verdict.Verdict.{Verdict}
-use Rattle.setoff_checker.specs.Verdicts.{IsVerdict}
-use Rattle.statement_text.specs.declared.error.StatementCause.{StatementCause}
-use Rattle.statement_text.specs.Statements as statements
-use Rattle.printed_text.specs.Texts.{bad_line_text, bad_statement_text, verdict_text, verdict_status}
-use Rattle.bureau_program.specs.Serving.{IsServedRun}
-use Rattle.printed_text.specs.Writing.{Wrote}
+use Rattle.round_journal.specs.declared.record.Record.{Record}
+use Rattle.round_journal.specs.Opened.{AreFound}
+use Rattle.journal_replay.specs.Replays.{history_of, AreSound}
+use Rattle.recorded_book.specs.Acting.{IsOpenedHistory}
+use Rattle.recorded_book.specs.Calls.{HoldsFirst, StandsForLeft}
+use Rattle.bureau_desk.specs.Opening.{HasDeskOpened, HasDeskTurned, SparesUnsound}
+use Rattle.recorded_book.specs.Devices.{AreBetween}
+use Rattle.recorded_book.specs.Moments.{HasMoments}
+use Rattle.printed_text.specs.Printing.{added_text}
+use Rattle.bureau_program.specs.Runs.{Done, AreOf, AreServed, all_added, text_of}
 
-abbrev pub AreRun : List (List ℕ) → Type 0
-AreRun words = words ≡ codes "run" ∷ []
+-- The history: that of the records that the disk held, with the abandonment where they leave a round open, and then what the
+-- batches added.
+pub record IsRunHistory (tells : Bool) (bytes : List ℕ) (opened begun : List Entry) (done : List Done) (history : List Entry) : Type 0 where
+  pub records : List Record
+  pub found : AreFound tells bytes records
+  pub sound : AreSound records
+  pub opened_is : opened ≡ history_of records
+  pub begins : IsOpenedHistory opened begun
+  pub parts : history ≡ begun ++ all_added done
 
-abbrev pub AreCheck : List (List ℕ) → Type 0
-AreCheck words = words ≡ codes "check" ∷ []
+-- the abandonment's line, and the text of each batch
+abbrev pub run_text : List Entry → List Entry → List Done → List ℕ
+run_text opened begun done = added_text opened (drop (length opened) begun) ++ text_of begun done
 
--- the status and the text that requests come to: no memory for their answers, or they were served
-pub data IsBatchDue (requests : List Request) : ℕ → List ℕ → Type 0 where
-  no_output_memory : IsBatchDue requests 9 (codes "fault memory\n")
-  served : (status : ℕ) (text : List ℕ) → IsServedRun requests status text → IsBatchDue requests status text
+-- Each published entry is the publication of its own round, whose prices prove that no lawful set-off of the round's cut
+-- discharges more.
+abbrev pub RoundsAreGreatest : List Entry → Type 0
+RoundsAreGreatest history =
+    (before later : List Entry) (e : Entry) (total : ℕ) → history ≡ before ++ e ∷ later → e.reply ≡ reply.Published total → IsGreatestPublication before e total
 
--- the status and the text that an input of requests comes to
-pub data IsRunDue (input : List ℕ) : ℕ → List ℕ → Type 0 where
-  no_request_memory : IsRunDue input 9 (codes "fault memory\n")
-  bad_line : (line : ℕ) (cause : LineCause) → IsFirstBadLine input line → IsNoRequestText input → IsRunDue input 6 (bad_line_text line cause)
-  batch : (requests : List Request) → IsRequestText input requests → (status : ℕ) (text : List ℕ) → IsBatchDue requests status text → IsRunDue input status text
+-- What a call leaves of the disk that ends before its first batch. Until the first sync had succeeded the disk reads as at the
+-- start and no image is new; from then on each image holds the records of the start, alone or with the abandonment. More than
+-- nine bytes that stand for no sound records stay as they were.
+pub record LeavesDisk (old new : Seen) : Type 0 where
+  pub opened : HasDeskOpened old new
+  pub spared : SparesUnsound old.reads new.reads
 
--- the status and the text that an input of a statement comes to: the verdict on the one cut and outcome that it states
-pub data IsCheckDue (input : List ℕ) : ℕ → List ℕ → Type 0 where
-  no_statement_memory : IsCheckDue input 9 (codes "fault memory\n")
-  bad_statement : (line : ℕ) (cause : StatementCause) → statements.IsFirstBadLine (lines input) line → statements.IsNoStatement (lines input) → IsCheckDue input 6 (bad_statement_text line cause)
-  judged : (cut : CutView) (outcome : OutcomeView) → statements.IsStatement (lines input) cut outcome → (verdict : Verdict) → IsVerdict cut outcome verdict → IsCheckDue input (verdict_status verdict) (verdict_text cut verdict)
+-- A crash at any moment since that of the opening's first sync, which is the first of the moments: of the disk that the opening
+-- left, each image since that sync holds the records of the start, and no earlier one is new.
+pub record SurvivesCrashes {D : Type 0} (seen : D → Seen) (old new : D) (opened : ℕ) (history : List Entry) : Type 0 where
+  pub first : ℕ
+  pub begun : D
+  pub turned : HasDeskTurned (seen old) first (seen begun)
+  pub moments : HasMoments (seen new) first opened history
+  pub at_exit : (c : List ℕ) → IsPresent (seen new) c → HoldsFirst (accepted_calls history) c
 
--- the status and the text that are due after the reading of an input: a fault of the reading, or what the input comes to
-pub data IsReadDue (IsInputDue : List ℕ → ℕ → List ℕ → Type 0) (left_old left_new : Option (List ℕ)) : ℕ → List ℕ → Type 0 where
-  no_input_memory : IsReadDue IsInputDue left_old left_new 9 (codes "fault memory\n")
-  read_fault : IsReadDue IsInputDue left_old left_new 3 (codes "fault read\n")
-  too_long : (taken : List ℕ) → Consumes left_old left_new taken → length taken ≡ most_input_bytes + 1 → IsReadDue IsInputDue left_old left_new 7 (codes "fault input too long\n")
-  input_read : (input : List ℕ) → TakesAll most_input_bytes left_old left_new input → (status : ℕ) (text : List ℕ) → IsInputDue input status text → IsReadDue IsInputDue left_old left_new status text
-
--- the status and the text that are due for the words; with other words nothing is read
-pub data IsDue (words : List (List ℕ)) (left_old left_new : Option (List ℕ)) : ℕ → List ℕ → Type 0 where
-  bad_words : (AreRun words → ⊥) → (AreCheck words → ⊥) → left_old ≡ left_new → IsDue words left_old left_new 2 (codes "fault words\n")
-  run_words : AreRun words → (status : ℕ) (text : List ℕ) → IsReadDue IsRunDue left_old left_new status text → IsDue words left_old left_new status text
-  check_words : AreCheck words → (status : ℕ) (text : List ℕ) → IsReadDue IsCheckDue left_old left_new status text → IsDue words left_old left_new status text
-
--- the status and the text that are due where there was no memory for the words
-pub data IsMemoryDue : ℕ → List ℕ → Type 0 where
-  no_word_memory : IsMemoryDue 9 (codes "fault memory\n")
-
--- the whole run: what was due for the words and the input was written
-abbrev pub Ran : List (List ℕ) → Option (List ℕ) → Option (List ℕ) → Option (List ℕ) → Option (List ℕ) → ℕ → Type 0
-Ran words left_old left_new held_old held_new status = Wrote (IsDue words left_old left_new) held_old held_new status
+-- A run that served batches, and the status and the text that are due. Its parts: the history; what is written; what the disk
+-- reads at the end, which stands for the accepted calls, perhaps followed by one whose write failed; that the history is legal,
+-- and the counts of its devices lie between those of the disk; the calls of each lane; the rounds; crashes; and what a run
+-- leaves that failed to write the abandonment's line.
+pub record IsHeadline {D : Type 0} (seen : D → Seen) (old new : D) (batches : List (List Request)) (status : ℕ) (text : List ℕ) : Type 0 where
+  pub opened : List Entry
+  pub begun : List Entry
+  pub done : List Done
+  pub history : List Entry
+  pub is_history : IsRunHistory (seen old).tells (seen old).reads opened begun done history
+  pub all : AreOf batches status done
+  pub text_is : text ≡ run_text opened begun done
+  pub on_disk : IsTrue (seen old).tells → StandsForLeft history (seen new).reads
+  pub legal : IsLegal history
+  pub between : AreBetween (seen old).count (seen new).count history
+  pub served : AreServed begun done
+  pub greatest : RoundsAreGreatest history
+  pub survives : IsTrue (seen old).tells → SurvivesCrashes seen old new (length opened) history
+  pub early : done ≡ [] → IsTrue (seen old).tells → LeavesDisk (seen old) (seen new)

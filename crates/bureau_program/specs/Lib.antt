@@ -1,5 +1,5 @@
-pub mod Serving
-pub mod Closing
+pub mod Runs
 pub mod Headline
+pub mod Due
 pub mod Commands
 pub mod Completeness

@@ -4,7 +4,7 @@ ghost use Rattle.std.specs.Str.Lines.{lines};
 ghost use Rattle.fault_count.specs.Counts.{HasRisen};
 ghost use Rattle.statement_text.specs.Statements as statements;
 ghost use Rattle.printed_text.specs.Writing.{Wrote};
-ghost use Rattle.bureau_program.specs.Headline.{IsCheckDue};
+ghost use Rattle.bureau_program.specs.Due.{IsCheckDue};
 
 use bureau_edge::Sink;
 use printed_text::{end_with, status_of_verdict, write_bad_statement, write_verdict};
@@ -25,6 +25,7 @@ fn check_statement<K: Sink>(
     ensures wrote { Wrote (IsCheckDue input.now) (K.held sink.old) (K.held sink.new) result }
     ensures write_fault { result ≡ 4 → HasRisen (K.faults sink.old) (K.faults sink.new) }
     ensures no_read_fault { result ≢ 3 }
+    ensures no_disk_fault { result ≢ 5 }
 {
     let Ok(mut checker) = Checker::for_cut(alloc, cut) else {
         return end_with(sink, 9, b"fault memory\n");
@@ -50,6 +51,7 @@ fn tell_bad_statement<K: Sink>(
     ensures wrote { Wrote (IsCheckDue input.now) (K.held sink.old) (K.held sink.new) result }
     ensures write_fault { result ≡ 4 → HasRisen (K.faults sink.old) (K.faults sink.new) }
     ensures no_read_fault { result ≢ 3 }
+    ensures no_disk_fault { result ≢ 5 }
 {
     let Ok(mut buffer) = Vec::with_capacity(alloc, 200) else {
         return end_with(sink, 9, b"fault memory\n");
@@ -63,6 +65,7 @@ pub fn check_input<K: Sink>(alloc: Global, input: &[u8], sink: &mut K) -> u8
     ensures wrote { Wrote (IsCheckDue input.now) (K.held sink.old) (K.held sink.new) result }
     ensures write_fault { result ≡ 4 → HasRisen (K.faults sink.old) (K.faults sink.new) }
     ensures no_read_fault { result ≢ 3 }
+    ensures no_disk_fault { result ≢ 5 }
 {
     match read_statement(alloc, input) {
         Ok((cut, outcome)) => check_statement(alloc, input, &cut, &outcome, sink),

@@ -1,27 +1,31 @@
 //! A bureau for the multilateral set-off of trade credit: the program.
 //!
-//! `bureau` is the whole program over its words, a source and a sink. `main` calls it, or `without_words` where there was no
-//! memory for the words, and nothing else. The word `run` reads requests and serves them in order over a book that begins
-//! empty, and that ends with the run. The word `check` reads a statement and judges it.
+//! `bureau` is the whole program over its words, a source, a sink and a disk. `main` calls it with a disk over the file
+//! `bureau.journal` of the folder that it runs in, or `without_words` where there was no memory for the words, and nothing else.
+//! The word `run` reads requests and serves them in order on a desk over the disk's journal. The word `check` reads a statement
+//! and judges it. The word `audit` replays the journal and tells whether it is sound.
 //!
-//! - The input is read whole before anything is served, and all is served before anything is printed.
-//! - Each reply is the one reply of the entries before it.
+//! - The input is read whole before the disk is called, and all is served before anything is printed, but the abandonment of a
+//!   round that the journal left open, which is printed first.
+//! - Each reply is the one reply of the entries before it, or tells of a fault that the disk counted.
+//! - An accepted act is on the disk before its reply is printed.
 //! - A Close that is accepted is followed by the publication of its round: solved, certified, and never without a proof.
-//! - A request for which there was no memory is marked. It added nothing, or it is a Close whose round it left open, which
-//!   its caller's next Close of that kind and horizon continues.
-//! - What is printed is one fault line, or all entries and a line for each request that was marked.
+//! - Want of memory, a full act or a fault of the disk ends one line. A fault of the sink ends the run.
+//! - What is printed is one fault line; or all entries of this run and a line for each line that was not replied to.
 #![tactic(auto)]
 
+mod audit;
 mod check;
-mod closing;
 mod command;
+#[cfg(test)]
+mod journal_tests;
 mod run;
-mod serve;
 #[cfg(test)]
 mod tests;
 mod top;
 
 use bureau_edge::{StandardIn, StandardOut};
+use disk_model::FileDisk;
 use std::alloc::AllocError;
 use std::env;
 use std::io::ErrorKind;
@@ -44,12 +48,20 @@ fn words(rt: &HostRuntime) -> Result<Vec<String>, AllocError> {
     Ok(words)
 }
 
+// The path of the journal.
+fn journal(rt: &HostRuntime) -> Result<String, AllocError> {
+    String::from_str(rt.alloc(), "bureau.journal")
+}
+
 fn main(rt: HostRuntime) -> ExitCode {
     let source = StandardIn::new(&rt);
     let sink = StandardOut::new(&rt);
-    let ended = match words(&rt) {
-        Ok(words) => bureau(&rt, rt.alloc(), words, source, sink),
-        Err(_) => without_words(source, sink),
+    let status = match (words(&rt), journal(&rt)) {
+        (Ok(words), Ok(path)) => {
+            let disk = FileDisk::new(&rt, path);
+            bureau(&rt, rt.alloc(), words, source, sink, disk).status
+        }
+        _ => without_words(source, sink).status,
     };
-    ExitCode::from(ended.status)
+    ExitCode::from(status)
 }

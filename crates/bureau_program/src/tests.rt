@@ -1,5 +1,6 @@
 use crate::top::{Ended, bureau, without_words};
 use bureau_edge::{BytesSink, BytesSource, Failed, Source, SureSource};
+use disk_model::MemoryDisk;
 use std::alloc::{AllocError, Global};
 use std::test::Fail;
 
@@ -23,7 +24,12 @@ const CLAIM_LINES: &[u8] =
 const CLAIM_ENTRIES: &[u8] =
     b"1 FIRM A = ok\n1 FIRM B = ok\n1 FILE B I-1 A 10.00 2025-01-31 = ok\n1 RECEIVE B I-1 10.01 = refused 11 over-open\n1 CONFIRM B I-1 A = ok\n1 RECEIVE B I-1 4.00 = ok\n1 POSITION A = balance 0.00 receivable 0.00 payable 6.00\n1 POSITION B = balance 0.00 receivable 6.00 payable 0.00\n1 DISPUTE B I-1 B = refused 8 not-debtor\n1 DISPUTE B I-1 A = ok\n1 POSITION A = balance 0.00 receivable 0.00 payable 0.00\n1 DISPUTE B I-1 A = refused 9 wrong-state\n1 WITHDRAW B I-1 = ok\n1 RECEIVE B I-1 1.00 = refused 9 wrong-state\n1 WITHDRAW B I-2 = refused 7 unknown-claim\n";
 
-fn words_of(alloc: Global, texts: &[&str]) -> Result<Vec<String>, AllocError> {
+// A disk in memory without bytes, none of whose calls fails.
+fn new_disk(alloc: Global) -> MemoryDisk {
+    MemoryDisk::new(alloc, Vec::new(alloc), Vec::new(alloc))
+}
+
+pub(crate) fn words_of(alloc: Global, texts: &[&str]) -> Result<Vec<String>, AllocError> {
     let mut words = Vec::new(alloc);
     for text in texts {
         words.push(String::from_str(alloc, text)?)?;
@@ -79,7 +85,8 @@ fn runs(rt: HostRuntime) -> Result<(), Fail> {
     for (texts, input, status, output) in cases {
         let source = SureSource::new(Vec::from_slice(rt.alloc(), input)?);
         let sink = BytesSink::new(rt.alloc(), Vec::new(rt.alloc()));
-        let ended = bureau(&rt, rt.alloc(), words_of(rt.alloc(), texts)?, source, sink);
+        let words = words_of(rt.alloc(), texts)?;
+        let ended = bureau(&rt, rt.alloc(), words, source, sink, new_disk(rt.alloc()));
         assert!(rt; ended.status == status);
         assert!(rt; ended.sink.bytes() == output);
     }
@@ -107,6 +114,7 @@ fn a_failing_call(rt: HostRuntime) -> Result<(), Fail> {
             words_of(rt.alloc(), &["run"])?,
             source,
             sink,
+            new_disk(rt.alloc()),
         );
         assert!(rt; ended.status == status);
         assert!(rt; ended.sink.bytes() == output);
@@ -261,6 +269,7 @@ fn an_input_in_pieces_of_one_byte(rt: HostRuntime) -> Result<(), Fail> {
         words_of(rt.alloc(), &["run"])?,
         source,
         sink,
+        new_disk(rt.alloc()),
     );
     assert!(rt; ended.status == 0);
     assert!(rt; ended.sink.bytes() == FOUR_ENTRIES);
@@ -302,6 +311,7 @@ fn the_longest_input(rt: HostRuntime) -> Result<(), Fail> {
             words_of(rt.alloc(), &["run"])?,
             Zeros { left },
             sink,
+            new_disk(rt.alloc()),
         );
         assert!(rt; ended.status == status);
         assert!(rt; ended.sink.bytes() == output);
@@ -382,7 +392,7 @@ fn price_end(text: &[u8], from: usize) -> usize {
 }
 
 // Whether a text is another one, in which each ? stands for a price.
-fn is_like(text: &[u8], like: &[u8]) -> bool {
+pub(crate) fn is_like(text: &[u8], like: &[u8]) -> bool {
     let mut place = 0;
     for byte in like {
         if *byte == b'?' {
@@ -418,11 +428,11 @@ fn ended_for(
     rt: &HostRuntime,
     word: &str,
     input: Vec<u8>,
-) -> Result<Ended<SureSource, BytesSink>, AllocError> {
+) -> Result<Ended<SureSource, BytesSink, MemoryDisk>, AllocError> {
     let words = words_of(rt.alloc(), &[word])?;
     let source = SureSource::new(input);
     let sink = BytesSink::new(rt.alloc(), Vec::new(rt.alloc()));
-    Ok(bureau(rt, rt.alloc(), words, source, sink))
+    Ok(bureau(rt, rt.alloc(), words, source, sink, new_disk(rt.alloc())))
 }
 
 // Each output is the expected one but for its prices, and `check` accepts its statement.

@@ -1,116 +1,143 @@
-//! The top calls: words, source and sink, and the run that has no words.
+//! The top call: the words, a source, a sink and a disk.
 ghost use Rattle.std.specs.Prelude.{◌≡◌, ◌≢◌, map, string_bytes};
+ghost use Rattle.bureau_edge.specs.declared.whole.ReadEnd.TheVariants as ends;
 ghost use Rattle.fault_count.specs.Counts.{HasRisen};
 ghost use Rattle.printed_text.specs.Writing.{Wrote};
-ghost use Rattle.bureau_program.specs.Headline.{IsMemoryDue, IsReadDue, Ran};
-ghost use Rattle.bureau_program.specs.Commands.{AreNoWords, IsInputDue};
 ghost use Rattle.bureau_program.specs.Completeness.{Completes};
+ghost use Rattle.bureau_program.specs.Due.{IsCheckDue, IsMemoryDue, IsReadDue, IsRunDue, IsToldUnread, Ran};
 
+use crate::audit::audit_disk;
 use crate::check::check_input;
 use crate::command::{Command, command_of};
 use crate::run::run_input;
 use bureau_edge::{ReadEnd, Sink, Source, read_whole};
+use disk_model::Disk;
 use printed_text::end_with;
 use setoff_model::limits::MOST_INPUT_BYTES;
 use std::alloc::Global;
 
-/// What a run ends with: the status of the process, and the source and the sink as they are then.
+/// What a call ends with: the status of the process, and the source, the sink and the disk as they are then.
 #[derive(Drop)]
-pub struct Ended<S, K> {
+pub struct Ended<S, K, D> {
     pub status: u8,
     pub source: S,
     pub sink: K,
+    pub disk: D,
 }
 
-// What an input comes to for a command.
-fn answer_input<K: Sink>(alloc: Global, command: Command, input: &[u8], sink: &mut K) -> u8
-    ensures wrote { Wrote (IsInputDue command input.now) (K.held sink.old) (K.held sink.new) result }
+// Tells why an input was not read.
+#[tactic(none)]
+fn tell_unread<K: Sink>(end: ReadEnd, sink: &mut K) -> u8
+    ensures written { IsToldUnread end (K.held sink.old) (K.held sink.new) result }
+    ensures read_fault { result ≡ 3 → end ≡ ends.Failed }
     ensures write_fault { result ≡ 4 → HasRisen (K.faults sink.old) (K.faults sink.new) }
-    ensures no_read_fault { result ≢ 3 }
+    ensures no_disk_fault { result ≢ 5 }
 {
-    match command {
-        Command::Run => run_input(alloc, input, sink),
-        Command::Check => check_input(alloc, input, sink),
+    match end {
+        ReadEnd::Memory => end_with(sink, 9, b"fault memory\n"),
+        ReadEnd::Failed => end_with(sink, 3, b"fault read\n"),
+        ReadEnd::TooLong => end_with(sink, 7, b"fault input too long\n"),
     }
 }
 
-// Reads the source whole, and answers what was read.
-fn answer_source<S: Source, K: Sink>(
-    alloc: Global,
-    command: Command,
-    source: &mut S,
-    sink: &mut K,
-) -> u8
-    ensures wrote { Wrote (IsReadDue (IsInputDue command) (S.left source.old) (S.left source.new)) (K.held sink.old) (K.held sink.new) result }
-    ensures read_fault { result ≡ 3 → HasRisen (S.faults source.old) (S.faults source.new) }
-    ensures write_fault { result ≡ 4 → HasRisen (K.faults sink.old) (K.faults sink.new) }
+// Serves the requests of a source on a disk.
+#[tactic(none)]
+fn run<S: Source, K: Sink, D: Disk>(alloc: Global, source: &mut S, sink: &mut K, disk: D) -> (u8, D)
+    ensures wrote { Wrote (IsReadDue (IsRunDue D.seen disk result.1) (result.1 ≡ disk) (S.left source.old) (S.left source.new)) (K.held sink.old) (K.held sink.new) result.0 }
+    ensures read_fault { result.0 ≡ 3 → HasRisen (S.faults source.old) (S.faults source.new) }
+    ensures write_fault { result.0 ≡ 4 → HasRisen (K.faults sink.old) (K.faults sink.new) }
+    ensures disk_fault { result.0 ≡ 5 → HasRisen (D.seen disk).count (D.seen result.1).count }
 {
     match read_whole(alloc, source, MOST_INPUT_BYTES) {
-        Ok(input) => answer_input(alloc, command, input.as_slice(), sink),
-        Err(ReadEnd::Memory) => end_with(sink, 9, b"fault memory\n"),
-        Err(ReadEnd::Failed) => end_with(sink, 3, b"fault read\n"),
-        Err(ReadEnd::TooLong) => end_with(sink, 7, b"fault input too long\n"),
+        Ok(input) => run_input(alloc, input.as_slice(), sink, disk),
+        Err(end) => (tell_unread(end, sink), disk),
+    }
+}
+
+// Judges the statement of a source.
+#[tactic(none)]
+fn check<S: Source, K: Sink>(alloc: Global, source: &mut S, sink: &mut K) -> u8
+    ensures wrote { Wrote (IsReadDue IsCheckDue (Unit {0}) (S.left source.old) (S.left source.new)) (K.held sink.old) (K.held sink.new) result }
+    ensures read_fault { result ≡ 3 → HasRisen (S.faults source.old) (S.faults source.new) }
+    ensures write_fault { result ≡ 4 → HasRisen (K.faults sink.old) (K.faults sink.new) }
+    ensures no_disk_fault { result ≢ 5 }
+{
+    match read_whole(alloc, source, MOST_INPUT_BYTES) {
+        Ok(input) => check_input(alloc, input.as_slice(), sink),
+        Err(end) => tell_unread(end, sink),
     }
 }
 
 // Answers the words.
-fn answer_words<S: Source, K: Sink>(
+#[tactic(none)]
+fn answer_words<S: Source, K: Sink, D: Disk>(
     alloc: Global,
     words: &[String],
     source: &mut S,
     sink: &mut K,
-) -> u8
-    ensures ran { Ran (map (λ w. string_bytes w) words.now) (S.left source.old) (S.left source.new) (K.held sink.old) (K.held sink.new) result }
-    ensures read_fault { result ≡ 3 → HasRisen (S.faults source.old) (S.faults source.new) }
-    ensures write_fault { result ≡ 4 → HasRisen (K.faults sink.old) (K.faults sink.new) }
-    ensures unread { AreNoWords (map (λ w. string_bytes w) words.now) → source.new ≡ source.old }
+    mut disk: D,
+) -> (u8, D)
+    ensures ran { Ran S.left D.seen (map (λ w. string_bytes w) words.now) source.old source.new disk result.1 (K.held sink.old) (K.held sink.new) result.0 }
+    ensures read_fault { result.0 ≡ 3 → HasRisen (S.faults source.old) (S.faults source.new) }
+    ensures write_fault { result.0 ≡ 4 → HasRisen (K.faults sink.old) (K.faults sink.new) }
+    ensures disk_fault { result.0 ≡ 5 → HasRisen (D.seen disk).count (D.seen result.1).count }
 {
     match command_of(words) {
-        Some(command) => answer_source(alloc, command, source, sink),
-        None => end_with(sink, 2, b"fault words\n"),
+        Some(Command::Run) => run(alloc, source, sink, disk),
+        Some(Command::Check) => (check(alloc, source, sink), disk),
+        Some(Command::Audit) => {
+            let status = audit_disk(alloc, sink, &mut disk);
+            (status, disk)
+        }
+        None => (end_with(sink, 2, b"fault words\n"), disk),
     }
 }
 
-/// Runs the words after the program's name over a source and a sink, and ends with a status.
+/// The whole program over the words after its name, a source, a sink and a disk. The bytes of the journal stand on the disk.
 ///
-/// The words are `run` or `check`. Both read the source whole. For `run` its requests are served in order, each with the one
-/// reply of the entries before it, and the sink takes a line for each entry, at once after each publication the statement of its
-/// round, and then a line for each request that was not served for want of memory. For `check` its statement is judged, and the
-/// sink takes the line of the verdict. Where neither counts a fault and the input is in the grammar, all of the text is written,
-/// or memory was missing. The status is
+/// `run` serves the requests of the source on the disk's journal and prints what came of it; `check` judges the statement of
+/// the source; `audit` replays the journal without writing to it. No command calls a source or a disk that it does not need.
+/// Where none of them counts a fault, the input is in the grammar and the journal is sound, all of the text is written, or memory
+/// was missing. The status is
 ///
 /// - 0 where none of the others comes;
-/// - 1 exactly where `check` read a statement and its verdict is not that the set-off is greatest;
-/// - 2 exactly where the words are neither list; the source is then not read;
+/// - 1 where `check` read a statement and its verdict is not that the set-off is greatest, or `audit` found an act that is refused
+///   or full;
+/// - 2 exactly where the words are none of the lists; neither source nor disk is then called;
 /// - 3 only where the source counted a fault;
 /// - 4 only where the sink counted a fault; it has then taken some first bytes of what was due;
-/// - 6 exactly where the input is not in the grammar, with the first bad line;
-/// - 7 exactly where the source had more than 2^26 bytes;
-/// - 9 for want of memory, always where a request was not served and the sink did not fail.
-pub fn bureau<R, S: Source, K: Sink>(
+/// - 5 only where the disk counted a fault;
+/// - 6 exactly where the input is not in the grammar, with the first bad line; the disk is then not called;
+/// - 7 where the source had more than 2^26 bytes, or a line of `run` was full;
+/// - 8 only where the disk has more than nine bytes that stand for no sound records;
+/// - 9 for want of memory, always where a line was not replied to for want of it and the sink did not fail.
+#[tactic(none)]
+pub fn bureau<R, S: Source, K: Sink, D: Disk>(
     _rt: &R,
     alloc: Global,
     words: Vec<String>,
     mut source: S,
     mut sink: K,
-) -> Ended<S, K>
-    ensures ran { Ran (map (λ w. string_bytes w) words.items) (S.left source) (S.left result.source) (K.held sink) (K.held result.sink) result.status }
+    disk: D,
+) -> Ended<S, K, D>
+    ensures ran { Ran S.left D.seen (map (λ w. string_bytes w) words.items) source result.source disk result.disk (K.held sink) (K.held result.sink) result.status }
     ensures read_fault { result.status ≡ 3 → HasRisen (S.faults source) (S.faults result.source) }
     ensures write_fault { result.status ≡ 4 → HasRisen (K.faults sink) (K.faults result.sink) }
-    ensures unread { AreNoWords (map (λ w. string_bytes w) words.items) → result.source ≡ source }
-    ensures complete { Completes (map (λ w. string_bytes w) words.items) (S.left source) (K.held sink) (K.held result.sink) (HasRisen (S.faults source) (S.faults result.source)) (HasRisen (K.faults sink) (K.faults result.sink)) result.status }
+    ensures disk_fault { result.status ≡ 5 → HasRisen (D.seen disk).count (D.seen result.disk).count }
+    ensures complete { Completes D.seen (map (λ w. string_bytes w) words.items) (S.left source) disk result.disk (K.held sink) (K.held result.sink) (HasRisen (S.faults source) (S.faults result.source)) (HasRisen (K.faults sink) (K.faults result.sink)) result.status }
 {
-    let status = answer_words(alloc, words.as_slice(), &mut source, &mut sink);
+    let (status, disk) = answer_words(alloc, words.as_slice(), &mut source, &mut sink, disk);
     Ended {
         status,
         source,
         sink,
+        disk,
     }
 }
 
-/// Ends a run for whose words there was no memory: says so, with status 9, or 4 only where the sink counted a fault. The source is
-/// not read.
-pub fn without_words<S: Source, K: Sink>(source: S, mut sink: K) -> Ended<S, K>
+/// What the program ends with where there was no memory for its words or for the path of its journal: a line and status 9, or
+/// status 4. The source is not called, and no disk is made.
+pub fn without_words<S: Source, K: Sink>(source: S, mut sink: K) -> Ended<S, K, ()>
     ensures wrote { Wrote IsMemoryDue (K.held sink) (K.held result.sink) result.status }
     ensures write_fault { result.status ≡ 4 → HasRisen (K.faults sink) (K.faults result.sink) }
     ensures unread { result.source ≡ source }
@@ -120,5 +147,6 @@ pub fn without_words<S: Source, K: Sink>(source: S, mut sink: K) -> Ended<S, K>
         status,
         source,
         sink,
+        disk: (),
     }
 }

@@ -3,7 +3,7 @@ use Rattle.std.specs.Prelude.{reverse, slice_get, codes, Option, Some, None, ℤ
 use Rattle.std.specs.Option.{option_map}
 use Rattle.std.proofs.Common.{◌≡◌, ℕ, ◌+◌, ◌<◌, ◌≤◌, ◌^◌, Bool, true, List, [], ◌∷◌, ◌++◌, length, get_or, drop, take, All, refl, sym, ◌∙◌, ap, ap₂, subst, append_assoc, add-one, drop-cons, arith}
 use Rattle.std.proofs.lemmas.Option.{slice_get-get_or, slice_get_read, slice_get_within}
-use Rattle.std.proofs.lemmas.List.{append-nil, drop_more, get_or_at, length-append, length-reverse, take-append-drop, take_more}
+use Rattle.std.proofs.lemmas.List.{append-nil, drop_more, get_or_at, length-append, length-drop, length-reverse, get_or-drop, take-append-drop, take_more}
 use Rattle.std.proofs.lemmas.List.Folds.{flat_map-map}
 use Rattle.std.proofs.lemmas.List.Concat.{flat_map-append}
 use Rattle.std.proofs.lemmas.List.Elements.{All-from_get_or, All-take, All-weaker}
@@ -20,13 +20,13 @@ use Rattle.claim_history.specs.declared.entry.Reply.TheVariants as reply
 use Rattle.claim_history.specs.Acts.{is_valid}
 use Rattle.claim_history.specs.States.{OpenRound, state}
 use Rattle.claim_history.specs.History.{IsLegal, AreValid}
-use Rattle.claim_history.specs.Rounds.{cut_published, cuts_of, past_cuts}
+use Rattle.claim_history.specs.Rounds.{cut_published, cuts_after, cuts_of, past_cuts}
 use Rattle.claim_history.proofs.Greatest.{greatest_law}
 use Rattle.claim_history.proofs.Open.{number_from}
 use Rattle.claim_history.proofs.Pasts.{legal_first, reverse_parts}
 use Rattle.claim_history.proofs.Published.{later_cuts, past_cuts_longer, past_cuts_more}
 use Rattle.round_cut.proofs.OpenCut.{open_formed_law}
-use Rattle.request_text.specs.declared.request.Request.{Request}
+use Rattle.served_lines.specs.declared.answer.Answer.{Answer}
 use Rattle.statement_text.specs.declared.line.Line.{Line}
 use Rattle.statement_text.specs.declared.line.Line.TheVariants as line
 use Rattle.statement_text.specs.Lines.{line_text}
@@ -34,15 +34,15 @@ use Rattle.entry_text.specs.Entries.{entry_line}
 use Rattle.statement_text.specs.Statements.{party_lines, claim_line, claim_lines, front_of, statement_bytes}
 use Rattle.bureau_edge.specs.Streams.{AppendsPart}
 use Rattle.printed_text.specs.Writing.{Passes}
-use Rattle.printed_text.specs.Printing.{IsPrintable, IsPrintableAt, entry_text, history_text, line_bytes, lines_bytes, open_cut, past_text, rounds_in, statement_of, unserved_line, unserved_text}
+use Rattle.printed_text.specs.Printing.{IsPrintable, IsPrintableAt, added_text, end_text, ends_text, entry_text, line_bytes, lines_bytes, open_cut, rounds_in, statement_of}
 use Rattle.printed_text.proofs.Passing.{pass_then, part_then, part_more}
 
--- ---- requests that were not served
+-- ---- lines that were not replied to
 
--- the text of the requests from a place on
-pub unserved_from : (requests : List Request) (marks : List Bool) (i : ℕ) (request : Request) (mark : Bool) → i < length requests → i < length marks
-    → unserved_text (drop i requests) (drop i marks) ≡ unserved_line (get_or requests i request) (get_or marks i mark) ++ unserved_text (drop (i + 1) requests) (drop (i + 1) marks)
-unserved_from requests marks i request mark lr lm = rw (add-one, drop-cons requests i request, drop-cons marks i mark) refl
+-- the text of the lines from a place on
+pub ends_from : (answers : List Answer) (i : ℕ) (answer : Answer) → i < length answers
+    → ends_text (drop i answers) ≡ end_text (get_or answers i answer).line (get_or answers i answer).end ++ ends_text (drop (i + 1) answers)
+ends_from answers i answer lt = rw (add-one, drop-cons answers i answer) refl
 
 -- ---- statements
 
@@ -143,26 +143,21 @@ pub past_next : (history : List Entry) (i : ℕ) (e : Entry) → i < length hist
 past_next history i e lt is =
     ap (λ (h : List Entry). reverse h) (take_more history i e lt ∙ ap (λ (x : Entry). take i history ++ x ∷ []) (sym is)) ∙ reverse_parts (take i history) [] e
 
--- ---- the text of a history
+-- ---- the text of added entries
 
--- the text of later entries after a past
-abbrev later_text : List Entry → List Entry → List ℕ
-later_text [] past = []
-later_text (e ∷ later) past = later_text later past ++ entry_text (later ++ past) e
+-- the text of the entries from a place on
+pub added_from : (history : List Entry) (i : ℕ) (e : Entry) → i < length history → e ≡ get_or history i e
+    → added_text (take i history) (drop i history) ≡ entry_text (reverse (take i history)) e ++ added_text (take (i + 1) history) (drop (i + 1) history)
+added_from history i e lt is =
+    ap (λ (l : List Entry). added_text (take i history) l) (drop_more history i e lt ∙ ap (λ (x : Entry). x ∷ drop (i + 1) history) (sym is))
+    ∙ ap (λ (l : List Entry). entry_text (reverse (take i history)) e ++ added_text l (drop (i + 1) history)) (sym (take_more history i e lt ∙ ap (λ (x : Entry). take i history ++ x ∷ []) (sym is)))
 
-past_more : (later past : List Entry) → past_text (later ++ past) ≡ past_text past ++ later_text later past
-past_more [] past = sym (append-nil (past_text past))
-past_more (e ∷ later) past =
-    ap (λ (t : List ℕ). t ++ entry_text (later ++ past) e) (past_more later past) ∙ append_assoc (past_text past) (later_text later past) (entry_text (later ++ past) e)
-
--- where the sink broke off in an entry
-pub history_breaks : (x z : Option (List ℕ)) (a : List ℕ) (history : List Entry) (i : ℕ) (e : Entry) → i < length history → e ≡ get_or history i e
-    → AppendsPart x z (a ++ past_text (e ∷ reverse (take i history))) → AppendsPart x z (a ++ history_text history)
-history_breaks x z a history i e lt is h =
-    let past = e ∷ reverse (take i history) in
-    let later = reverse (drop (i + 1) history) in
-    subst (λ (w : List ℕ). AppendsPart x z (a ++ w)) (sym (ap (λ (p : List Entry). past_text p) (past_at history i e lt is) ∙ past_more later past))
-    (subst (AppendsPart x z) (append_assoc a (past_text past) (later_text later past)) (part_more x z (a ++ past_text past) (later_text later past) h))
+-- an element behind the first ones
+get_behind : {X : Type 0} (xs : List X) (n place : ℕ) (x : X) → slice_get xs (n + place) ≡ Some x → slice_get (drop place xs) n ≡ Some x
+get_behind xs n place x is =
+    let within = slice_get_within xs (n + place) x is in
+    let fits : n < length (drop place xs) = omega (arith, within, length-drop place xs) in
+    slice_get-get_or (drop place xs) n x fits ∙ ap (λ y. Some y) (get_or-drop place xs n x) ∙ ap (λ (k : ℕ). Some (get_or xs k x)) (omega arith) ∙ sym (slice_get-get_or xs (n + place) x within) ∙ is
 
 -- the element between two lists
 get_between : {X : Type 0} (xs ys : List X) (x : X) (n : ℕ) → length xs ≡ n → slice_get (xs ++ x ∷ ys) n ≡ Some x
@@ -192,16 +187,17 @@ next_cut history i e total lt is published round was_open =
     (ap (λ (cuts : List CutView). reverse cuts) parts ∙ reverse_parts (later_cuts later (e ∷ past)) (past_cuts past) round.cut)
     ∙ get_between (reverse (past_cuts past)) (reverse (later_cuts later (e ∷ past))) round.cut (length (past_cuts past)) (length-reverse (past_cuts past))
 
-pub published_at : (history : List Entry) (rounds : List CutView) (i next : ℕ) (e : Entry) (total : ℕ) → IsLegal history → AreValid history → rounds ≡ cuts_of history → next ≡ length (past_cuts (reverse (take i history)))
-    → i < length history → e ≡ get_or history i e → e.reply ≡ reply.Published total → IsNext rounds next (reverse (take i history)) e.act
-published_at history rounds i next e total legal valid rounds_are next_is lt is published =
+pub published_at : (history : List Entry) (from : ℕ) (rounds : List CutView) (i next : ℕ) (e : Entry) (total : ℕ) → IsLegal history → AreValid history → rounds ≡ cuts_after from history
+    → next + length (cuts_of (take from history)) ≡ length (past_cuts (reverse (take i history))) → i < length history → e ≡ get_or history i e → e.reply ≡ reply.Published total → IsNext rounds next (reverse (take i history)) e.act
+published_at history from rounds i next e total legal valid rounds_are next_is lt is published =
     let before = take i history in
     let later = drop (i + 1) history in
     let parts = history_at history i e lt is in
     let p = greatest_law before later e total (subst IsLegal parts legal) published in
     let legal_before = (legal_first before later e (subst IsLegal parts legal)).1 in
     let cut_is : slice_get rounds next ≡ Some p.round.cut =
-    ap₂ (λ (cuts : List CutView) (n : ℕ). slice_get cuts n) rounds_are next_is ∙ next_cut history i e total lt is published p.round p.was_open in
+    ap (λ (cuts : List CutView). slice_get cuts next) rounds_are
+    ∙ get_behind (cuts_of history) next (length (cuts_of (take from history))) p.round.cut (ap (λ (n : ℕ). slice_get (cuts_of history) n) next_is ∙ next_cut history i e total lt is published p.round p.was_open) in
     record {
       round = p.round;
       was_open = p.was_open;

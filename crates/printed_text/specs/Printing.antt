@@ -1,5 +1,5 @@
--- The text of a run: entries, statements of published rounds, and lines for requests that were not served.
-use Rattle.std.specs.Prelude.{Bool, true, false, ℕ, ◌≡◌, ◌≤◌, List, [], ◌∷◌, ◌++◌, flat_map, reverse, slice_get, codes, Option, Some}
+-- The text of a batch: entries, statements of published rounds, and lines for lines that were not replied to.
+use Rattle.std.specs.Prelude.{ℕ, ◌≡◌, ◌≤◌, List, [], ◌∷◌, ◌++◌, flat_map, reverse, slice_get, codes, Option, Some}
 use Rattle.std.specs.Option.{option_map}
 use Rattle.setoff_model.specs.CutView.{CutView, OutcomeView, WellFormed, obligations}
 use Rattle.setoff_model.specs.Setoff.{Proves}
@@ -9,12 +9,14 @@ use Rattle.claim_history.specs.declared.entry.Entry.{Entry}
 use Rattle.claim_history.specs.declared.entry.Reply.{Reply}
 use Rattle.claim_history.specs.declared.entry.Reply.TheVariants as reply
 use Rattle.claim_history.specs.States.{state}
-use Rattle.request_text.specs.declared.request.Request.{Request}
 use Rattle.statement_text.specs.declared.line.Line.{Line}
 use Rattle.statement_text.specs.Lines.{line_text}
 use Rattle.entry_text.specs.Entries.{entry_line}
 use Rattle.statement_text.specs.Statements.{statement_bytes}
-use Rattle.printed_text.specs.Texts.{memory_line}
+use Rattle.served_lines.specs.declared.answer.Answer.{Answer}
+use Rattle.served_lines.specs.declared.line_end.LineEnd.{LineEnd}
+use Rattle.served_lines.specs.declared.line_end.LineEnd.TheVariants as ends
+use Rattle.printed_text.specs.Texts.{memory_line, full_line}
 
 -- ---- entries and statements. A past is a list of entries, newest first
 
@@ -31,14 +33,10 @@ statement_of _ _ _ = []
 abbrev pub entry_text : List Entry → Entry → List ℕ
 entry_text past e = entry_line e ++ statement_of (open_cut past) e.act e.reply
 
--- the entries of a past, in order of time
-abbrev pub past_text : List Entry → List ℕ
-past_text [] = []
-past_text (e ∷ past) = past_text past ++ entry_text past e
-
--- the entries of a history
-abbrev pub history_text : List Entry → List ℕ
-history_text history = past_text (reverse history)
+-- the entries that were added to a history, in order, each with the statement of the round that it publishes
+abbrev pub added_text : List Entry → List Entry → List ℕ
+added_text before [] = []
+added_text before (e ∷ added) = entry_text (reverse before) e ++ added_text (before ++ e ∷ []) added
 
 -- what holds of a cut and an outcome whose statement is written
 pub record IsPrintable (cut : CutView) (outcome : OutcomeView) : Type 0 where
@@ -67,18 +65,18 @@ abbrev pub rounds_in : Reply → ℕ
 rounds_in (reply.Published total) = 1
 rounds_in _ = 0
 
--- ---- requests that were not served
+-- ---- lines that were not replied to
 
--- the line of a request that was not served
-abbrev pub unserved_line : Request → Bool → List ℕ
-unserved_line request true = []
-unserved_line request false = memory_line request.line
+-- what is told of a line after its batch
+abbrev pub end_text : ℕ → LineEnd → List ℕ
+end_text line ends.Replied = []
+end_text line ends.Memory = memory_line line
+end_text line (ends.Full what needed limit) = full_line line what needed limit
 
-abbrev pub unserved_text : List Request → List Bool → List ℕ
-unserved_text [] marks = []
-unserved_text (request ∷ requests) [] = []
-unserved_text (request ∷ requests) (mark ∷ marks) = unserved_line request mark ++ unserved_text requests marks
+abbrev pub ends_text : List Answer → List ℕ
+ends_text [] = []
+ends_text (answer ∷ answers) = end_text answer.line answer.end ++ ends_text answers
 
--- the entries in order, then a line for each request that was not served
-abbrev pub printed_of : List Request → List Bool → List Entry → List ℕ
-printed_of requests marks history = history_text history ++ unserved_text requests marks
+-- the entries that a batch added to a history, then a line for each of its lines that was not replied to
+abbrev pub printed_of : List Entry → List Entry → List Answer → List ℕ
+printed_of before added answers = added_text before added ++ ends_text answers

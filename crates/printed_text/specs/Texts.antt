@@ -2,6 +2,8 @@
 use Rattle.std.specs.Prelude.{ℕ, ◌<◌, List, [], ◌++◌, length, codes, decimal, slice_index_or, unsigned_abs}
 use Rattle.setoff_model.specs.CutView.{CutView}
 use Rattle.setoff_model.specs.Texts.{cents_text}
+use Rattle.limited_book.specs.declared.room.Room.{Room}
+use Rattle.limited_book.specs.declared.room.Room.TheVariants.{Entries, Bytes}
 use Rattle.request_text.specs.declared.error.LineCause.{LineCause}
 use Rattle.request_text.specs.declared.error.LineCause.TheVariants as cause
 use Rattle.statement_text.specs.declared.error.StatementCause.{StatementCause}
@@ -12,6 +14,14 @@ use Rattle.setoff_checker.specs.declared.verdict.Verdict.TheVariants as verdict
 -- one line for a line of the input that was answered for want of memory
 abbrev pub memory_line : ℕ → List ℕ
 memory_line line = codes "! line " ++ decimal line ++ codes " memory\n"
+
+abbrev pub room_text : Room → List ℕ
+room_text Entries = codes "entries"
+room_text Bytes = codes "bytes"
+
+-- one line for a line of the input that was full
+abbrev pub full_line : ℕ → Room → ℕ → ℕ → List ℕ
+full_line line what needed limit = codes "! line " ++ decimal line ++ codes " full " ++ room_text what ++ codes " " ++ decimal needed ++ codes " " ++ decimal limit ++ codes "\n"
 
 -- the fault line of an input whose line is not in the grammar
 abbrev pub fault_line_text : ℕ → List ℕ → List ℕ

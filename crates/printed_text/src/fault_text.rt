@@ -1,12 +1,14 @@
 //! The lines that tell of faults.
-ghost use Rattle.std.specs.Prelude.{◌≡◌, ◌+◌, ◌≤◌, ◌++◌, length, vec_len, vec_capacity};
-ghost use Rattle.printed_text.specs.Texts.{memory_line, fault_line_text, cause_text, bad_line_text, statement_cause_text, bad_statement_text};
+ghost use Rattle.std.specs.Prelude.{◌≡◌, ◌+◌, ◌≤◌, ◌++◌, decimal, length, vec_len, vec_capacity};
+ghost use Rattle.printed_text.specs.Texts.{memory_line, full_line, room_text, fault_line_text, cause_text, bad_line_text, statement_cause_text, bad_statement_text};
 
+use itoa::Buffer;
+use limited_book::Room;
 use request_text::LineCause;
 use setoff_model::{put, write_number};
 use statement_text::StatementCause;
 
-/// Writes the line `! line N memory` of a request that was not served for want of memory.
+/// Writes the line `! line N memory` of a line for which there was no memory.
 pub fn write_memory_line(buffer: &mut Vec<u8>, line: u64)
     requires { vec_len buffer.old + 200 ≤ vec_capacity buffer.old }
     ensures text { buffer.new.items ≡ buffer.old.items ++ memory_line line }
@@ -16,6 +18,45 @@ pub fn write_memory_line(buffer: &mut Vec<u8>, line: u64)
     put(buffer, b"! line ");
     write_number(buffer, i128::from(line));
     put(buffer, b" memory\n");
+}
+
+fn room_name(what: Room) -> &'static [u8]
+    ensures text { result.now ≡ room_text what }
+    ensures short { length result.now ≤ 7 }
+{
+    match what {
+        Room::Entries => b"entries",
+        Room::Bytes => b"bytes",
+    }
+}
+
+/// Writes the line `! line N full WHAT NEEDED LIMIT` of a line whose act was full.
+pub fn write_full_line(buffer: &mut Vec<u8>, line: u64, what: Room, needed: u64, limit: u64)
+    requires { vec_len buffer.old + 200 ≤ vec_capacity buffer.old }
+    ensures text { buffer.new.items ≡ buffer.old.items ++ full_line line what needed limit }
+    ensures len { vec_len buffer.new ≤ vec_len buffer.old + 200 }
+    ensures room { vec_capacity buffer.old ≤ vec_capacity buffer.new }
+{
+    put(buffer, b"! line ");
+    write_whole(buffer, line);
+    put(buffer, b" full ");
+    put(buffer, room_name(what));
+    put(buffer, b" ");
+    write_whole(buffer, needed);
+    put(buffer, b" ");
+    write_whole(buffer, limit);
+    put(buffer, b"\n");
+}
+
+// Writes a number, and asks for no more room than it takes.
+fn write_whole(buffer: &mut Vec<u8>, number: u64)
+    requires { vec_len buffer.old + 20 ≤ vec_capacity buffer.old }
+    ensures text { buffer.new.items ≡ buffer.old.items ++ decimal number }
+    ensures len { vec_len buffer.new ≤ vec_len buffer.old + 20 }
+    ensures room { vec_capacity buffer.old ≤ vec_capacity buffer.new }
+{
+    let mut digits = Buffer::new();
+    put(buffer, digits.format(number).as_bytes());
 }
 
 fn write_cause(buffer: &mut Vec<u8>, cause: LineCause)

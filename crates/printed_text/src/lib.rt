@@ -1,8 +1,9 @@
-//! What the program prints: the text of a run, the line of a verdict, and the lines that tell of faults.
+//! What the program prints: the text of a batch, the line of a verdict, and the lines that tell of faults.
 //!
-//! The text of a run has a line for each entry of a history and, at once after the entry that publishes a round, the
-//! statement of that round. Then comes a line `! line N memory` for each request that was not served. A publication has
-//! the discharges and the prices of its round, and not its cut, so the cuts of the published rounds are handed in.
+//! The text of a batch has a line for each entry that it added to the history and, at once after the entry that publishes a
+//! round, the statement of that round. Then comes a line `! line N memory` or `! line N full ..` for each line that was not
+//! replied to. A publication has the discharges and the prices of its round, and not its cut, so the cuts of the published
+//! rounds are handed in.
 //!
 //! Text goes line by line through a buffer of 65,536 bytes to the sink. Once the buffer is there, printing takes no
 //! memory. What was in the buffer and the text are what the sink took and what is in the buffer now: `Passes` says this
@@ -19,5 +20,5 @@ mod verdict_text;
 
 pub use ending::end_with;
 pub use fault_text::{write_bad_line, write_bad_statement};
-pub use output::{output_buffer, print_run};
+pub use output::{output_buffer, print_batch};
 pub use verdict_text::{status_of_verdict, write_verdict};

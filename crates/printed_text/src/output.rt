@@ -1,5 +1,5 @@
 //! Output in pieces: text goes through a buffer of 65,536 bytes to the sink.
-ghost use Rattle.std.specs.Prelude.{◌≡◌, ℕ, ◌+◌, ◌≤◌, [], ◌++◌, true, All, IfOk, OnOk, OnErr, vec_len, vec_capacity, length, slice_get};
+ghost use Rattle.std.specs.Prelude.{◌≡◌, ℕ, ◌+◌, ◌≤◌, [], ◌++◌, true, All, IfOk, OnOk, OnErr, vec_len, vec_capacity, length, slice_get, take, drop};
 ghost use Rattle.std.specs.Io.KnownBytes.{Appends};
 ghost use Rattle.fault_count.specs.Counts.{IsCounted};
 ghost use Rattle.bureau_edge.specs.Streams.{AppendsPart};
@@ -7,17 +7,17 @@ ghost use Rattle.claim_history.specs.declared.entry.Reply.TheVariants as reply;
 ghost use Rattle.claim_history.specs.Acts.{is_valid};
 ghost use Rattle.claim_history.specs.History.{IsLegal, AreValid};
 ghost use Rattle.claim_history.specs.Laws.{IsReplyInRange};
-ghost use Rattle.claim_history.specs.Rounds.{cuts_of};
+ghost use Rattle.claim_history.specs.Rounds.{cuts_after};
 ghost use Rattle.entry_text.specs.Entries.{entry_line};
-ghost use Rattle.printed_text.specs.Printing.{unserved_line, unserved_text, history_text, statement_of, IsPrintableAt, rounds_in, printed_of};
+ghost use Rattle.printed_text.specs.Printing.{added_text, end_text, ends_text, statement_of, IsPrintableAt, rounds_in, printed_of};
 ghost use Rattle.printed_text.specs.Writing.{Passes};
 
-use crate::fault_text::write_memory_line;
+use crate::fault_text::{write_full_line, write_memory_line};
 use crate::statement::print_statement;
 use bureau_edge::{Failed, Sink, write_all};
 use claim_history::{Act, Entry, Reply};
 use entry_text::write_entry;
-use request_text::Request;
+use served_lines::{Answer, LineEnd};
 use setoff_model::Cut;
 use std::alloc::{AllocError, Global};
 
@@ -128,94 +128,105 @@ fn print_answer<K: Sink>(
     print_publication(sink, buffer, entry, rounds, next)
 }
 
-// Prints the entries of a history, of which `rounds` are the cuts of the published rounds.
+// Prints the entries of a history from a place on. The rounds are the cuts of those that were published from there on.
 fn print_entries<K: Sink>(
     sink: &mut K,
     buffer: &mut Vec<u8>,
     history: &[Entry],
+    from: usize,
     rounds: &[Cut],
 ) -> Result<(), Failed>
     requires legal { IsLegal history.now }
     requires valid { AreValid history.now }
     requires range { All (λ e. IsReplyInRange e.reply) history.now }
-    requires rounds { rounds.now ≡ cuts_of history.now }
+    requires from { from ≤ length history.now }
+    requires rounds { rounds.now ≡ cuts_after from history.now }
     requires spare { 65536 ≤ vec_capacity buffer.old }
-    ensures ok { OnOk result (Passes (K.held sink.old) (K.held sink.new) buffer.old.items buffer.new.items (history_text history.now)) }
-    ensures part { OnErr result (AppendsPart (K.held sink.old) (K.held sink.new) (buffer.old.items ++ history_text history.now)) }
+    ensures ok { OnOk result (Passes (K.held sink.old) (K.held sink.new) buffer.old.items buffer.new.items (added_text (take from history.now) (drop from history.now))) }
+    ensures part { OnErr result (AppendsPart (K.held sink.old) (K.held sink.new) (buffer.old.items ++ added_text (take from history.now) (drop from history.now))) }
     ensures cause { IsCounted (K.faults sink.old) (K.faults sink.new) result }
     ensures room { 65536 ≤ vec_capacity buffer.new }
 {
     let mut next = 0;
-    for entry in history {
-        next = print_answer(sink, buffer, entry, rounds, next)?;
+    for i in from..history.len() {
+        next = print_answer(sink, buffer, &history[i], rounds, next)?;
     }
     Ok(())
 }
 
-// Prints the line of a request that was not served, and nothing for one that was.
-fn print_unserved<K: Sink>(
-    sink: &mut K,
-    buffer: &mut Vec<u8>,
-    request: &Request,
-    mark: bool,
-) -> Result<(), Failed>
+// Prints what is told of a line after its batch.
+fn print_end<K: Sink>(sink: &mut K, buffer: &mut Vec<u8>, answer: &Answer) -> Result<(), Failed>
     requires { 65536 ≤ vec_capacity buffer.old }
-    ensures ok { OnOk result (Passes (K.held sink.old) (K.held sink.new) buffer.old.items buffer.new.items (unserved_line request.now mark)) }
-    ensures part { OnErr result (AppendsPart (K.held sink.old) (K.held sink.new) (buffer.old.items ++ unserved_line request.now mark)) }
+    ensures ok { OnOk result (Passes (K.held sink.old) (K.held sink.new) buffer.old.items buffer.new.items (end_text answer.now.line answer.now.end)) }
+    ensures part { OnErr result (AppendsPart (K.held sink.old) (K.held sink.new) (buffer.old.items ++ end_text answer.now.line answer.now.end)) }
     ensures cause { IsCounted (K.faults sink.old) (K.faults sink.new) result }
     ensures room { 65536 ≤ vec_capacity buffer.new }
 {
-    if mark {
+    if let LineEnd::Replied = answer.end {
         return Ok(());
     }
     make_room(sink, buffer)?;
-    write_memory_line(buffer, request.line);
+    write_end(buffer, answer.line, answer.end);
     Ok(())
 }
 
-// Prints the lines of the requests that were not served.
-fn print_all_unserved<K: Sink>(
-    sink: &mut K,
-    buffer: &mut Vec<u8>,
-    requests: &[Request],
-    marks: &[bool],
-) -> Result<(), Failed>
-    requires marked { length requests.now ≡ length marks.now }
-    requires spare { 65536 ≤ vec_capacity buffer.old }
-    ensures ok { OnOk result (Passes (K.held sink.old) (K.held sink.new) buffer.old.items buffer.new.items (unserved_text requests.now marks.now)) }
-    ensures part { OnErr result (AppendsPart (K.held sink.old) (K.held sink.new) (buffer.old.items ++ unserved_text requests.now marks.now)) }
-    ensures cause { IsCounted (K.faults sink.old) (K.faults sink.new) result }
+fn write_end(buffer: &mut Vec<u8>, line: u64, end: LineEnd)
+    requires { vec_len buffer.old + 200 ≤ vec_capacity buffer.old }
+    ensures text { buffer.new.items ≡ buffer.old.items ++ end_text line end }
+    ensures room { vec_capacity buffer.old ≤ vec_capacity buffer.new }
 {
-    for i in 0..requests.len() {
-        print_unserved(sink, buffer, &requests[i], marks[i])?;
+    match end {
+        LineEnd::Replied => {}
+        LineEnd::Memory => write_memory_line(buffer, line),
+        LineEnd::Full {
+            what,
+            needed,
+            limit,
+        } => write_full_line(buffer, line, what, needed, limit),
+    }
+}
+
+// Prints what is told of the lines of a batch.
+fn print_ends<K: Sink>(sink: &mut K, buffer: &mut Vec<u8>, answers: &[Answer]) -> Result<(), Failed>
+    requires spare { 65536 ≤ vec_capacity buffer.old }
+    ensures ok { OnOk result (Passes (K.held sink.old) (K.held sink.new) buffer.old.items buffer.new.items (ends_text answers.now)) }
+    ensures part { OnErr result (AppendsPart (K.held sink.old) (K.held sink.new) (buffer.old.items ++ ends_text answers.now)) }
+    ensures cause { IsCounted (K.faults sink.old) (K.faults sink.new) result }
+    ensures room { 65536 ≤ vec_capacity buffer.new }
+{
+    for answer in answers {
+        print_end(sink, buffer, answer)?;
     }
     Ok(())
 }
 
-/// Prints the entries of a history, each published one with the statement of its round, and then a line for each request
-/// that was not served. The rounds are the cuts of the published ones, in order.
+/// Prints the entries that were added to a history, which are those from a place on, each published one with the statement of its
+/// round; and then a line for each line of the batch that was not replied to. The rounds are the cuts of the published ones, in
+/// order.
 ///
 /// The buffer is empty at first, and has room for 65,536 bytes. After a failure the sink has some first bytes of the text.
-pub fn print_run<K: Sink>(
+pub fn print_batch<K: Sink>(
     sink: &mut K,
     buffer: &mut Vec<u8>,
     history: &[Entry],
+    from: usize,
     rounds: &[Cut],
-    requests: &[Request],
-    marks: &[bool],
+    answers: &[Answer],
 ) -> Result<(), Failed>
     requires legal { IsLegal history.now }
     requires valid { AreValid history.now }
     requires range { All (λ e. IsReplyInRange e.reply) history.now }
-    requires rounds { rounds.now ≡ cuts_of history.now }
-    requires marked { length requests.now ≡ length marks.now }
+    requires from { from ≤ length history.now }
+    requires rounds { rounds.now ≡ cuts_after from history.now }
     requires empty { buffer.old.items ≡ [] }
     requires spare { 65536 ≤ vec_capacity buffer.old }
-    ensures ok { OnOk result (Appends (K.held sink.old) (K.held sink.new) (printed_of requests.now marks.now history.now)) }
-    ensures part { OnErr result (AppendsPart (K.held sink.old) (K.held sink.new) (printed_of requests.now marks.now history.now)) }
+    ensures ok { OnOk result (Appends (K.held sink.old) (K.held sink.new) (printed_of (take from history.now) (drop from history.now) answers.now)) }
+    ensures emptied { OnOk result (buffer.new.items ≡ []) }
+    ensures part { OnErr result (AppendsPart (K.held sink.old) (K.held sink.new) (printed_of (take from history.now) (drop from history.now) answers.now)) }
     ensures cause { IsCounted (K.faults sink.old) (K.faults sink.new) result }
+    ensures room { 65536 ≤ vec_capacity buffer.new }
 {
-    print_entries(sink, buffer, history, rounds)?;
-    print_all_unserved(sink, buffer, requests, marks)?;
+    print_entries(sink, buffer, history, from, rounds)?;
+    print_ends(sink, buffer, answers)?;
     flush(sink, buffer)
 }

@@ -1,6 +1,6 @@
 use Rattle.std.specs.Prelude.{codes}
-use Rattle.bureau_program.specs.Headline.{IsCheckDue, no_statement_memory}
-use Rattle.bureau_program.proofs.Dues.{wrote_line}
+use Rattle.bureau_program.specs.Due.{IsCheckDue, no_statement_memory}
+use Rattle.bureau_program.proofs.Written.{wrote_line}
 use Rattle.bureau_program.proofs.check.check_input.Goals as goal
 
 pub returns-in-Err-Memory-clause-wrote : goal.returns-in-Err-Memory-clause-wrote

@@ -2,8 +2,8 @@ use Rattle.std.proofs.Common.{◌≡◌, ℕ, List, ◌++◌, ap, ◌∙◌, sub
 use Rattle.std.specs.Prelude.{codes}
 use Rattle.printed_text.specs.Texts.{verdict_text, verdict_status}
 use Rattle.printed_text.specs.Writing.{IsWritten}
-use Rattle.bureau_program.specs.Headline.{IsCheckDue, no_statement_memory, judged}
-use Rattle.bureau_program.proofs.Dues.{wrote_line, wrote_text}
+use Rattle.bureau_program.specs.Due.{IsCheckDue, no_statement_memory, judged}
+use Rattle.bureau_program.proofs.Written.{wrote_line, wrote_text}
 use Rattle.bureau_program.proofs.check.check_statement.Goals as goal
 
 pub returns-in_default-clause-wrote : goal.returns-in_default-clause-wrote

@@ -1,8 +1,8 @@
 use Rattle.std.proofs.Common.{◌≡◌, ℕ, List, ◌++◌, ap, ◌∙◌}
 use Rattle.std.specs.Prelude.{codes}
 use Rattle.printed_text.specs.Texts.{bad_statement_text}
-use Rattle.bureau_program.specs.Headline.{IsCheckDue, no_statement_memory, bad_statement}
-use Rattle.bureau_program.proofs.Dues.{wrote_line, wrote_text}
+use Rattle.bureau_program.specs.Due.{IsCheckDue, no_statement_memory, bad_statement}
+use Rattle.bureau_program.proofs.Written.{wrote_line, wrote_text}
 use Rattle.bureau_program.proofs.check.tell_bad_statement.Goals as goal
 
 pub returns-in_default-clause-wrote : goal.returns-in_default-clause-wrote

@@ -1,14 +1,14 @@
 use Rattle.std.proofs.Common.{◌≡◌, ℕ, List, ◌++◌, ap, ◌∙◌}
 use Rattle.std.specs.Prelude.{codes}
 use Rattle.printed_text.specs.Texts.{bad_line_text}
-use Rattle.bureau_program.specs.Headline.{IsRunDue, no_request_memory, bad_line}
-use Rattle.bureau_program.proofs.Dues.{wrote_line, wrote_text}
+use Rattle.bureau_program.specs.Due.{IsBadLineDue, no_line_memory, bad_line}
+use Rattle.bureau_program.proofs.Written.{wrote_line, wrote_text}
 use Rattle.bureau_program.proofs.run.tell_bad_line.Goals as goal
 
 pub returns-in_default-clause-wrote : goal.returns-in_default-clause-wrote
-returns-in_default-clause-wrote g c = wrote_line (IsRunDue c.args.input.now) _ _ 9 (codes "fault memory\n") _ no_request_memory c.end_with.ensures.written
+returns-in_default-clause-wrote g c = wrote_line (IsBadLineDue c.args.input.now) _ _ 9 (codes "fault memory\n") _ no_line_memory c.end_with.ensures.written
 
 pub returns-clause-wrote : goal.returns-clause-wrote
 returns-clause-wrote g c =
     let said : c.as_slice.result.now ≡ bad_line_text c.args.line c.args.cause = c.as_slice.ensures.value ∙ c.write_bad_line.ensures.text ∙ ap (λ (t : List ℕ). t ++ bad_line_text c.args.line c.args.cause) c.in-Ok.ensures.items in
-    wrote_text (IsRunDue c.args.input.now) _ _ 6 (bad_line_text c.args.line c.args.cause) c.as_slice.result.now _ (bad_line c.args.line c.args.cause c.requires.first c.requires.none) said c.end_with-2.ensures.written
+    wrote_text (IsBadLineDue c.args.input.now) _ _ 6 (bad_line_text c.args.line c.args.cause) c.as_slice.result.now _ (bad_line c.args.line c.args.cause c.requires.first c.requires.none) said c.end_with-2.ensures.written

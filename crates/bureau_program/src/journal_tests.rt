@@ -1,0 +1,271 @@
+use crate::tests::{is_like, words_of};
+use crate::top::{Ended, bureau};
+use bureau_edge::{BytesSink, SureSource};
+use disk_model::MemoryDisk;
+use std::alloc::{AllocError, Global};
+use std::test::Fail;
+
+// The header, and the record of the act `1 FIRM A`.
+const ONE_RECORD: &[u8] = b"BUREAUJ1\x01\x00\x00\x00\x07\x00\x00\x00\x01\x01\x01A\x00";
+
+// The same with the act `1 CONFIRM A I A`, which is refused.
+const REFUSED_RECORD: &[u8] =
+    b"BUREAUJ1\x01\x00\x00\x00\x0b\x00\x00\x00\x01\x03\x01A\x01I\x01A\x00";
+
+// Three claims in a circle, and a Close: eleven acts, 262 bytes of a journal and 48 calls of a disk.
+const TRIANGLE: &[u8] =
+    b"1 FIRM A\n1 FIRM B\n1 FIRM C\n1 FILE B I-1 A 10.00 2025-01-31\n1 FILE C I-2 B 7.00 2025-01-31\n1 FILE A I-3 C 12.00 2025-01-31\n1 CONFIRM B I-1 A\n1 CONFIRM C I-2 B\n1 CONFIRM A I-3 C\n1 CLOSE PLAIN 2025-12-31\n";
+
+const TRIANGLE_TWICE: &[u8] =
+    b"1 FIRM A\n1 FIRM B\n1 FIRM C\n1 FILE B I-1 A 10.00 2025-01-31\n1 FILE C I-2 B 7.00 2025-01-31\n1 FILE A I-3 C 12.00 2025-01-31\n1 CONFIRM B I-1 A\n1 CONFIRM C I-2 B\n1 CONFIRM A I-3 C\n1 CLOSE PLAIN 2025-12-31\n1 CLOSE PLAIN 2025-12-31\n";
+
+const TRIANGLE_DONE: &[u8] =
+    b"1 FIRM A = ok\n1 FIRM B = ok\n1 FIRM C = ok\n1 FILE B I-1 A 10.00 2025-01-31 = ok\n1 FILE C I-2 B 7.00 2025-01-31 = ok\n1 FILE A I-3 C 12.00 2025-01-31 = ok\n1 CONFIRM B I-1 A = ok\n1 CONFIRM C I-2 B = ok\n1 CONFIRM A I-3 C = ok\n1 CLOSE PLAIN 2025-12-31 = opened 1\n1 PUBLISH 1 = published 21.00\nROUND 1 PLAIN\nPARTY A 0.00 0.00 ?\nPARTY B 0.00 0.00 ?\nPARTY C 0.00 0.00 ?\nCLAIM B I-1 A 10.00 7.00\nCLAIM C I-2 B 7.00 7.00\nCLAIM A I-3 C 12.00 7.00\nEND\n";
+
+const PUBLISHED_LATER: &[u8] =
+    b"1 FIRM A = ok\n1 FIRM B = ok\n1 FIRM C = ok\n1 FILE B I-1 A 10.00 2025-01-31 = ok\n1 FILE C I-2 B 7.00 2025-01-31 = ok\n1 FILE A I-3 C 12.00 2025-01-31 = ok\n1 CONFIRM B I-1 A = ok\n1 CONFIRM C I-2 B = ok\n1 CONFIRM A I-3 C = ok\n1 CLOSE PLAIN 2025-12-31 = opened 1\n1 PUBLISH 1 = refused 18 device 0 1\n1 CLOSE PLAIN 2025-12-31 = continued 1\n1 PUBLISH 1 = published 21.00\nROUND 1 PLAIN\nPARTY A 0.00 0.00 ?\nPARTY B 0.00 0.00 ?\nPARTY C 0.00 0.00 ?\nCLAIM B I-1 A 10.00 7.00\nCLAIM C I-2 B 7.00 7.00\nCLAIM A I-3 C 12.00 7.00\nEND\n";
+
+const NOT_PUBLISHED: &[u8] =
+    b"1 FIRM A = ok\n1 FIRM B = ok\n1 FIRM C = ok\n1 FILE B I-1 A 10.00 2025-01-31 = ok\n1 FILE C I-2 B 7.00 2025-01-31 = ok\n1 FILE A I-3 C 12.00 2025-01-31 = ok\n1 CONFIRM B I-1 A = ok\n1 CONFIRM C I-2 B = ok\n1 CONFIRM A I-3 C = ok\n1 CLOSE PLAIN 2025-12-31 = opened 1\n1 PUBLISH 1 = refused 18 device 0 1\n";
+
+// What the program ends with for a word and an input, on a disk with these bytes, of whose calls one fails.
+fn ended_on(
+    rt: &HostRuntime,
+    word: &str,
+    input: &[u8],
+    bytes: &[u8],
+    fails: u64,
+) -> Result<Ended<SureSource, BytesSink, MemoryDisk>, AllocError> {
+    let alloc = rt.alloc();
+    let source = SureSource::new(Vec::from_slice(alloc, input)?);
+    let sink = BytesSink::new(alloc, Vec::new(alloc));
+    let disk = MemoryDisk::new(
+        alloc,
+        Vec::from_slice(alloc, bytes)?,
+        Vec::from_slice(alloc, &[fails])?,
+    );
+    Ok(bureau(rt, alloc, words_of(alloc, &[word])?, source, sink, disk))
+}
+
+// A word, an input, the bytes of a disk and the call that fails; the status, the output with ? for each price, the bytes of the
+// journal then, and how many calls the disk had.
+type Case = (
+    &'static str,
+    &'static [u8],
+    &'static [u8],
+    u64,
+    u8,
+    &'static [u8],
+    usize,
+    u64,
+);
+
+#[test]
+fn journals(rt: HostRuntime) -> Result<(), Fail> {
+    let cases: [Case; 18] = [
+        ("run", b"", b"", 0, 0, b"", 9, 4),
+        ("run", TRIANGLE, b"", 0, 0, TRIANGLE_DONE, 262, 48),
+        ("run", TRIANGLE_TWICE, b"", 48, 5, PUBLISHED_LATER, 277, 58),
+        ("run", TRIANGLE, b"", 45, 5, NOT_PUBLISHED, 204, 45),
+        (
+            "run",
+            b"1 FILE B I-1 A 0.00 2025-01-31\n",
+            b"",
+            0,
+            6,
+            b"fault line 1 field 4\n",
+            0,
+            0,
+        ),
+        (
+            "run",
+            b"1 FILE B I-1 A 01.00 2025-01-31\n",
+            b"",
+            0,
+            6,
+            b"fault line 1 field 4\n",
+            0,
+            0,
+        ),
+        (
+            "run",
+            b"1 FIRM A\n",
+            ONE_RECORD,
+            0,
+            0,
+            b"1 FIRM A = refused 1 firm-exists\n",
+            21,
+            3,
+        ),
+        (
+            "run",
+            b"",
+            &ONE_RECORD[..18],
+            0,
+            8,
+            b"fault journal 8 short\n",
+            18,
+            3,
+        ),
+        (
+            "run",
+            b"",
+            b"BUREAUJ1\x00\x00\x00\x00\x07\x00\x00\x00\x01\x01",
+            0,
+            0,
+            b"",
+            18,
+            3,
+        ),
+        (
+            "run",
+            b"",
+            b"0123456789",
+            0,
+            8,
+            b"fault journal 0 header\n",
+            10,
+            3,
+        ),
+        (
+            "run",
+            b"",
+            REFUSED_RECORD,
+            0,
+            8,
+            b"fault journal 8 refused 7 unknown-claim\n",
+            25,
+            3,
+        ),
+        ("run", b"", b"", 1, 5, b"fault device 0 1\n", 0, 1),
+        (
+            "audit",
+            b"1 FIRM A\n",
+            ONE_RECORD,
+            0,
+            0,
+            b"yes acts 1 rounds 0\n",
+            21,
+            2,
+        ),
+        ("audit", b"", b"", 0, 0, b"yes acts 0 rounds 0\n", 0, 1),
+        (
+            "audit",
+            b"",
+            REFUSED_RECORD,
+            0,
+            1,
+            b"no 8 refused 7 unknown-claim\n",
+            25,
+            2,
+        ),
+        (
+            "audit",
+            b"",
+            b"0123456789",
+            0,
+            8,
+            b"fault journal 0 header\n",
+            10,
+            2,
+        ),
+        ("audit", b"", ONE_RECORD, 1, 5, b"fault device 0 1\n", 21, 1),
+        (
+            "check",
+            b"",
+            ONE_RECORD,
+            0,
+            6,
+            b"fault line 1 round\n",
+            21,
+            0,
+        ),
+    ];
+    for (word, input, bytes, fails, status, output, length, calls) in cases {
+        let ended = ended_on(&rt, word, input, bytes, fails)?;
+        assert!(rt; ended.status == status);
+        assert!(rt; is_like(ended.sink.bytes(), output));
+        assert!(rt; ended.disk.bytes().len() == length);
+        assert!(rt; ended.disk.moment() % 2 == 0);
+        assert!(rt; ended.disk.moment() / 2 == calls);
+    }
+    Ok(())
+}
+
+// A second run goes on where the first ended, and ends the round that a failed publication left open.
+#[test]
+fn days_on_one_journal(rt: HostRuntime) -> Result<(), Fail> {
+    let cases: [(&[u8], u64, &[u8], &[u8], usize, &[u8]); 4] = [
+        (b"", 0, b"", b"", 9, b"yes acts 0 rounds 0\n"),
+        (
+            TRIANGLE,
+            45,
+            b"",
+            b"0 ABANDON = abandoned 1\n",
+            214,
+            b"yes acts 11 rounds 0\n",
+        ),
+        (
+            TRIANGLE,
+            0,
+            b"1 POSITION A\n1 FIRM A\n",
+            b"1 POSITION A = balance 0.00 receivable 5.00 payable 3.00\n1 FIRM A = refused 1 firm-exists\n",
+            274,
+            b"yes acts 12 rounds 1\n",
+        ),
+        (
+            TRIANGLE,
+            0,
+            b"1 FILE B I-4 A 6.00 2026-01-31\n1 CONFIRM B I-4 A\n1 CLOSE PLAIN 2026-12-31\n",
+            b"1 FILE B I-4 A 6.00 2026-01-31 = ok\n1 CONFIRM B I-4 A = ok\n1 CLOSE PLAIN 2026-12-31 = opened 2\n1 PUBLISH 2 = published 0.00\nROUND 2 PLAIN\nPARTY A 0.00 0.00 ?\nPARTY B 0.00 0.00 ?\nPARTY C 0.00 0.00 ?\nCLAIM B I-1 A 3.00 0.00\nCLAIM A I-3 C 5.00 0.00\nCLAIM B I-4 A 6.00 0.00\nEND\n",
+            383,
+            b"yes acts 15 rounds 2\n",
+        ),
+    ];
+    for (first, fails, second, output, length, verdict) in cases {
+        let day = ended_on(&rt, "run", first, b"", fails)?;
+        let day = ended_on(&rt, "run", second, day.disk.bytes(), 0)?;
+        assert!(rt; day.status == 0);
+        assert!(rt; is_like(day.sink.bytes(), output));
+        assert!(rt; day.disk.bytes().starts_with(b"BUREAUJ1"));
+        assert!(rt; day.disk.bytes().len() == length);
+        let audit = ended_on(&rt, "audit", b"", day.disk.bytes(), 0)?;
+        assert!(rt; audit.status == 0);
+        assert!(rt; audit.sink.bytes() == verdict);
+    }
+    Ok(())
+}
+
+// Where the last gate of the triangle's journal stands after each number of its acts.
+const GATES: [usize; 12] = [8, 20, 32, 44, 74, 104, 134, 152, 170, 188, 203, 261];
+
+// Which of the numbers of acts an audit tells; None where it tells something else.
+fn acts_told(rt: &HostRuntime, image: &[u8]) -> Result<Option<usize>, AllocError> {
+    let audit = ended_on(rt, "audit", b"", image, 0)?;
+    for acts in 0..GATES.len() {
+        let rounds = if acts == 11 { 1 } else { 0 };
+        let line = format!(in rt.alloc(); "yes acts {acts} rounds {rounds}\n")?;
+        if audit.sink.bytes() == line.as_bytes() {
+            return Ok(Some(acts));
+        }
+    }
+    Ok(None)
+}
+
+// A crash at any moment leaves some first acts of the triangle, with all that were answered by then: the opening has four
+// calls and each act four.
+#[test]
+fn every_crash_of_the_triangle(rt: HostRuntime) -> Result<(), Fail> {
+    let ended = ended_on(&rt, "run", TRIANGLE, b"", 0)?;
+    for moment in 0..=ended.disk.moment() {
+        for pick in 0..8 {
+            let image = ended.disk.image(rt.alloc(), moment, pick)?;
+            let acts = acts_told(&rt, &image)?.expect(&rt, "some first acts");
+            let gate = *GATES.get(acts).expect(&rt, "a gate");
+            assert!(rt; acts as u64 >= (moment / 8).saturating_sub(1));
+            let kept = ended.disk.bytes().get(..gate).expect(&rt, "the records");
+            assert!(rt; acts == 0 || image.starts_with(kept));
+        }
+    }
+    Ok(())
+}

@@ -1,0 +1,21 @@
+use Rattle.std.proofs.Common.{◌++◌, drop, take}
+use Rattle.printed_text.specs.Printing.{added_text, ends_text}
+use Rattle.setoff_model.proofs.Lists.{on_err}
+use Rattle.printed_text.proofs.Passing.{on_err_if, part_of_text, part_left, part_more, part_then, pass_then}
+use Rattle.printed_text.proofs.output.print_batch.Goals as goal
+
+pub returns-in_err-print_entries-clause-part : goal.returns-in_err-print_entries-clause-part
+returns-in_err-print_entries-clause-part g c =
+    on_err _ _ (part_more _ _ (added_text (take c.args.from c.args.history.now) (drop c.args.from c.args.history.now)) (ends_text c.args.answers.now)
+    (part_of_text _ _ c.args.buffer.now.items (added_text (take c.args.from c.args.history.now) (drop c.args.from c.args.history.now)) c.requires.empty c.in_err-print_entries.ensures.part))
+
+pub returns-in_err-print_ends-clause-part : goal.returns-in_err-print_ends-clause-part
+returns-in_err-print_ends-clause-part g c =
+    on_err _ _ (part_of_text _ _ c.args.buffer.now.items (added_text (take c.args.from c.args.history.now) (drop c.args.from c.args.history.now) ++ ends_text c.args.answers.now) c.requires.empty
+    (part_then _ _ _ c.args.buffer.now.items c.print_entries.new.buffer.items (added_text (take c.args.from c.args.history.now) (drop c.args.from c.args.history.now)) (ends_text c.args.answers.now) c.in_ok-print_entries.ensures.ok c.in_err-print_ends.ensures.part))
+
+pub returns-clause-part : goal.returns-clause-part
+returns-clause-part g c =
+    on_err_if c.flush.result _ _ (λ h. part_of_text _ _ c.args.buffer.now.items (added_text (take c.args.from c.args.history.now) (drop c.args.from c.args.history.now) ++ ends_text c.args.answers.now) c.requires.empty
+    (part_left _ _ _ c.args.buffer.now.items c.print_ends.new.buffer.items (added_text (take c.args.from c.args.history.now) (drop c.args.from c.args.history.now) ++ ends_text c.args.answers.now)
+    (pass_then _ _ _ c.args.buffer.now.items c.print_entries.new.buffer.items c.print_ends.new.buffer.items (added_text (take c.args.from c.args.history.now) (drop c.args.from c.args.history.now)) (ends_text c.args.answers.now) c.in_ok-print_entries.ensures.ok c.in_ok-print_ends.ensures.ok) h)) c.flush.ensures.part
