@@ -7,3 +7,4 @@ pub mod Lookups
 pub mod Found
 pub mod Kept
 pub mod Openings
+pub mod Threads

@@ -4,3 +4,4 @@ pub mod Flowing
 pub mod Keyed
 pub mod Settle
 pub mod Summed
+pub mod Threads

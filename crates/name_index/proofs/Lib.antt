@@ -2,3 +2,4 @@ pub mod Same
 pub mod Rows
 pub mod Places
 pub mod Pushed
+pub mod Threads
