@@ -21,3 +21,13 @@ lock_is_shared T E g s =
 
 pub seat_is_sent : (T E : RattleType) → IsSend T → IsSend (seat.the_row T E)
 seat_is_sent T E s = search (place.the_send, sendable) depth 20
+
+-- the same of a lock and a seat that are fields
+
+pub lock_field_is_shared : (T E : RattleType) (g : Ghosts T.Denot E.Denot) → IsSend T → IsSync (turn.the_field T E g).row
+lock_field_is_shared T E g s =
+    let leases = lease_at std.send std.frees in
+    search (shared.the_sync, leases, std.sync, sendable) depth 20
+
+pub seat_field_is_sent : (T E : RattleType) → IsSend T → IsSend (seat.the_field T E).row
+seat_field_is_sent T E s = search (place.the_send, sendable) depth 20
