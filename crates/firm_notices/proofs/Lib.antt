@@ -1,2 +1,5 @@
-pub mod Rows
+pub mod Growing
 pub mod Listed
+pub mod Reading
+pub mod Importing
+pub mod OneReading

@@ -1,3 +1,5 @@
 pub mod Tables
 pub mod Notices
 pub mod Positions
+pub mod Rows
+pub mod Invoices

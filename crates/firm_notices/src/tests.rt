@@ -1,8 +1,8 @@
-use crate::{notices, positions};
+use crate::{ImportError, RowCause, import, notices, positions};
 use claim_book::Book;
 use claim_history::{Act, Day, Entry, Reply};
 use request_text::read_requests;
-use std::alloc::Global;
+use std::alloc::{AllocError, Global};
 
 // Asks the book for an act that opens no round, and puts its entry at the end. None where the memory is missing, or the act is none
 // that may be asked so.
@@ -39,81 +39,151 @@ fn book_of(alloc: Global, requests: &[u8]) -> Option<Book> {
     Some(book)
 }
 
-fn notices_are(alloc: Global, book: &Book, today: &[u8], expected: &[u8]) -> bool {
-    let Some(today) = Day::read(today) else {
+fn is_text(text: Result<Vec<u8>, AllocError>, expected: &[u8]) -> bool {
+    match text {
+        Ok(text) => text.as_slice() == expected,
+        Err(_) => false,
+    }
+}
+
+// Whether a book in which this was asked has these notices on the day, and these positions.
+fn are_told(
+    alloc: Global,
+    requests: &[u8],
+    today: &[u8],
+    noticed: &[u8],
+    positioned: &[u8],
+) -> bool {
+    let (Some(book), Some(today)) = (book_of(alloc, requests), Day::read(today)) else {
         return false;
     };
-    match notices(alloc, book, today) {
-        Ok(text) => text.as_slice() == expected,
-        Err(_) => false,
-    }
+    is_text(notices(alloc, &book, today), noticed) && is_text(positions(alloc, &book), positioned)
 }
 
-fn positions_are(alloc: Global, book: &Book, expected: &[u8]) -> bool {
-    match positions(alloc, book) {
-        Ok(text) => text.as_slice() == expected,
-        Err(_) => false,
-    }
+#[test]
+fn nothing_is_told_of_nobody(rt: HostRuntime) {
+    let noticed = b"debtor,creditor,invoice,status,amount,open,due,overdue\n";
+    let positioned = b"firm,balance,credit,ceiling,offer,receivable,payable\n";
+    assert!(rt; are_told(rt.alloc(), b"", b"2026-01-10", noticed, positioned));
 }
-
-// What is asked, the day, and the notices and the positions that come of it.
-#[derive(Clone, Copy)]
-struct Case {
-    requests: &'static [u8],
-    today: &'static [u8],
-    notices: &'static [u8],
-    positions: &'static [u8],
-}
-
-const NOTHING: Case = Case {
-    requests: b"",
-    today: b"2026-01-10",
-    notices: b"debtor,creditor,invoice,status,amount,open,due,overdue\n",
-    positions: b"firm,balance,credit,ceiling,offer,receivable,payable\n",
-};
 
 // Three firms, of which each owes the next, after 7.00 of each claim.
-const TRIANGLE: Case = Case {
-    requests: b"1 FIRM A\n1 FIRM B\n1 FIRM C\n\
+#[test]
+fn triangle_is_told(rt: HostRuntime) {
+    let requests = b"1 FIRM A\n1 FIRM B\n1 FIRM C\n\
         1 FILE B I-1 A 10.00 2025-01-31\n\
         1 FILE C I-2 B 7.00 2025-01-31\n\
         1 FILE A I-3 C 12.00 2025-01-31\n\
         1 CONFIRM B I-1 A\n1 CONFIRM C I-2 B\n1 CONFIRM A I-3 C\n\
-        1 RECEIVE B I-1 7.00\n1 RECEIVE C I-2 7.00\n1 RECEIVE A I-3 7.00\n",
-    today: b"2026-01-10",
-    notices: b"debtor,creditor,invoice,status,amount,open,due,overdue\n\
+        1 RECEIVE B I-1 7.00\n1 RECEIVE C I-2 7.00\n1 RECEIVE A I-3 7.00\n";
+    let noticed = b"debtor,creditor,invoice,status,amount,open,due,overdue\n\
         A,B,I-1,confirmed,10.00,3.00,2025-01-31,344\n\
-        C,A,I-3,confirmed,12.00,5.00,2025-01-31,344\n",
-    positions: b"firm,balance,credit,ceiling,offer,receivable,payable\n\
+        C,A,I-3,confirmed,12.00,5.00,2025-01-31,344\n";
+    let positioned = b"firm,balance,credit,ceiling,offer,receivable,payable\n\
         A,0.00,0.00,10000000000000.00,0.00,5.00,3.00\n\
         B,0.00,0.00,10000000000000.00,0.00,3.00,0.00\n\
-        C,0.00,0.00,10000000000000.00,0.00,0.00,5.00\n",
-};
+        C,0.00,0.00,10000000000000.00,0.00,0.00,5.00\n";
+    assert!(rt; are_told(rt.alloc(), requests, b"2026-01-10", noticed, positioned));
+}
 
 // A claim of each status, of which one is due on the day and one after it, and an account below zero.
-const STATUSES: Case = Case {
-    requests: b"1 FIRM B\n1 FIRM A-1\n\
+#[test]
+fn statuses_and_accounts_are_told(rt: HostRuntime) {
+    let requests = b"1 FIRM B\n1 FIRM A-1\n\
         1 FILE B I-1 A-1 1.00 2025-12-30\n\
         1 FILE B I-2 A-1 2.00 2025-12-31\n\
         1 FILE B I-3 A-1 3.00 2026-01-01\n\
         1 FILE B I-4 A-1 4.00 2025-01-01\n\
         1 CONFIRM B I-2 A-1\n1 DISPUTE B I-3 A-1\n1 WITHDRAW B I-4\n\
-        1 LIMIT A-1 50.00 100.00\n1 DRAW A-1 49.99\n1 OFFER A-1 0.07\n",
-    today: b"2025-12-31",
-    notices: b"debtor,creditor,invoice,status,amount,open,due,overdue\n\
+        1 LIMIT A-1 50.00 100.00\n1 DRAW A-1 49.99\n1 OFFER A-1 0.07\n";
+    let noticed = b"debtor,creditor,invoice,status,amount,open,due,overdue\n\
         A-1,B,I-1,filed,1.00,1.00,2025-12-30,1\n\
         A-1,B,I-2,confirmed,2.00,2.00,2025-12-31,0\n\
-        A-1,B,I-3,disputed,3.00,3.00,2026-01-01,0\n",
-    positions: b"firm,balance,credit,ceiling,offer,receivable,payable\n\
+        A-1,B,I-3,disputed,3.00,3.00,2026-01-01,0\n";
+    let positioned = b"firm,balance,credit,ceiling,offer,receivable,payable\n\
         B,0.00,0.00,10000000000000.00,0.00,2.00,0.00\n\
-        A-1,-49.99,50.00,100.00,0.07,0.00,2.00\n",
-};
+        A-1,-49.99,50.00,100.00,0.07,0.00,2.00\n";
+    assert!(rt; are_told(rt.alloc(), requests, b"2025-12-31", noticed, positioned));
+}
 
 #[test]
-fn claims_and_firms_are_told(rt: HostRuntime) {
-    for case in [NOTHING, TRIANGLE, STATUSES] {
-        let book = book_of(rt.alloc(), case.requests).expect(&rt, "memory");
-        assert!(rt; notices_are(rt.alloc(), &book, case.today, case.notices));
-        assert!(rt; positions_are(rt.alloc(), &book, case.positions));
+fn invoices_are_filed(rt: HostRuntime) {
+    let cases: [(&[u8], &[u8]); 3] = [
+        (
+            b"creditor,invoice,debtor,amount,due\r\nB,I-1,A,10.00,2025-01-31\r\n\"C\",\"I-2\",B,7.00,2025-01-31",
+            b"1 FILE B I-1 A 10.00 2025-01-31\n1 FILE C I-2 B 7.00 2025-01-31\n",
+        ),
+        (
+            b"\xef\xbb\xbf\"creditor\",invoice,debtor,amount,due\n\nB,I-1,A,\"0.01\",\"1970-01-01\"\n\n",
+            b"1 FILE B I-1 A 0.01 1970-01-01\n",
+        ),
+        (b"creditor,invoice,debtor,amount,due", b""),
+    ];
+    for (input, lines) in cases {
+        match import(rt.alloc(), input, 1) {
+            Ok(text) => assert!(rt; text.as_slice() == lines),
+            Err(_) => assert!(rt; false),
+        }
+    }
+}
+
+#[test]
+fn bad_rows_have_causes(rt: HostRuntime) {
+    let cases: [(&[u8], u64, RowCause); 13] = [
+        (b"", 1, RowCause::Header),
+        (b"\n\r\n", 1, RowCause::Header),
+        (b"creditor,invoice,debtor,amount\n", 1, RowCause::Header),
+        (
+            b"creditor,invoice,debtor,amount,due,\n",
+            1,
+            RowCause::Header,
+        ),
+        (b"creditor,invoice,debtor,due,amount\n", 1, RowCause::Header),
+        (
+            b"\xef\xbb\xbf\xef\xbb\xbfcreditor,invoice,debtor,amount,due\n",
+            1,
+            RowCause::Header,
+        ),
+        (
+            b"creditor,invoice,debtor,amount,due\nB,I-1,A,10.00,2025-01-31\n\"C\",\"I-2\",B,7.00,2025-01-31\nC,I-3,B,7.0,2025-01-31\n",
+            4,
+            RowCause::Field(4),
+        ),
+        (
+            b"creditor,invoice,debtor,amount,due\n\nB,I-1,A,10.00\n",
+            2,
+            RowCause::Fields,
+        ),
+        (
+            b"creditor,invoice,debtor,amount,due\nB,I-1,A,10.00,2025-01-31,\n",
+            2,
+            RowCause::Fields,
+        ),
+        (
+            b"creditor,invoice,debtor,amount,due\n\"B,C\",i,A,0.00,2025-01-31\n",
+            2,
+            RowCause::Field(1),
+        ),
+        (
+            b"creditor,invoice,debtor,amount,due\nB,\"I\"\"1\",a,0.00,2025-01-31\n",
+            2,
+            RowCause::Field(2),
+        ),
+        (
+            b"creditor,invoice,debtor,amount,due\nB,I-1, A,0.00,2025-01-31\n",
+            2,
+            RowCause::Field(3),
+        ),
+        (
+            b"creditor,invoice,debtor,amount,due\nB,I-1,A,0.01,2025-02-29\n",
+            2,
+            RowCause::Field(5),
+        ),
+    ];
+    for (input, row, cause) in cases {
+        match import(rt.alloc(), input, 1) {
+            Err(e) => assert!(rt; e == ImportError::BadRow { row, cause }),
+            Ok(_) => assert!(rt; false),
+        }
     }
 }

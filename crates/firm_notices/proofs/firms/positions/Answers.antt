@@ -4,7 +4,7 @@ use Rattle.claim_history.specs.Facts.{position_of}
 use Rattle.claim_book.specs.Book.{ledger_of}
 use Rattle.firm_notices.specs.Tables.{Holds, csv_text}
 use Rattle.firm_notices.specs.Positions.{position_names, position_fields, positions_text}
-use Rattle.firm_notices.proofs.Rows.{one_row, mapped_more, whole}
+use Rattle.firm_notices.proofs.Growing.{one_row, mapped_more, whole}
 use Rattle.firm_notices.proofs.Listed.{known_position}
 use Rattle.firm_notices.proofs.firms.positions.Goals as goal
 

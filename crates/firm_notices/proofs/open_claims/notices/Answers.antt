@@ -3,7 +3,7 @@ use Rattle.std.proofs.lemmas.List.{take_all}
 use Rattle.claim_book.specs.Book.{ledger_of}
 use Rattle.firm_notices.specs.Tables.{Holds, csv_text}
 use Rattle.firm_notices.specs.Notices.{is_open, notice_names, notice_fields, notice_rows, notices_text}
-use Rattle.firm_notices.proofs.Rows.{one_row, kept_more, left_out, whole}
+use Rattle.firm_notices.proofs.Growing.{one_row, kept_more, left_out, whole}
 use Rattle.firm_notices.proofs.open_claims.notices.Goals as goal
 use Rattle.firm_notices.proofs.open_claims.notices.Goals.{then-is_open+in_ok-put_notice, else-is_open}
 
