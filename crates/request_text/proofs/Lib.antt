@@ -2,3 +2,4 @@ pub mod Words
 pub mod Requests
 pub mod Orders
 pub mod ReadBack
+pub mod Worked

@@ -1,83 +1,111 @@
 -- Requests that are written and read back.
-use Rattle.std.proofs.Common.{◌≡◌, ℕ, zero, suc, ◌+◌, ◌<◌, true, List, [], ◌∷◌, ◌++◌, length, map, get_or, refl, sym, ap, ap₂, ◌∙◌, subst, arith, append_assoc}
-use Rattle.std.specs.Prelude.{All, codes, flat_map}
+use Rattle.std.proofs.Common.{◌≡◌, ℕ, suc, ◌+◌, List, [], ◌∷◌, ◌++◌, length, drop, get_or, refl, sym, ap, ap₂, ◌∙◌, subst, arith, decimal, append_assoc}
+use Rattle.std.specs.Prelude.{All, codes}
 use Rattle.std.specs.Str.Lines.{lines}
 use Rattle.std.proofs.lemmas.List.Concat.{flat_map-cons}
 use Rattle.text_lines.specs.Fields.{fields, line_of}
 use Rattle.text_lines.proofs.Joining.{join_law}
 use Rattle.text_lines.proofs.Visible.{known, visible_law, ended_law}
 use Rattle.claim_history.specs.declared.act.Act.{Act}
-use Rattle.claim_history.specs.declared.act.Act.TheVariants as act
-use Rattle.claim_history.specs.Acts.{is_request, act_fields, act_text}
+use Rattle.claim_history.specs.Acts.{act_fields, act_text}
 use Rattle.claim_history.proofs.Shapes.{act_texts_law}
 use Rattle.request_text.specs.declared.request.Request.{Request}
-use Rattle.request_text.specs.Grammar.{line_fields, IsLine, AreRequests, IsRequestText, request_line, numbered, ReadBackLaw}
-use Rattle.request_text.proofs.Words.{fields_visible, cut_fields}
+use Rattle.request_text.specs.Grammar.{line_fields, fence, fence_line, IsLine, AreBatches, IsRequestText, Asked, CanBeAsked, request_line, batch_text, batches_text, numbered, all_numbered, ReadBackLaw}
+use Rattle.request_text.proofs.Words.{fields_visible, cut_fields, has_verb, one_lane}
 
-abbrev whole_line : Act → List ℕ
-whole_line a = line_of (line_fields a)
+-- ---- what is written is read
 
-rest_of : (a : Act) (acts : List Act) → All (λ (x : Act). is_request x ≡ true) (a ∷ acts) → All (λ (x : Act). is_request x ≡ true) acts
-rest_of a acts h = λ k d lt. h (suc k) d (omega (arith, lt))
+first_of_all : {A : Type 0} (P : A → Type 0) (x : A) (xs : List A) → All P (x ∷ xs) → P x
+first_of_all P x xs h = h 0 x (omega arith)
 
-lines_of_acts : (acts : List Act) → All (λ (x : Act). is_request x ≡ true) acts → lines (flat_map request_line acts) ≡ map whole_line acts
-lines_of_acts [] h = refl
-lines_of_acts (a ∷ acts) h =
-    ap lines (flat_map-cons request_line a acts)
-    ∙ ended_law (codes "1") (act_fields a) (flat_map request_line acts) (known (codes "1") refl) (fields_visible visible_law a (h 0 a (omega arith)))
-    ∙ ap (λ (ls : List (List ℕ)). whole_line a ∷ ls) (lines_of_acts acts (rest_of a acts h))
+rest_of_all : {A : Type 0} (P : A → Type 0) (x : A) (xs : List A) → All P (x ∷ xs) → All P xs
+rest_of_all P x xs h = λ k d lt. h (suc k) d (omega (arith, lt))
 
-are_requests : (number : ℕ) (acts : List Act) → All (λ (x : Act). is_request x ≡ true) acts → AreRequests number (map whole_line acts) (numbered number acts)
-are_requests number [] h = tt
-are_requests number (a ∷ acts) h = (refl, refl, (h 0 a (omega arith), refl), are_requests (number + 1) acts (rest_of a acts h))
+-- the line of a request is the first line of the text
+first_line : (asked : Asked) (rest : List ℕ) → CanBeAsked asked → lines (request_line asked.lane asked.act ++ rest) ≡ line_of (line_fields asked.lane asked.act) ∷ lines rest
+first_line asked rest h =
+    ended_law (decimal asked.lane) (act_fields asked.act) rest (visible_law.whole asked.lane (omega (arith, h.by.1))) (fields_visible visible_law asked.act h.valid)
 
-written : (acts : List Act) → All (λ (x : Act). is_request x ≡ true) acts → IsRequestText (flat_map request_line acts) (numbered 1 acts)
-written acts h = subst (λ (ls : List (List ℕ)). AreRequests 1 ls (numbered 1 acts)) (sym (lines_of_acts acts h)) (are_requests 1 acts h)
+-- so is a fence
+first_fence : (rest : List ℕ) → lines (fence_line ++ rest) ≡ fence ∷ lines rest
+first_fence rest = ended_law fence [] rest (known fence refl) tt
 
-same_act : (line : List ℕ) (a b : Act) → IsLine line a → IsLine line b → a ≡ b
-same_act line a b p q =
-    let e : line_fields a ≡ line_fields b = sym (cut_fields join_law visible_law a p.0) ∙ ap fields (sym p.1 ∙ q.1) ∙ cut_fields join_law visible_law b q.0 in
-    act_texts_law a b p.0 q.0 (ap (Rattle.std.proofs.Common.drop 1) e)
+text_step : (asked : Asked) (batch : List Asked) (batches : List (List Asked)) → batches_text (asked ∷ batch) batches ≡ request_line asked.lane asked.act ++ batches_text batch batches
+text_step asked batch [] = flat_map-cons (λ (x : Asked). request_line x.lane x.act) asked batch
+text_step asked batch (next ∷ batches) =
+    ap (λ (text : List ℕ). text ++ (fence_line ++ batches_text next batches)) (flat_map-cons (λ (x : Asked). request_line x.lane x.act) asked batch)
+    ∙ append_assoc (request_line asked.lane asked.act) (batch_text batch) (fence_line ++ batches_text next batches)
+
+read_again : (number : ℕ) (batch : List Asked) (batches : List (List Asked)) → All CanBeAsked batch → All (All CanBeAsked) batches → AreBatches number (lines (batches_text batch batches)) (all_numbered number (batch ∷ batches))
+read_again number [] [] h hs = (refl, refl)
+read_again number [] (next ∷ batches) h hs =
+    let place : number + 1 ≡ number + 0 + 1 = omega arith in
+    let more : AreBatches (number + 1) (lines (batches_text next batches)) (all_numbered (number + 0 + 1) (next ∷ batches)) =
+    subst (λ (n : ℕ). AreBatches (number + 1) (lines (batches_text next batches)) (all_numbered n (next ∷ batches))) place (read_again (number + 1) next batches (first_of_all (All CanBeAsked) next batches hs) (rest_of_all (All CanBeAsked) next batches hs)) in
+    subst (λ (ls : List (List ℕ)). AreBatches number ls (all_numbered number ([] ∷ next ∷ batches))) (sym (first_fence (batches_text next batches))) (refl, more)
+read_again number (asked ∷ batch) batches h hs =
+    let can = first_of_all CanBeAsked asked batch h in
+    let cut : lines (batches_text (asked ∷ batch) batches) ≡ line_of (line_fields asked.lane asked.act) ∷ lines (batches_text batch batches) =
+    ap lines (text_step asked batch batches) ∙ first_line asked (batches_text batch batches) can in
+    let place : number + 1 + length batch + 1 ≡ number + length (asked ∷ batch) + 1 = omega arith in
+    let more : AreBatches (number + 1) (lines (batches_text batch batches)) (numbered (number + 1) batch ∷ all_numbered (number + length (asked ∷ batch) + 1) batches) =
+    subst (λ (n : ℕ). AreBatches (number + 1) (lines (batches_text batch batches)) (numbered (number + 1) batch ∷ all_numbered n batches)) place
+    (read_again (number + 1) batch batches (rest_of_all CanBeAsked asked batch h) hs) in
+    subst (λ (ls : List (List ℕ)). AreBatches number ls (all_numbered number ((asked ∷ batch) ∷ batches))) (sym cut) (refl, record { by = can.by; valid = can.valid; spelled = refl }, more)
+
+written : (batch : List Asked) (batches : List (List Asked)) → All (All CanBeAsked) (batch ∷ batches) → IsRequestText (batches_text batch batches) (all_numbered 1 (batch ∷ batches))
+written batch batches h = read_again 1 batch batches (first_of_all (All CanBeAsked) batch batches h) (rest_of_all (All CanBeAsked) batch batches h)
+
+-- ---- it is read in one way
+
+-- a line of a lane is no fence
+no_fence : (lane : ℕ) (a : Act) → IsLine fence lane a → ⊥
+no_fence lane a h =
+    let v = has_verb a in
+    let e : fence ∷ [] ≡ decimal lane ∷ v.0 ∷ v.1.0 = ap fields h.spelled ∙ cut_fields join_law visible_law lane a h.by h.valid ∙ ap (λ (fs : List (List ℕ)). decimal lane ∷ fs) v.1.1 in
+    absurd cc
+
+same_fields : (line : List ℕ) (lane other : ℕ) (a b : Act) → IsLine line lane a → IsLine line other b → line_fields lane a ≡ line_fields other b
+same_fields line lane other a b p q = sym (cut_fields join_law visible_law lane a p.by p.valid) ∙ ap fields (sym p.spelled ∙ q.spelled) ∙ cut_fields join_law visible_law other b q.by q.valid
 
 abbrev request : ℕ → ℕ → Act → Request
 request line lane a = record { line = line; lane = lane; act = a }
 
-same_request : (a b : Request) → a.line ≡ b.line → a.lane ≡ b.lane → a.act ≡ b.act → a ≡ b
-same_request a b l k e =
-    ap (λ (n : ℕ). request n a.lane a.act) l ∙ ap (λ (n : ℕ). request b.line n a.act) k ∙ ap (λ (x : Act). request b.line b.lane x) e
+same_request : (line : List ℕ) (a b : Request) → a.line ≡ b.line → IsLine line a.lane a.act → IsLine line b.lane b.act → a ≡ b
+same_request line a b l p q =
+    let e = same_fields line a.lane b.lane a.act b.act p q in
+    let k : a.lane ≡ b.lane = one_lane a.lane b.lane q.by (omega (arith, p.by.1)) (ap (λ (fs : List (List ℕ)). get_or fs 0 []) e) in
+    let asks : a.act ≡ b.act = act_texts_law a.act b.act p.valid q.valid (ap (drop 1) e) in
+    ap (λ (n : ℕ). request n a.lane a.act) l ∙ ap (λ (n : ℕ). request b.line n a.act) k ∙ ap (λ (x : Act). request b.line b.lane x) asks
 
-only : (number : ℕ) (ls : List (List ℕ)) (a b : List Request) → AreRequests number ls a → AreRequests number ls b → a ≡ b
-only number [] [] [] p q = refl
-only number [] [] (y ∷ b) p q = absurd q
-only number [] (x ∷ a) b p q = absurd p
-only number (l ∷ ls) [] b p q = absurd p
-only number (l ∷ ls) (x ∷ a) [] p q = absurd q
-only number (l ∷ ls) (x ∷ a) (y ∷ b) p q =
-    ap₂ (λ (r : Request) (rs : List Request). r ∷ rs)
-    (same_request x y (p.0 ∙ sym q.0) (p.1 ∙ sym q.1) (same_act l x.act y.act p.2 q.2))
-    (only (number + 1) ls a b p.3 q.3)
+abbrev put_first : Request → List (List Request) → List (List Request)
+put_first request [] = []
+put_first request (batch ∷ batches) = (request ∷ batch) ∷ batches
+
+only : (number : ℕ) (ls : List (List ℕ)) (a b : List (List Request)) → AreBatches number ls a → AreBatches number ls b → a ≡ b
+only number ls [] b p q = absurd p
+only number ls (x ∷ a) [] p q = absurd q
+only number [] (x ∷ a) (y ∷ b) p q = ap₂ (λ (r : List Request) (rs : List (List Request)). r ∷ rs) (p.0 ∙ sym q.0) (p.1 ∙ sym q.1)
+only number (l ∷ ls) ([] ∷ a) ([] ∷ b) p q = ap (λ (rs : List (List Request)). [] ∷ rs) (only (number + 1) ls a b p.1 q.1)
+only number (l ∷ ls) ([] ∷ a) ((y ∷ ys) ∷ b) p q = absurd (no_fence y.lane y.act (subst (λ (line : List ℕ). IsLine line y.lane y.act) p.0 q.1))
+only number (l ∷ ls) ((x ∷ xs) ∷ a) ([] ∷ b) p q = absurd (no_fence x.lane x.act (subst (λ (line : List ℕ). IsLine line x.lane x.act) q.0 p.1))
+only number (l ∷ ls) ((x ∷ xs) ∷ a) ((y ∷ ys) ∷ b) p q =
+    ap₂ put_first (same_request l x y (p.0 ∙ sym q.0) p.1 q.1) (only (number + 1) ls (xs ∷ a) (ys ∷ b) p.2 q.2)
 
 pub read_back_law : ReadBackLaw
 read_back_law = record { written = written; only = λ bytes a b p q. only 1 (lines bytes) a b p q }
 
--- the line of an act is the lane and the act's text
-pub line_of_act : (a : Act) → line_of (line_fields a) ≡ codes "1 " ++ act_text a
-line_of_act (act.Firm firm) = refl
-line_of_act (act.File key debtor amount due) = refl
-line_of_act (act.Confirm key debtor) = refl
-line_of_act (act.Dispute key debtor) = refl
-line_of_act (act.Withdraw key) = refl
-line_of_act (act.Receive key amount) = refl
-line_of_act (act.Fund firm amount) = refl
-line_of_act (act.Draw firm amount) = refl
-line_of_act (act.Limit firm credit ceiling) = refl
-line_of_act (act.Offer firm amount) = refl
-line_of_act (act.Position firm) = refl
-line_of_act (act.Close kind horizon) = refl
-line_of_act (act.Abandon) = refl
-line_of_act (act.Publish round outcome) = refl
+-- ---- the line of a request is the lane, a space and the act's text
+line_of_request : (lane : ℕ) (a : Act) → line_of (line_fields lane a) ≡ decimal lane ++ codes " " ++ act_text a
+line_of_request lane a =
+    let v = has_verb a in
+    ap (λ (fs : List (List ℕ)). line_of (decimal lane ∷ fs)) v.1.1
+    ∙ ap (λ (fs : List (List ℕ)). decimal lane ++ (32 ∷ line_of fs)) (sym v.1.1)
+    ∙ sym (append_assoc (decimal lane) (codes " ") (act_text a))
 
-pub line_written : (old one two three : List ℕ) (a : Act) → one ≡ old ++ codes "1 " → two ≡ one ++ act_text a → three ≡ two ++ codes "\n" → three ≡ old ++ request_line a
-line_written old one two three a p q r =
-    r ∙ ap (λ (t : List ℕ). t ++ codes "\n") (q ∙ ap (λ (t : List ℕ). t ++ act_text a) p ∙ append_assoc old (codes "1 ") (act_text a) ∙ ap (λ (t : List ℕ). old ++ t) (sym (line_of_act a)))
-    ∙ append_assoc old (line_of (line_fields a)) (codes "\n")
+pub line_written : (old one two three four : List ℕ) (lane : ℕ) (a : Act) → one ≡ old ++ decimal lane → two ≡ one ++ codes " " → three ≡ two ++ act_text a → four ≡ three ++ codes "\n" → four ≡ old ++ request_line lane a
+line_written old one two three four lane a p q r s =
+    let whole : old ++ decimal lane ++ codes " " ++ act_text a ≡ old ++ (decimal lane ++ codes " " ++ act_text a) =
+    ap (λ (t : List ℕ). t ++ act_text a) (append_assoc old (decimal lane) (codes " ")) ∙ append_assoc old (decimal lane ++ codes " ") (act_text a) in
+    s ∙ ap (λ (t : List ℕ). t ++ codes "\n") (r ∙ ap (λ (t : List ℕ). t ++ act_text a) (q ∙ ap (λ (t : List ℕ). t ++ codes " ") p) ∙ whole ∙ ap (λ (t : List ℕ). old ++ t) (sym (line_of_request lane a)))
+    ∙ append_assoc old (line_of (line_fields lane a)) (codes "\n")

@@ -1,5 +1,5 @@
 -- A line and its fields.
-use Rattle.std.proofs.Common.{◌≡◌, ℕ, ◌≤◌, ◌+◌, ◌/◌, ◌%◌, true, List, [], ◌∷◌, ◌++◌, refl, sym, ap, ◌∙◌, arith}
+use Rattle.std.proofs.Common.{◌≡◌, ℕ, ◌<◌, ◌≤◌, ◌+◌, ◌/◌, ◌%◌, ◌^◌, true, List, [], ◌∷◌, ◌++◌, refl, sym, ap, ◌∙◌, subst, arith, decimal}
 use Rattle.std.specs.Prelude.{◌&&◌, nat_le, codes, get_or, Result, Ok, Err, IfOk, OnErr}
 use Rattle.std.specs.List.{AllByRecursion}
 use Rattle.std.proofs.lemmas.Bool.{leb-true, and_parts}
@@ -11,14 +11,14 @@ use Rattle.setoff_model.specs.declared.kind.Kind.TheVariants.{Plain, Funded}
 use Rattle.setoff_model.specs.Texts.{cents_text, kind_text}
 use Rattle.setoff_model.proofs.Spelling.{spelling_law}
 use Rattle.text_lines.specs.Fields.{fields, line_of, HasNoSpace, JoinLaw, IsVisible, VisibleLaw}
-use Rattle.text_lines.proofs.Spaces.{known_no_space, no_space_of}
+use Rattle.text_lines.proofs.Spaces.{no_space_of}
 use Rattle.text_lines.proofs.Visible.{known, join, two}
 use Rattle.claim_history.specs.declared.act.Act.{Act}
 use Rattle.claim_history.specs.declared.act.Act.TheVariants as act
 use Rattle.claim_history.specs.Days.{day_text, date_of, two_digits}
 use Rattle.claim_history.specs.Acts.{is_request, is_key, is_amount, is_claim_amount, is_day, act_fields}
 use Rattle.request_text.specs.declared.error.LineCause.{LineCause}
-use Rattle.request_text.specs.Grammar.{AreNoArgs, AreFields, AreNoFields, IsLine, IsNoLine, line_fields}
+use Rattle.request_text.specs.Grammar.{AreNoArgs, AreFields, AreNoFields, AsksNothing, IsLane, IsLine, line_fields}
 
 amount_within : (cents : ℕ) → is_claim_amount cents ≡ true → (1 ≤ cents) × (cents ≤ most_amount)
 amount_within cents h =
@@ -126,22 +126,46 @@ no_spaces : (fs : List (List ℕ)) → AllByRecursion IsVisible fs → AllByRecu
 no_spaces [] h = tt
 no_spaces (f ∷ fs) h = (no_space_of f h.0, no_spaces fs h.1)
 
+-- each act has a verb, and what is after it
+pub has_verb : (a : Act) → (verb : List ℕ) × ((args : List (List ℕ)) × (act_fields a ≡ verb ∷ args))
+has_verb (act.Firm firm) = (_, (_, refl))
+has_verb (act.File key debtor amount due) = (_, (_, refl))
+has_verb (act.Confirm key debtor) = (_, (_, refl))
+has_verb (act.Dispute key debtor) = (_, (_, refl))
+has_verb (act.Withdraw key) = (_, (_, refl))
+has_verb (act.Receive key amount) = (_, (_, refl))
+has_verb (act.Fund firm amount) = (_, (_, refl))
+has_verb (act.Draw firm amount) = (_, (_, refl))
+has_verb (act.Limit firm credit ceiling) = (_, (_, refl))
+has_verb (act.Offer firm amount) = (_, (_, refl))
+has_verb (act.Position firm) = (_, (_, refl))
+has_verb (act.Close kind horizon) = (_, (_, refl))
+has_verb (act.Abandon) = (_, (_, refl))
+has_verb (act.Publish round outcome) = (_, (_, refl))
+
+-- no lane has another's text
+pub one_lane : (a b : ℕ) → IsLane b → a < 2 ^ 64 → decimal a ≡ decimal b → a ≡ b
+one_lane a b h small e = spelling_law.whole a b small (omega (arith, h.1)) e
+
+pub no_lane : (field : List ℕ) (number : ℕ) → number < 2 ^ 64 → field ≡ decimal number → (IsLane number → ⊥) → (lane : ℕ) → IsLane lane → field ≡ decimal lane → ⊥
+no_lane field number small is wrong lane h e = wrong (subst IsLane (sym (one_lane number lane h small (sym is ∙ e))) h)
+
 -- the fields of a line are cut out of it again
-pub cut_fields : JoinLaw → VisibleLaw → (a : Act) → is_request a ≡ true → fields (line_of (line_fields a)) ≡ line_fields a
-cut_fields law visible a valid = law.cut (codes "1") (act_fields a) (known_no_space (codes "1") refl) (no_spaces (act_fields a) (fields_visible visible a valid))
+pub cut_fields : JoinLaw → VisibleLaw → (lane : ℕ) (a : Act) → IsLane lane → is_request a ≡ true → fields (line_of (line_fields lane a)) ≡ line_fields lane a
+cut_fields law visible lane a by valid = law.cut (decimal lane) (act_fields a) (no_space_of (decimal lane) (visible.whole lane (omega (arith, by.1)))) (no_spaces (act_fields a) (fields_visible visible a valid))
 
 -- a line is read by its fields
 
-is_line : JoinLaw → (line : List ℕ) (a : Act) → AreFields (fields line) a → IsLine line a
-is_line law line a h = (h.0, sym (law.joined line) ∙ ap line_of h.1)
+is_line : JoinLaw → (line : List ℕ) (lane : ℕ) (a : Act) → AreFields (fields line) lane a → IsLine line lane a
+is_line law line lane a h = record { by = h.by; valid = h.valid; spelled = sym (law.joined line) ∙ ap line_of h.spelled }
 
-is_no_line : JoinLaw → VisibleLaw → (line : List ℕ) → AreNoFields (fields line) → IsNoLine line
-is_no_line law visible line h a valid e = h a valid (ap fields e ∙ cut_fields law visible a valid)
+asks_nothing : JoinLaw → VisibleLaw → (line : List ℕ) → AreNoFields (fields line) → AsksNothing line
+asks_nothing law visible line h lane a l = h lane a (record { by = l.by; valid = l.valid; spelled = ap fields l.spelled ∙ cut_fields law visible lane a l.by l.valid })
 
-pub found_line : JoinLaw → (line : List ℕ) (parts : List (List ℕ)) (r : Result Act LineCause) → parts ≡ fields line → IfOk r (AreFields parts) → IfOk r (IsLine line)
-found_line law line parts (Ok a) e h = is_line law line a (h.0, sym e ∙ h.1)
+pub found_line : JoinLaw → (line : List ℕ) (parts : List (List ℕ)) (r : Result (ℕ × Act) LineCause) → parts ≡ fields line → IfOk r (λ (x : ℕ × Act). AreFields parts x.0 x.1) → IfOk r (λ (x : ℕ × Act). IsLine line x.0 x.1)
+found_line law line parts (Ok x) e h = is_line law line x.0 x.1 (record { by = h.by; valid = h.valid; spelled = sym e ∙ h.spelled })
 found_line law line parts (Err cause) e h = tt
 
-pub bad_line : JoinLaw → VisibleLaw → (line : List ℕ) (parts : List (List ℕ)) (r : Result Act LineCause) → parts ≡ fields line → OnErr r (AreNoFields parts) → OnErr r (IsNoLine line)
-bad_line law visible line parts (Ok a) e h = tt
-bad_line law visible line parts (Err cause) e h = is_no_line law visible line (λ a valid same. h a valid (e ∙ same))
+pub bad_line : JoinLaw → VisibleLaw → (line : List ℕ) (parts : List (List ℕ)) (r : Result (ℕ × Act) LineCause) → parts ≡ fields line → OnErr r (AreNoFields parts) → OnErr r (AsksNothing line)
+bad_line law visible line parts (Ok x) e h = tt
+bad_line law visible line parts (Err cause) e h = asks_nothing law visible line (λ lane a same. h lane a (record { by = same.by; valid = same.valid; spelled = e ∙ same.spelled }))

@@ -1,10 +1,11 @@
 -- What a batch keeps of its requests.
-use Rattle.std.specs.Prelude.{◌≡◌, ◌<◌, ◌≤◌, true, List, All, AllPairs}
+use Rattle.std.specs.Prelude.{◌≡◌, ◌<◌, true, List, All, AllPairs}
 use Rattle.claim_history.specs.Acts.{is_request}
 use Rattle.request_text.specs.declared.request.Request.{Request}
+use Rattle.request_text.specs.Grammar.{IsLane}
 
 -- the line numbers rise, each lane is 1 to 16, and each act is valid and no publication
 pub record AreInOrder (requests : List Request) : Type 0 where
   pub rising : AllPairs (λ a b. a.line < b.line) requests
-  pub lanes : All (λ r. (1 ≤ r.lane) × (r.lane ≤ 16)) requests
+  pub lanes : All (λ r. IsLane r.lane) requests
   pub valid : All (λ r. is_request r.act ≡ true) requests

@@ -1,5 +1,5 @@
--- The text of requests: one line for each, `lane VERB fields`.
-use Rattle.std.specs.Prelude.{◌≡◌, ℕ, ◌+◌, true, List, [], ◌∷◌, ◌++◌, length, codes, All, flat_map}
+-- The text of requests: lines `lane VERB fields`, and lines `FENCE`, each of which ends a batch.
+use Rattle.std.specs.Prelude.{◌≡◌, ℕ, ◌+◌, ◌≤◌, true, List, [], ◌∷◌, ◌++◌, length, codes, decimal, All, flat_map}
 use Rattle.std.specs.Str.Lines.{lines}
 use Rattle.text_lines.specs.Fields.{line_of}
 use Rattle.claim_history.specs.declared.act.Act.{Act}
@@ -8,6 +8,17 @@ use Rattle.request_text.specs.declared.error.RequestError.{RequestError}
 use Rattle.request_text.specs.declared.error.RequestError.TheVariants as errors
 use Rattle.request_text.specs.declared.request.Request.{Request}
 
+-- the lanes are 1 to 16
+abbrev pub IsLane : ℕ → Type 0
+IsLane lane = (1 ≤ lane) × (lane ≤ 16)
+
+-- the line that ends a batch, and the same with its end
+abbrev pub fence : List ℕ
+fence = codes "FENCE"
+
+abbrev pub fence_line : List ℕ
+fence_line = fence ++ codes "\n"
+
 -- a verb and the fields after it that are an act's, and those that are no act's
 abbrev pub AreArgs : List ℕ → List (List ℕ) → Act → Type 0
 AreArgs verb args act = (is_request act ≡ true) × (verb ∷ args ≡ act_fields act)
@@ -15,50 +26,60 @@ AreArgs verb args act = (is_request act ≡ true) × (verb ∷ args ≡ act_fiel
 abbrev pub AreNoArgs : List ℕ → List (List ℕ) → Type 0
 AreNoArgs verb args = (act : Act) → is_request act ≡ true → verb ∷ args ≡ act_fields act → ⊥
 
--- the lane and the act's fields
-abbrev pub line_fields : Act → List (List ℕ)
-line_fields act = codes "1" ∷ act_fields act
+-- a lane and an act's fields
+abbrev pub line_fields : ℕ → Act → List (List ℕ)
+line_fields lane act = decimal lane ∷ act_fields act
 
--- fields that are an act's, and fields that are no act's
-abbrev pub AreFields : List (List ℕ) → Act → Type 0
-AreFields fields act = (is_request act ≡ true) × (fields ≡ line_fields act)
+-- fields that ask this of a lane
+pub record AreFields (fields : List (List ℕ)) (lane : ℕ) (act : Act) : Type 0 where
+  pub by : IsLane lane
+  pub valid : is_request act ≡ true
+  pub spelled : fields ≡ line_fields lane act
 
+-- fields that ask nothing of a lane
 abbrev pub AreNoFields : List (List ℕ) → Type 0
-AreNoFields fields = (act : Act) → is_request act ≡ true → fields ≡ line_fields act → ⊥
+AreNoFields fields = (lane : ℕ) (act : Act) → AreFields fields lane act → ⊥
 
--- a line is an act's fields with single spaces between them
-abbrev pub IsLine : List ℕ → Act → Type 0
-IsLine line act = (is_request act ≡ true) × (line ≡ line_of (line_fields act))
+-- a line asks this of a lane: its fields stand with single spaces between them
+pub record IsLine (line : List ℕ) (lane : ℕ) (act : Act) : Type 0 where
+  pub by : IsLane lane
+  pub valid : is_request act ≡ true
+  pub spelled : line ≡ line_of (line_fields lane act)
 
--- no act has this line
-abbrev pub IsNoLine : List ℕ → Type 0
-IsNoLine line = (act : Act) → is_request act ≡ true → line ≡ line_of (line_fields act) → ⊥
+-- a line asks nothing of a lane
+abbrev pub AsksNothing : List ℕ → Type 0
+AsksNothing line = (lane : ℕ) (act : Act) → IsLine line lane act → ⊥
 
--- each line is a request's, numbered on
-abbrev pub AreRequests : ℕ → List (List ℕ) → List Request → Type 0
-AreRequests number [] [] = Unit {0}
-AreRequests number [] (request ∷ requests) = ⊥
-AreRequests number (line ∷ lines) [] = ⊥
-AreRequests number (line ∷ lines) (request ∷ requests) =
-    (request.line ≡ number) × (request.lane ≡ 1) × IsLine line request.act × AreRequests (number + 1) lines requests
+-- a line ends no batch, and asks nothing of a lane
+pub record IsNoLine (line : List ℕ) : Type 0 where
+  pub no_fence : line ≡ fence → ⊥
+  pub asks_nothing : AsksNothing line
 
--- the bytes are the lines of these requests, numbered from 1
-abbrev pub IsRequestText : List ℕ → List Request → Type 0
-IsRequestText bytes requests = AreRequests 1 (lines bytes) requests
+-- each line is a request of the first batch, or ends it; the lines are numbered on
+abbrev pub AreBatches : ℕ → List (List ℕ) → List (List Request) → Type 0
+AreBatches number lines [] = ⊥
+AreBatches number [] (batch ∷ batches) = (batch ≡ []) × (batches ≡ [])
+AreBatches number (line ∷ lines) ([] ∷ batches) = (line ≡ fence) × AreBatches (number + 1) lines batches
+AreBatches number (line ∷ lines) ((request ∷ requests) ∷ batches) =
+    (request.line ≡ number) × IsLine line request.lane request.act × AreBatches (number + 1) lines (requests ∷ batches)
 
--- no requests have these bytes
+-- the bytes are the lines of these batches, numbered from 1
+abbrev pub IsRequestText : List ℕ → List (List Request) → Type 0
+IsRequestText bytes batches = AreBatches 1 (lines bytes) batches
+
+-- no batches have these bytes
 abbrev pub IsNoRequestText : List ℕ → Type 0
-IsNoRequestText bytes = (requests : List Request) → IsRequestText bytes requests → ⊥
+IsNoRequestText bytes = (batches : List (List Request)) → IsRequestText bytes batches → ⊥
 
--- the lines before this one are requests, and this one is none
+-- the lines before this one are in the grammar, and this one is not
 pub record IsFirstBadLine (bytes : List ℕ) (number : ℕ) : Type 0 where
   pub before : List (List ℕ)
   pub line : List ℕ
   pub after : List (List ℕ)
   pub cut : lines bytes ≡ before ++ line ∷ after
   pub number_is : number ≡ length before + 1
-  pub requests : List Request
-  pub spelled : AreRequests 1 before requests
+  pub batches : List (List Request)
+  pub spelled : AreBatches 1 before batches
   pub bad : IsNoLine line
 
 -- what holds of the line of an error
@@ -66,16 +87,42 @@ abbrev pub OnBadLine : (ℕ → Type 0) → RequestError → Type 0
 OnBadLine P errors.Memory = Unit {0}
 OnBadLine P (errors.BadLine line cause) = P line
 
--- the line of an act, with its end
-abbrev pub request_line : Act → List ℕ
-request_line act = line_of (line_fields act) ++ codes "\n"
+-- what is asked of a lane
+pub record Asked : Type 0 where
+  pub lane : ℕ
+  pub act : Act
 
--- requests of these acts, one on each line
-abbrev pub numbered : ℕ → List Act → List Request
+-- the lane is one, and the act can be asked for
+pub record CanBeAsked (asked : Asked) : Type 0 where
+  pub by : IsLane asked.lane
+  pub valid : is_request asked.act ≡ true
+
+-- the line of a request, with its end
+abbrev pub request_line : ℕ → Act → List ℕ
+request_line lane act = line_of (line_fields lane act) ++ codes "\n"
+
+-- the lines of a batch
+abbrev pub batch_text : List Asked → List ℕ
+batch_text batch = flat_map (λ asked. request_line asked.lane asked.act) batch
+
+-- the lines of a batch and of those after it, with a fence before each of these
+abbrev pub batches_text : List Asked → List (List Asked) → List ℕ
+batches_text batch [] = batch_text batch
+batches_text batch (next ∷ batches) = batch_text batch ++ (fence_line ++ batches_text next batches)
+
+-- the requests of a batch, one on each line
+abbrev pub numbered : ℕ → List Asked → List Request
 numbered number [] = []
-numbered number (act ∷ acts) = record { line = number; lane = 1; act = act } ∷ numbered (number + 1) acts
+numbered number (asked ∷ batch) = record { line = number; lane = asked.lane; act = asked.act } ∷ numbered (number + 1) batch
 
--- what is written is read back: the lines of valid acts are their requests, and no bytes are the text of two lists of requests
+-- the requests of batches, and a line for each fence
+abbrev pub all_numbered : ℕ → List (List Asked) → List (List Request)
+all_numbered number [] = []
+all_numbered number (batch ∷ batches) = numbered number batch ∷ all_numbered (number + length batch + 1) batches
+
+-- What is written is read back: the lines of a batch and of those after it are their requests, and no bytes are the text of two
+-- lists of batches.
 pub record ReadBackLaw : Type 0 where
-  pub written : (acts : List Act) → All (λ a. is_request a ≡ true) acts → IsRequestText (flat_map request_line acts) (numbered 1 acts)
-  pub only : (bytes : List ℕ) (a b : List Request) → IsRequestText bytes a → IsRequestText bytes b → a ≡ b
+  pub written : (batch : List Asked) (batches : List (List Asked)) → All (All CanBeAsked) (batch ∷ batches)
+      → IsRequestText (batches_text batch batches) (all_numbered 1 (batch ∷ batches))
+  pub only : (bytes : List ℕ) (a b : List (List Request)) → IsRequestText bytes a → IsRequestText bytes b → a ≡ b

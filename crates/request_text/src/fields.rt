@@ -1,15 +1,15 @@
 //! The act of a line's fields.
-ghost use Rattle.std.specs.Prelude.{◌≡◌, ◌↔◌, ℕ, ◌∷◌, [], codes, map, true, false, IfOk, OnErr, IsTrue};
+ghost use Rattle.std.specs.Prelude.{◌≡◌, ◌↔◌, ℕ, decimal, ◌∷◌, [], codes, map, true, false, IfOk, OnErr, IsTrue};
 ghost use Rattle.setoff_model.specs.Names.{is_name};
 ghost use Rattle.setoff_model.specs.Texts.{cents_text, kind_text};
 ghost use Rattle.claim_history.specs.Days.{day_text};
 ghost use Rattle.claim_history.specs.Acts.{is_key, is_amount, is_claim_amount, is_day};
 ghost use Rattle.setoff_model.specs.declared.kind.Kind.{Kind};
-ghost use Rattle.request_text.specs.Grammar.{AreArgs, AreNoArgs, AreFields, AreNoFields, IsLine, IsNoLine};
+ghost use Rattle.request_text.specs.Grammar.{AreArgs, AreNoArgs, AreFields, AreNoFields, AsksNothing, IsLane, IsLine};
 
 use crate::error::LineCause;
 use claim_history::{Act, Day};
-use setoff_model::{Key, Kind, Name, read_amount, read_kind};
+use setoff_model::{Key, Kind, Name, read_amount, read_kind, read_number};
 use std::alloc::{AllocError, Global};
 use text_lines::{ended_lines_are_lines, fields_of, joined_fields_are_cut_again};
 
@@ -379,30 +379,43 @@ fn verb_act(verb: &[u8], args: &[&[u8]]) -> Result<Act, LineCause>
     }
 }
 
-// The act of a line's fields.
-fn act_of(fields: &[&[u8]]) -> Result<Act, LineCause>
-    ensures found { IfOk result (λ act. AreFields (map (λ f. f.now) fields.now) act) }
+// The lane that a field is.
+fn lane_at(field: &[u8]) -> Result<u32, LineCause>
+    ensures found { IfOk result (λ lane. IsLane lane × (field.now ≡ decimal lane)) }
+    ensures bad { OnErr result ((lane : ℕ) → IsLane lane → field.now ≡ decimal lane → ⊥) }
+{
+    match read_number(field) {
+        Some(lane) if 1 <= lane && lane <= 16 => Ok(lane as u32),
+        _ => Err(LineCause::Lane),
+    }
+}
+
+// What a line's fields ask of a lane.
+fn asked_of(fields: &[&[u8]]) -> Result<(u32, Act), LineCause>
+    ensures found { IfOk result (λ asked. AreFields (map (λ f. f.now) fields.now) asked.0 asked.1) }
     ensures bad { OnErr result (AreNoFields (map (λ f. f.now) fields.now)) }
 {
     let [lane, after_lane @ ..] = fields else {
         return Err(LineCause::Lane);
     };
-    if !is_text(lane, b"1") {
-        return Err(LineCause::Lane);
-    }
+    let lane = lane_at(lane)?;
     let [verb, args @ ..] = after_lane else {
         return Err(LineCause::Verb);
     };
-    verb_act(verb, args)
+    let act = verb_act(verb, args)?;
+    Ok((lane, act))
 }
 
-/// The act of a line, or what is wrong with the line.
-pub(crate) fn read_line(alloc: Global, line: &[u8]) -> Result<Result<Act, LineCause>, AllocError>
-    ensures found { IfOk result (λ read. IfOk read (IsLine line.now)) }
-    ensures bad { IfOk result (λ read. OnErr read (IsNoLine line.now)) }
+/// What a line asks of a lane, or what is wrong with the line.
+pub(crate) fn read_line(
+    alloc: Global,
+    line: &[u8],
+) -> Result<Result<(u32, Act), LineCause>, AllocError>
+    ensures found { IfOk result (λ read. IfOk read (λ asked. IsLine line.now asked.0 asked.1)) }
+    ensures bad { IfOk result (λ read. OnErr read (AsksNothing line.now)) }
 {
     joined_fields_are_cut_again();
     ended_lines_are_lines();
     let fields = fields_of(alloc, line)?;
-    Ok(act_of(fields.as_slice()))
+    Ok(asked_of(fields.as_slice()))
 }

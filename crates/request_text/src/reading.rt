@@ -1,22 +1,32 @@
 //! Reading requests.
-ghost use Rattle.std.specs.Prelude.{◌≡◌, ◌∷◌, [], List, IfOk, IfErr};
-ghost use Rattle.request_text.specs.declared.request.Request.{Request};
-ghost use Rattle.request_text.specs.Grammar.{IsLine, IsNoLine, IsRequestText, IsNoRequestText, IsFirstBadLine, OnBadLine};
+ghost use Rattle.std.specs.Prelude.{◌≡◌, ◌↔◌, IfOk, IfErr, IsTrue};
+ghost use Rattle.request_text.specs.Grammar.{fence, AsksNothing, IsFirstBadLine, IsLine, IsNoRequestText, IsRequestText, OnBadLine};
 
 use crate::error::RequestError;
 use crate::fields::read_line;
 use crate::request::{Batch, Request};
-use claim_history::Act;
 use std::alloc::Global;
 use text_lines::next_line;
 
-// The act of the line with a number.
-fn read_act(alloc: Global, number: u64, line: &[u8]) -> Result<Act, RequestError>
-    ensures found { IfOk result (IsLine line.now) }
-    ensures bad { IfErr result (OnBadLine (λ n. (n ≡ number) × IsNoLine line.now)) }
+// A line that ends a batch.
+fn is_fence(line: &[u8]) -> bool
+    ensures { IsTrue result ↔ (line.now ≡ fence) }
+{
+    line == b"FENCE".as_slice()
+}
+
+// The request of the line with a number.
+fn request_of(alloc: Global, number: u64, line: &[u8]) -> Result<Request, RequestError>
+    ensures numbered { IfOk result (λ request. request.line ≡ number) }
+    ensures found { IfOk result (λ request. IsLine line.now request.lane request.act) }
+    ensures bad { IfErr result (OnBadLine (λ n. (n ≡ number) × AsksNothing line.now)) }
 {
     match read_line(alloc, line)? {
-        Ok(act) => Ok(act),
+        Ok((lane, act)) => Ok(Request {
+            line: number,
+            lane,
+            act,
+        }),
         Err(cause) => Err(RequestError::BadLine {
             line: number,
             cause,
@@ -24,38 +34,31 @@ fn read_act(alloc: Global, number: u64, line: &[u8]) -> Result<Act, RequestError
     }
 }
 
-// The requests of all lines.
-fn requests_of(alloc: Global, input: &[u8]) -> Result<Vec<Request>, RequestError>
-    ensures found { IfOk result (λ requests. IsRequestText input.now requests.items) }
+/// The batches of requests that the input spells: lines `lane VERB fields`, and lines `FENCE`, each of which ends a batch. An input
+/// with k fences has k + 1 batches, which may be empty. The lines are numbered from 1, fences too.
+///
+/// `BadLine` comes exactly where some line is not in the grammar, with the first such line.
+pub fn read_requests(alloc: Global, input: &[u8]) -> Result<Vec<Batch>, RequestError>
+    ensures found { IfOk result (λ batches. IsRequestText input.now batches.items) }
     ensures bad { IfErr result (OnBadLine (λ number. IsFirstBadLine input.now number × IsNoRequestText input.now)) }
 {
+    let mut batches = Vec::new(alloc);
     let mut requests = Vec::new(alloc);
     let mut rest = input;
     let mut number: u64 = 1;
     while let Some((line, after)) = next_line(rest) {
-        match read_act(alloc, number, line) {
-            Ok(act) => requests.push(Request {
-                line: number,
-                lane: 1,
-                act,
-            })?,
-            Err(e) => return Err(e),
+        if is_fence(line) {
+            batches.push(Batch::new(requests))?;
+            requests = Vec::new(alloc);
+        } else {
+            match request_of(alloc, number, line) {
+                Ok(request) => requests.push(request)?,
+                Err(e) => return Err(e),
+            }
         }
         rest = after;
         number = number.saturating_add(1);
     }
-    Ok(requests)
-}
-
-/// The batches of requests that the input spells: one batch of the lines `1 VERB fields`, in order.
-///
-/// `BadLine` comes exactly where some line is not in the grammar, with the first such line.
-pub fn read_requests(alloc: Global, input: &[u8]) -> Result<Vec<Batch>, RequestError>
-    ensures found { IfOk result (λ batches. (requests : List Request) × (batches.items ≡ requests ∷ []) × IsRequestText input.now requests) }
-    ensures bad { IfErr result (OnBadLine (λ number. IsFirstBadLine input.now number × IsNoRequestText input.now)) }
-{
-    let requests = requests_of(alloc, input)?;
-    let mut batches = Vec::new(alloc);
     batches.push(Batch::new(requests))?;
     Ok(batches)
 }

@@ -4,30 +4,67 @@ use std::test::Fail;
 
 #[test]
 fn requests_are_read(rt: HostRuntime) -> Result<(), Fail> {
-    let input = b"1 FIRM A\r\n1 FILE B I-1 A 10.00 2025-01-31\n1 CONFIRM B I-1 A";
+    let input = b"1 FIRM A\r\n16 FILE B I-1 A 10.00 2025-01-31\n10 CONFIRM B I-1 A";
     let batches = read_requests(rt.alloc(), input)?;
     assert_eq!(rt; batches.len(), 1);
     let requests = batches[0].requests();
     assert_eq!(rt; requests.len(), 3);
     let request = &requests[1];
-    assert!(rt; request.line == 2 && request.lane == 1);
+    assert!(rt; request.line == 2 && request.lane == 16);
     match &request.act {
         Act::File { amount, due, .. } => assert!(rt; *amount == 1000 && due.number() == 20_119),
         _ => assert!(rt; false),
     }
-    assert_eq!(rt; read_requests(rt.alloc(), b"")?.len(), 1);
+    Ok(())
+}
+
+#[test]
+fn fences_end_batches(rt: HostRuntime) -> Result<(), Fail> {
+    // an input, its batches, and the requests of the first and of the last
+    let cases: [(&[u8], usize, usize, usize); 6] = [
+        (b"", 1, 0, 0),
+        (b"1 FIRM A\nFENCE\n2 FIRM A", 2, 1, 1),
+        (b"1 FIRM A\r\n2 FIRM B\r\nFENCE\r\n", 2, 2, 0),
+        (b"FENCE\n1 FIRM A\n3 FIRM B", 2, 0, 2),
+        (b"FENCE", 2, 0, 0),
+        (b"FENCE\nFENCE\n1 FIRM A\nFENCE\n", 4, 0, 0),
+    ];
+    for (input, count, first, last) in cases {
+        let batches = read_requests(rt.alloc(), input)?;
+        assert_eq!(rt; batches.len(), count);
+        match batches.as_slice() {
+            [only] => assert_eq!(rt; only.requests().len(), first),
+            [begun, .., end] => {
+                assert!(rt; begun.requests().len() == first && end.requests().len() == last)
+            }
+            [] => assert!(rt; false),
+        }
+    }
+    let batches = read_requests(rt.alloc(), b"1 FIRM A\nFENCE\n2 FIRM A")?;
+    assert_eq!(rt; batches.len(), 2);
+    match batches[1].requests() {
+        [request] => assert!(rt; request.line == 3 && request.lane == 2),
+        _ => assert!(rt; false),
+    }
     Ok(())
 }
 
 #[test]
 fn bad_lines_have_causes(rt: HostRuntime) -> Result<(), Fail> {
-    let cases: [(&[u8], u64, LineCause); 38] = [
+    let cases: [(&[u8], u64, LineCause); 45] = [
         (b"\n", 1, LineCause::Lane),
         (b"\r", 1, LineCause::Lane),
         (b"1 FIRM A\n\n1 FIRM B\n", 2, LineCause::Lane),
-        (b"2 FIRM A", 1, LineCause::Lane),
+        (b"0 FIRM A", 1, LineCause::Lane),
+        (b"17 FIRM A", 1, LineCause::Lane),
         (b"01 FIRM A", 1, LineCause::Lane),
-        (b"FENCE", 1, LineCause::Lane),
+        (b"18446744073709551617 FIRM A", 1, LineCause::Lane),
+        (b"FIRM A", 1, LineCause::Lane),
+        (b"fence", 1, LineCause::Lane),
+        (b"FENCE ", 1, LineCause::Lane),
+        (b"FENCE\r", 1, LineCause::Lane),
+        (b"1 FENCE", 1, LineCause::Verb),
+        (b"FENCE\nFENCE\n16 FIRM a\n", 3, LineCause::Field(1)),
         (b" 1 FIRM A", 1, LineCause::Lane),
         (b"1", 1, LineCause::Verb),
         (b"1  FIRM A", 1, LineCause::Verb),
@@ -64,7 +101,7 @@ fn bad_lines_have_causes(rt: HostRuntime) -> Result<(), Fail> {
             LineCause::Field(4),
         ),
         (
-            b"1 FIRM A\n1 FILE B I-1 A 10.00 2025-02-30\n2 FIRM A",
+            b"1 FIRM A\n1 FILE B I-1 A 10.00 2025-02-30\n0 FIRM A",
             2,
             LineCause::Field(5),
         ),
@@ -82,9 +119,9 @@ fn bad_lines_have_causes(rt: HostRuntime) -> Result<(), Fail> {
 fn requests_are_written_as_they_were_read(rt: HostRuntime) -> Result<(), Fail> {
     let lines: [&[u8]; 15] = [
         b"1 FIRM A\n",
-        b"1 FILE B I-1 A 9999999999.99 9999-12-31\n",
+        b"16 FILE B I-1 A 9999999999.99 9999-12-31\n",
         b"1 CONFIRM B I-1 A\n",
-        b"1 DISPUTE B I-1 A\n",
+        b"10 DISPUTE B I-1 A\n",
         b"1 WITHDRAW B I-1\n",
         b"1 RECEIVE B I-1 0.01\n",
         b"1 FUND A 1.00\n",
@@ -103,7 +140,11 @@ fn requests_are_written_as_they_were_read(rt: HostRuntime) -> Result<(), Fail> {
         assert_eq!(rt; requests.len(), 1);
         let request = &requests[0];
         let mut written = Vec::with_capacity(rt.alloc(), 200)?;
-        if request.lane == 1 && request.act.valid() && !request.act.publishes() {
+        if 1 <= request.lane
+            && request.lane <= 16
+            && request.act.valid()
+            && !request.act.publishes()
+        {
             write_request(&mut written, request.lane, &request.act);
         }
         assert!(rt; written.as_slice() == line);
