@@ -1,5 +1,5 @@
 -- Without a fault the whole text is written, or memory is missing.
-use Rattle.std.specs.Prelude.{if◌then◌else◌, Option, Some, None}
+use Rattle.std.specs.Prelude.{Option, Some, None}
 use Rattle.std.proofs.Common.{◌≡◌, ℕ, ◌+◌, ◌≤◌, Bool, true, false, List, [], ◌∷◌, ◌++◌, length, ◌⊎◌, ⊎_elim, inl, inr, refl, sym, ◌∙◌, ap, subst, arith}
 use Rattle.std.specs.Io.KnownBytes.{Consumes, IsAtEnd, Appends}
 use Rattle.std.specs.Str.Lines.{lines}
@@ -26,7 +26,7 @@ use Rattle.served_lines.specs.Ends.{is_memory, is_full}
 use Rattle.desk_text.specs.Texts.{opening_status, opening_text, sound_text, unsound_status, unsound_text}
 use Rattle.printed_text.specs.Texts.{verdict_text, verdict_status}
 use Rattle.printed_text.specs.Writing.{IsWritten, whole, broken}
-use Rattle.bureau_program.specs.Runs.{some_device, some_end}
+use Rattle.bureau_program.specs.Runs.{some_device, some_end, status_by}
 use Rattle.bureau_program.specs.Headline.{IsHeadline}
 use Rattle.bureau_program.specs.Due.{AreRun, AreCheck, AreAudit, IsAuditDue, IsBadLineDue, IsBatchesDue, IsCheckDue, IsDue, IsReadDue, IsRunDue, Ran, no_output_memory, not_opened, served, no_line_memory, bad_line, no_request_memory, not_read, batches_read, no_statement_memory, bad_statement, judged, no_audit_memory, sound, unsound, no_input_memory, read_fault, too_long, input_read, bad_words, run_words, check_words, audit_words}
 use Rattle.bureau_program.specs.Completeness.{Completes, HoldsSound, IsAudited, IsComplete, IsJudged, IsWholeInput, all_written, some_full, no_memory, line_written, no_verdict_memory, sound_written}
@@ -47,9 +47,9 @@ ReadFailed status = status ≡ 3
 abbrev DiskFailed : ℕ → Type 0
 DiskFailed status = status ≡ 5
 
--- all requests served
-abbrev Served : {D : Type 0} → (D → Seen) → D → D → List Request → ℕ → List ℕ → Type 0
-Served seen old new requests status text = ((status ≡ 0) ⊎ (status ≡ 7)) × IsHeadline seen old new (requests ∷ []) status text
+-- all batches served
+abbrev Served : {D : Type 0} → (D → Seen) → D → D → List (List Request) → ℕ → List ℕ → Type 0
+Served seen old new batches status text = ((status ≡ 0) ⊎ (status ≡ 7)) × IsHeadline seen old new batches status text
 
 -- the verdict told
 abbrev Judged : CutView → OutcomeView → ℕ → List ℕ → Type 0
@@ -77,37 +77,33 @@ refused_ends Complete disk low high has (Overfull offset) h = absurd (no_fault d
 
 -- ---- what an input comes to
 
-abbrev status_by : Bool → Bool → Bool → ℕ
-status_by memory device full = if memory then 9 else if device then 5 else if full then 7 else 0
-
-module _ {D : Type 0} (seen : D → Seen) (old new : D) (requests : List Request) where
-  by_status : (memory device full : Bool) (status : ℕ) (text : List ℕ) → status ≡ status_by memory device full → IsHeadline seen old new (requests ∷ []) status text → Ends RunFailed (Served seen old new requests) status text
+module _ {D : Type 0} (seen : D → Seen) (old new : D) (batches : List (List Request)) where
+  by_status : (memory device full : Bool) (status : ℕ) (text : List ℕ) → status ≡ status_by memory device full → IsHeadline seen old new batches status text → Ends RunFailed (Served seen old new batches) status text
   by_status true device full status text is h = inr (inl is)
   by_status false true full status text is h = inl (inr (inr is))
   by_status false false true status text is h = inr (inr (inr is, h))
   by_status false false false status text is h = inr (inr (inl is, h))
 
-  headline_ends : (status : ℕ) (text : List ℕ) → IsHeadline seen old new (requests ∷ []) status text → Ends RunFailed (Served seen old new requests) status text
+  headline_ends : (status : ℕ) (text : List ℕ) → IsHeadline seen old new batches status text → Ends RunFailed (Served seen old new batches) status text
   headline_ends status text h = ⊎_elim
       (λ all. by_status (some_end is_memory h.done) (some_device h.done) (some_end is_full h.done) status text all.1 h)
       (λ four. inl (inr (inl four)))
       h.all.ended
 
-  batches_ends : HoldsSound (seen old) → (status : ℕ) (text : List ℕ) → IsBatchesDue seen old new (requests ∷ []) status text → Ends RunFailed (Served seen old new requests) status text
-  batches_ends has status text (no_output_memory same) = no_room RunFailed (Served seen old new requests) text
-  batches_ends has status text (not_opened cause refused) = refused_ends (Served seen old new requests) (seen old) (seen old).count (seen new).count has cause refused.has
+  batches_ends : HoldsSound (seen old) → (status : ℕ) (text : List ℕ) → IsBatchesDue seen old new batches status text → Ends RunFailed (Served seen old new batches) status text
+  batches_ends has status text (no_output_memory same) = no_room RunFailed (Served seen old new batches) text
+  batches_ends has status text (not_opened cause refused) = refused_ends (Served seen old new batches) (seen old) (seen old).count (seen new).count has cause refused.has
   batches_ends has status text (served s t h) = headline_ends s t h
 
-  bad_ends : (input : List ℕ) → IsRequestText input requests → (status : ℕ) (text : List ℕ) → IsBadLineDue input status text → Ends RunFailed (Served seen old new requests) status text
-  bad_ends input spelled status text no_line_memory = no_room RunFailed (Served seen old new requests) text
-  bad_ends input spelled status text (bad_line line cause first none) = absurd (none requests spelled)
+  bad_ends : (input : List ℕ) → IsRequestText input batches → (status : ℕ) (text : List ℕ) → IsBadLineDue input status text → Ends RunFailed (Served seen old new batches) status text
+  bad_ends input spelled status text no_line_memory = no_room RunFailed (Served seen old new batches) text
+  bad_ends input spelled status text (bad_line line cause first none) = absurd (none batches spelled)
 
-  run_ends : HoldsSound (seen old) → (input : List ℕ) → IsRequestText input requests → (status : ℕ) (text : List ℕ) → IsRunDue seen old new input status text → Ends RunFailed (Served seen old new requests) status text
-  run_ends has input spelled status text (no_request_memory same) = no_room RunFailed (Served seen old new requests) text
+  run_ends : HoldsSound (seen old) → (input : List ℕ) → IsRequestText input batches → (status : ℕ) (text : List ℕ) → IsRunDue seen old new input status text → Ends RunFailed (Served seen old new batches) status text
+  run_ends has input spelled status text (no_request_memory same) = no_room RunFailed (Served seen old new batches) text
   run_ends has input spelled status text (not_read same s t due) = bad_ends input spelled s t due
-  run_ends has input spelled status text (batches_read batches is s t due) =
-      let one : is.0 ≡ requests = read_back_law.only input is.0 requests is.2 spelled in
-      batches_ends has s t (subst (λ (bs : List (List Request)). IsBatchesDue seen old new bs s t) (is.1 ∙ ap (λ (rs : List Request). rs ∷ []) one) due)
+  run_ends has input spelled status text (batches_read others is s t due) =
+      batches_ends has s t (subst (λ (bs : List (List Request)). IsBatchesDue seen old new bs s t) (read_back_law.only input others batches is spelled) due)
 
 check_ends : (input : List ℕ) (cut : CutView) (outcome : OutcomeView) → IsStatement (lines input) cut outcome → (status : ℕ) (text : List ℕ) → IsCheckDue input status text → Ends ReadFailed (Judged cut outcome) status text
 check_ends input cut outcome spelled status text no_statement_memory = no_room ReadFailed (Judged cut outcome) text
@@ -170,14 +166,14 @@ check_not_audit words check audit = let same : 99 ≡ 97 = ap first_code (sym ch
 -- ---- what the words come to
 
 module _ {S D : Type 0} (left : S → Option (List ℕ)) (seen : D → Seen) (words : List (List ℕ)) (source source' : S) (disk disk' : D) where
-  run_due_ends : (requests : List Request) → AreRun words → IsWholeInput (λ input. IsRequestText input requests) (left source) → HoldsSound (seen disk) → (status : ℕ) (text : List ℕ) → IsDue left seen words source source' disk disk' status text
-      → Ends RunFailed (Served seen disk disk' requests) status text
-  run_due_ends requests run input has status text (bad_words none same still) = absurd (none.0 run)
-  run_due_ends requests run input has status text (run_words _ s t due) =
-      read_ends (IsRunDue seen disk disk') (disk' ≡ disk) RunFailed (Served seen disk disk' requests) input.input input.within (inl refl) (run_ends seen disk disk' requests has input.input input.holds) (left source') s t
+  run_due_ends : (batches : List (List Request)) → AreRun words → IsWholeInput (λ input. IsRequestText input batches) (left source) → HoldsSound (seen disk) → (status : ℕ) (text : List ℕ) → IsDue left seen words source source' disk disk' status text
+      → Ends RunFailed (Served seen disk disk' batches) status text
+  run_due_ends batches run input has status text (bad_words none same still) = absurd (none.0 run)
+  run_due_ends batches run input has status text (run_words _ s t due) =
+      read_ends (IsRunDue seen disk disk') (disk' ≡ disk) RunFailed (Served seen disk disk' batches) input.input input.within (inl refl) (run_ends seen disk disk' batches has input.input input.holds) (left source') s t
       (subst (λ (l : Option (List ℕ)). IsReadDue (IsRunDue seen disk disk') (disk' ≡ disk) l (left source') s t) input.told due)
-  run_due_ends requests run input has status text (check_words check same s t due) = absurd (run_not_check words run check)
-  run_due_ends requests run input has status text (audit_words audit same quiet s t due) = absurd (run_not_audit words run audit)
+  run_due_ends batches run input has status text (check_words check same s t due) = absurd (run_not_check words run check)
+  run_due_ends batches run input has status text (audit_words audit same quiet s t due) = absurd (run_not_audit words run audit)
 
   check_due_ends : (cut : CutView) (outcome : OutcomeView) → AreCheck words → IsWholeInput (λ input. IsStatement (lines input) cut outcome) (left source) → (status : ℕ) (text : List ℕ)
       → IsDue left seen words source source' disk disk' status text → Ends ReadFailed (Judged cut outcome) status text
@@ -203,10 +199,10 @@ written_ends Failed Complete Whole x y due text status (whole taken) (inr (inl e
 written_ends Failed Complete Whole x y due text status (whole taken) (inr (inr done)) none all failed write = all done taken
 written_ends Failed Complete Whole x y due text status (broken part) e none all failed write = absurd (write refl)
 
-all_served : {D : Type 0} (seen : D → Seen) (old new : D) (requests : List Request) (x y : Option (List ℕ)) (due : ℕ) (text : List ℕ) → Served seen old new requests due text → Appends x y text → IsComplete seen old new requests x y due
-all_served seen old new requests x y due text done taken = ⊎_elim
-    (λ is. subst (IsComplete seen old new requests x y) (sym is) (all_written text (subst (λ (s : ℕ). IsHeadline seen old new (requests ∷ []) s text) is done.1) taken))
-    (λ is. subst (IsComplete seen old new requests x y) (sym is) (some_full text (subst (λ (s : ℕ). IsHeadline seen old new (requests ∷ []) s text) is done.1) taken))
+all_served : {D : Type 0} (seen : D → Seen) (old new : D) (batches : List (List Request)) (x y : Option (List ℕ)) (due : ℕ) (text : List ℕ) → Served seen old new batches due text → Appends x y text → IsComplete seen old new batches x y due
+all_served seen old new batches x y due text done taken = ⊎_elim
+    (λ is. subst (IsComplete seen old new batches x y) (sym is) (all_written text (subst (λ (s : ℕ). IsHeadline seen old new batches s text) is done.1) taken))
+    (λ is. subst (IsComplete seen old new batches x y) (sym is) (some_full text (subst (λ (s : ℕ). IsHeadline seen old new batches s text) is done.1) taken))
     done.0
 
 line_told : (cut : CutView) (outcome : OutcomeView) (x y : Option (List ℕ)) (due : ℕ) (text : List ℕ) → Judged cut outcome due text → Appends x y text → IsJudged cut outcome x y due
@@ -221,9 +217,9 @@ pub completes : {S D : Type 0} (left : S → Option (List ℕ)) (seen : D → Se
     → Ran left seen told source source' disk disk' x y status → told ≡ words → (status ≡ 3 → ReadFault) → (status ≡ 4 → WriteFault) → (status ≡ 5 → HasRisen (seen disk).count (seen disk').count)
     → Completes seen words (left source) disk disk' x y ReadFault WriteFault status
 completes left seen words told source source' disk disk' x y ReadFault WriteFault status ran same read write risen = record {
-  of_run = λ run requests input has no_read no_write no_rise.
-      written_ends RunFailed (Served seen disk disk' requests) (IsComplete seen disk disk' requests x y) x y ran.due ran.text status ran.is_written
-      (run_due_ends left seen told source source' disk disk' requests (same ∙ run) input has ran.due ran.text ran.is_due) no_memory (all_served seen disk disk' requests x y ran.due ran.text)
+  of_run = λ run batches input has no_read no_write no_rise.
+      written_ends RunFailed (Served seen disk disk' batches) (IsComplete seen disk disk' batches x y) x y ran.due ran.text status ran.is_written
+      (run_due_ends left seen told source source' disk disk' batches (same ∙ run) input has ran.due ran.text ran.is_due) no_memory (all_served seen disk disk' batches x y ran.due ran.text)
       (λ failed. ⊎_elim (λ e. no_read (read e)) (λ other. ⊎_elim (λ e. no_write (write e)) (λ e. no_rise (risen e)) other) failed) (λ e. no_write (write e));
   of_check = λ check cut outcome input no_read no_write.
       written_ends ReadFailed (Judged cut outcome) (IsJudged cut outcome x y) x y ran.due ran.text status ran.is_written

@@ -4,5 +4,8 @@ pub mod Written
 pub mod Printed
 pub mod Reading
 pub mod Commands
+pub mod Unasked
+pub mod OneBatch
+pub mod Batches
 pub mod Served
 pub mod Completeness

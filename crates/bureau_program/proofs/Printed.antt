@@ -1,62 +1,56 @@
 -- What of a desk's history is printed.
-use Rattle.std.specs.Prelude.{Option, Result, Ok, Err, OnErr, OnOk, is_err, drop, take}
-use Rattle.std.specs.List.{list_any}
-use Rattle.std.specs.Io.KnownBytes.{Appends}
-use Rattle.std.proofs.Common.{◌≡◌, ◌∙◌, ⊎_elim, ℕ, Bool, true, false, List, if◌then◌else◌, sym, ap, subst, true≢false, arith}
-use Rattle.bureau_edge.specs.Streams.{AppendsPart}
+use Rattle.std.specs.Prelude.{Option, Some, None, Result, Ok, Err, OnErr, OnOk, is_err, drop, take}
+use Rattle.std.proofs.Common.{◌≡◌, ◌∙◌, ℕ, Bool, true, false, List, [], ◌++◌, refl, sym, ap, true≢false, arith}
 use Rattle.claim_history.specs.declared.entry.Entry.{Entry}
-use Rattle.claim_history.specs.Needs.{is_of_device}
+use Rattle.request_text.specs.declared.request.Request.{Request}
 use Rattle.served_lines.specs.declared.answer.Answer.{Answer}
-use Rattle.served_lines.specs.Ends.{is_memory, is_full, has_end}
-use Rattle.printed_text.specs.Printing.{printed_of}
-use Rattle.printed_text.specs.Writing.{IsWritten, whole, broken}
-use Rattle.bureau_program.specs.Runs.{IsBatchWritten, batch_status}
-use Rattle.bureau_program.proofs.Written.{told_status}
+use Rattle.printed_text.specs.Printing.{added_text, ends_text, printed_of, unanswered}
+use Rattle.bureau_program.specs.Runs.{status_by}
+use Rattle.bureau_program.specs.Serving.{answers_of}
 
 -- from the same place of the same history
 pub printed_same : (n m : ℕ) (h l : List Entry) (answers : List Answer) → n ≡ m → h ≡ l → printed_of (take n h) (drop n h) answers ≡ printed_of (take m l) (drop m l) answers
 printed_same n m h l answers place is =
     ap (λ (k : ℕ). printed_of (take k h) (drop k h) answers) place ∙ ap (λ (x : List Entry). printed_of (take m x) (drop m x) answers) is
 
--- a batch was written whole, with its status
-pub batch_whole : (x y : Option (List ℕ)) (before added : List Entry) (answers : List Answer) (status : ℕ) → status ≡ batch_status answers added → Appends x y (printed_of before added answers) → IsBatchWritten x y before added answers status
-batch_whole x y before added answers status is taken =
-    subst (λ (n : ℕ). IsWritten x y (batch_status answers added) (printed_of before added answers) n) (sym is) (whole taken)
+-- of a batch whose lines were asked, and of one whose lines were not
+pub printed_asked : (from : ℕ) (said history : List Entry) (requests : List Request) (told list : List Answer) (answers : Option (List Answer)) → said ≡ history → told ≡ list → answers ≡ Some list
+    → printed_of (take from said) (drop from said) told ≡ printed_of (take from history) (drop from history) (answers_of requests answers)
+printed_asked from said history requests told list answers is same some =
+    ap (λ (l : List Entry). printed_of (take from l) (drop from l) told) is
+    ∙ ap (λ (a : List Answer). printed_of (take from history) (drop from history) a) (same ∙ sym (ap (answers_of requests) some))
 
--- some first bytes of it were written
-pub batch_broken : (x y : Option (List ℕ)) (before added : List Entry) (answers : List Answer) → AppendsPart x y (printed_of before added answers) → IsBatchWritten x y before added answers 4
-batch_broken x y before added answers part = broken part
+pub printed_unasked : (from : ℕ) (history : List Entry) (requests : List Request) (answers : Option (List Answer)) → answers ≡ None → drop from history ≡ []
+    → ends_text (unanswered requests) ≡ printed_of (take from history) (drop from history) (answers_of requests answers)
+printed_unasked from history requests answers none empty =
+    sym (ap (λ (l : List Entry). printed_of (take from history) l (answers_of requests answers)) empty ∙ ap (λ (a : Option (List Answer)). ends_text (answers_of requests a)) none)
 
-abbrev status_by : Bool → Bool → Bool → ℕ
-status_by memory device full = if memory then 9 else if device then 5 else if full then 7 else 0
+-- the same of a batch that is told by the requests of its lines
+pub printed_from : (n m : ℕ) (history : List Entry) (requests batch : List Request) (answers : Option (List Answer)) → n ≡ m → requests ≡ batch
+    → printed_of (take n history) (drop n history) (answers_of requests answers) ≡ printed_of (take m history) (drop m history) (answers_of batch answers)
+printed_from n m history requests batch answers place is =
+    ap (λ (k : ℕ). printed_of (take k history) (drop k history) (answers_of requests answers)) place
+    ∙ ap (λ (rs : List Request). printed_of (take m history) (drop m history) (answers_of rs answers)) is
 
-no_four_by : (memory device full : Bool) → status_by memory device full ≡ 4 → ⊥
+-- the status of batches tells neither of the sink nor of a source
+pub no_four_by : (memory device full : Bool) → status_by memory device full ≡ 4 → ⊥
 no_four_by true device full four = omega (arith, four)
 no_four_by false true full four = omega (arith, four)
 no_four_by false false true four = omega (arith, four)
 no_four_by false false false four = omega (arith, four)
 
-no_three_by : (memory device full : Bool) → status_by memory device full ≡ 3 → ⊥
+pub no_three_by : (memory device full : Bool) → status_by memory device full ≡ 3 → ⊥
 no_three_by true device full three = omega (arith, three)
 no_three_by false true full three = omega (arith, three)
 no_three_by false false true three = omega (arith, three)
 no_three_by false false false three = omega (arith, three)
 
--- the status of a batch tells neither of the sink nor of a source
-pub batch_no_four : (answers : List Answer) (added : List Entry) → batch_status answers added ≡ 4 → ⊥
-batch_no_four answers added four = no_four_by (has_end is_memory answers) (list_any (λ e. is_of_device e.reply) added) (has_end is_full answers) four
-
-pub batch_no_three : (x y : Option (List ℕ)) (before added : List Entry) (answers : List Answer) (status : ℕ) → IsBatchWritten x y before added answers status → status ≡ 3 → ⊥
-batch_no_three x y before added answers status written three = ⊎_elim
-    (λ due. no_three_by (has_end is_memory answers) (list_any (λ e. is_of_device e.reply) added) (has_end is_full answers) (sym due ∙ three))
-    (λ four. omega (arith, four, three))
-    (told_status x y (batch_status answers added) (printed_of before added answers) status written)
-
--- the same of a batch from a place on
-pub batch_same : (x y : Option (List ℕ)) (n m : ℕ) (history : List Entry) (said answers : List Answer) (status : ℕ) → n ≡ m → said ≡ answers → IsBatchWritten x y (take n history) (drop n history) said status
-    → IsBatchWritten x y (take m history) (drop m history) answers status
-batch_same x y n m history said answers status place told w =
-    subst (λ (a : List Answer). IsBatchWritten x y (take m history) (drop m history) a status) told (subst (λ (k : ℕ). IsBatchWritten x y (take k history) (drop k history) said status) place w)
+-- a status of 5 tells of a device
+pub five_by : (memory device full : Bool) → status_by memory device full ≡ 5 → device ≡ true
+five_by true device full is = absurd (omega (arith, is))
+five_by false true full is = refl
+five_by false false true is = absurd (omega (arith, is))
+five_by false false false is = absurd (omega (arith, is))
 
 -- ---- results
 

@@ -1,11 +1,10 @@
 -- What was due after the reading of an input.
 use Rattle.std.specs.Prelude.{Option, codes}
-use Rattle.std.proofs.Common.{◌≡◌, ◌∙◌, ℕ, List, [], ◌∷◌, ap, get_or}
+use Rattle.std.proofs.Common.{ℕ, List}
 use Rattle.bureau_edge.specs.declared.whole.ReadEnd.{ReadEnd}
 use Rattle.bureau_edge.specs.declared.whole.ReadEnd.TheVariants as ends
 use Rattle.bureau_edge.specs.Streams.{EndsReading, TakesAll}
 use Rattle.setoff_model.specs.Limits.{most_input_bytes}
-use Rattle.request_text.specs.declared.request.Request.{Request}
 use Rattle.printed_text.specs.Writing.{Wrote}
 use Rattle.bureau_program.specs.Due.{IsReadDue, IsToldUnread, no_input_memory, read_fault, too_long, input_read}
 use Rattle.bureau_program.proofs.Written.{wrote_for, wrote_line}
@@ -21,7 +20,3 @@ wrote_unread P Untouched old new x y ends.TooLong status same ended told = wrote
 pub wrote_read : (P : List ℕ → ℕ → List ℕ → Type 0) (Untouched : Type 0) (old new x y : Option (List ℕ)) (input : List ℕ) (status : ℕ) → TakesAll most_input_bytes old new input → Wrote (P input) x y status
     → Wrote (IsReadDue P Untouched old new) x y status
 wrote_read P Untouched old new x y input status taken w = wrote_for (P input) (IsReadDue P Untouched old new) x y status (input_read input taken) w
-
--- the only batch
-pub one_batch : (batches : List (List Request)) (requests item found : List Request) → batches ≡ requests ∷ [] → item ≡ get_or batches 0 item → found ≡ item → found ≡ requests
-one_batch batches requests item found e i f = f ∙ i ∙ ap (λ (bs : List (List Request)). get_or bs 0 item) e

@@ -1,5 +1,5 @@
 -- What a call ends with where no source, sink or disk fails.
-use Rattle.std.specs.Prelude.{◌≡◌, ℕ, ◌≤◌, Bool, List, [], ◌∷◌, length, Option, Some, IsTrue}
+use Rattle.std.specs.Prelude.{◌≡◌, ℕ, ◌≤◌, Bool, List, length, Option, Some, IsTrue}
 use Rattle.std.specs.Io.KnownBytes.{Appends}
 use Rattle.std.specs.Str.Lines.{lines}
 use Rattle.fault_count.specs.Counts.{HasRisen}
@@ -35,12 +35,12 @@ pub record HoldsSound (disk : Seen) : Type 0 where
   pub found : AreFound disk.tells disk.reads records
   pub sound : AreSound records
 
--- The requests were served, and the sink took the whole text: each line was replied to, or a line was full and none without
+-- The batches were served, and the sink took the whole text: each line was replied to, or a line was full and none without
 -- memory; or memory was missing.
-pub data IsComplete {D : Type 0} (seen : D → Seen) (old new : D) (requests : List Request) (held_old held_new : Option (List ℕ)) : ℕ → Type 0 where
-  all_written : (text : List ℕ) → IsHeadline seen old new (requests ∷ []) 0 text → Appends held_old held_new text → IsComplete seen old new requests held_old held_new 0
-  some_full : (text : List ℕ) → IsHeadline seen old new (requests ∷ []) 7 text → Appends held_old held_new text → IsComplete seen old new requests held_old held_new 7
-  no_memory : IsComplete seen old new requests held_old held_new 9
+pub data IsComplete {D : Type 0} (seen : D → Seen) (old new : D) (batches : List (List Request)) (held_old held_new : Option (List ℕ)) : ℕ → Type 0 where
+  all_written : (text : List ℕ) → IsHeadline seen old new batches 0 text → Appends held_old held_new text → IsComplete seen old new batches held_old held_new 0
+  some_full : (text : List ℕ) → IsHeadline seen old new batches 7 text → Appends held_old held_new text → IsComplete seen old new batches held_old held_new 7
+  no_memory : IsComplete seen old new batches held_old held_new 9
 
 -- the status is that of the verdict, and the sink took its whole line; or memory was missing
 pub data IsJudged (cut : CutView) (outcome : OutcomeView) (held_old held_new : Option (List ℕ)) : ℕ → Type 0 where
@@ -54,8 +54,8 @@ pub data IsAudited (tells : Bool) (bytes : List ℕ) (held_old held_new : Option
 
 -- so it is for the text of requests, for a statement, and for a sound journal, where no fault was counted
 pub record Completes {D : Type 0} (seen : D → Seen) (words : List (List ℕ)) (left : Option (List ℕ)) (old new : D) (held_old held_new : Option (List ℕ)) (ReadFault WriteFault : Type 0) (status : ℕ) : Type 0 where
-  pub of_run : AreRun words → (requests : List Request) → IsWholeInput (λ input. IsRequestText input requests) left → HoldsSound (seen old)
-      → (ReadFault → ⊥) → (WriteFault → ⊥) → (HasRisen (seen old).count (seen new).count → ⊥) → IsComplete seen old new requests held_old held_new status
+  pub of_run : AreRun words → (batches : List (List Request)) → IsWholeInput (λ input. IsRequestText input batches) left → HoldsSound (seen old)
+      → (ReadFault → ⊥) → (WriteFault → ⊥) → (HasRisen (seen old).count (seen new).count → ⊥) → IsComplete seen old new batches held_old held_new status
   pub of_check : AreCheck words → (cut : CutView) (outcome : OutcomeView) → IsWholeInput (λ input. IsStatement (lines input) cut outcome) left
       → (ReadFault → ⊥) → (WriteFault → ⊥) → IsJudged cut outcome held_old held_new status
   pub of_audit : AreAudit words → HoldsSound (seen old)

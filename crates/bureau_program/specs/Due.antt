@@ -39,10 +39,6 @@ AreNoWords words = (AreRun words → ⊥) × (AreCheck words → ⊥) × (AreAud
 
 -- ---- batches
 
--- the text of an input is that of these batches
-abbrev pub IsBatchText : List ℕ → List (List Request) → Type 0
-IsBatchText input batches = (requests : List Request) × (batches ≡ requests ∷ []) × IsRequestText input requests
-
 -- The status and the text that batches come to: there was no memory for their output; the disk was not opened; or they were
 -- served.
 pub data IsBatchesDue {D : Type 0} (seen : D → Seen) (old new : D) (batches : List (List Request)) : ℕ → List ℕ → Type 0 where
@@ -59,7 +55,7 @@ pub data IsBadLineDue (input : List ℕ) : ℕ → List ℕ → Type 0 where
 pub data IsRunDue {D : Type 0} (seen : D → Seen) (old new : D) (input : List ℕ) : ℕ → List ℕ → Type 0 where
   no_request_memory : new ≡ old → IsRunDue seen old new input 9 (codes "fault memory\n")
   not_read : new ≡ old → (status : ℕ) (text : List ℕ) → IsBadLineDue input status text → IsRunDue seen old new input status text
-  batches_read : (batches : List (List Request)) → IsBatchText input batches → (status : ℕ) (text : List ℕ) → IsBatchesDue seen old new batches status text → IsRunDue seen old new input status text
+  batches_read : (batches : List (List Request)) → IsRequestText input batches → (status : ℕ) (text : List ℕ) → IsBatchesDue seen old new batches status text → IsRunDue seen old new input status text
 
 -- ---- statements
 

@@ -1,5 +1,5 @@
 -- The batches of a run.
-use Rattle.std.specs.Prelude.{◌≡◌, ◌⊎◌, Bool, ℕ, List, [], ◌∷◌, ◌++◌, map, flat_map, Option, if◌then◌else◌}
+use Rattle.std.specs.Prelude.{◌≡◌, ◌⊎◌, Bool, ℕ, List, [], ◌∷◌, ◌++◌, map, flat_map, if◌then◌else◌}
 use Rattle.std.specs.List.{list_any}
 use Rattle.claim_history.specs.declared.entry.Entry.{Entry}
 use Rattle.claim_history.specs.Needs.{is_of_device}
@@ -9,7 +9,6 @@ use Rattle.served_lines.specs.declared.line_end.LineEnd.{LineEnd}
 use Rattle.served_lines.specs.Ends.{is_memory, is_full, has_end}
 use Rattle.served_lines.specs.Served.{IsServed}
 use Rattle.printed_text.specs.Printing.{printed_of}
-use Rattle.printed_text.specs.Writing.{IsWritten}
 
 -- a batch: its requests, what came of its lines, and the entries that it added
 pub record Done : Type 0 where
@@ -39,21 +38,16 @@ some_end test bs = list_any (λ b. has_end test b.answers) bs
 abbrev pub some_device : List Done → Bool
 some_device bs = list_any (λ e. is_of_device e.reply) (all_added bs)
 
--- of a batch: 9 where there was no memory for a line, else 5 where an entry tells of a device, else 7 where a line was full, else 0
-abbrev pub batch_status : List Answer → List Entry → ℕ
-batch_status answers added =
-    if has_end is_memory answers then 9 else if list_any (λ e. is_of_device e.reply) added then 5 else if has_end is_full answers then 7 else 0
+-- 9 where there was no memory for a line, else 5 where an entry tells of a device, else 7 where a line was full, else 0
+abbrev pub status_by : Bool → Bool → Bool → ℕ
+status_by memory device full = if memory then 9 else if device then 5 else if full then 7 else 0
 
--- of all batches: 9 where there was no memory for a line, else 5 where an entry tells of a device, else 7 where a line was full, else 0
+-- the same of all batches
 abbrev pub end_status : List Done → ℕ
-end_status bs = if some_end is_memory bs then 9 else if some_device bs then 5 else if some_end is_full bs then 7 else 0
+end_status bs = status_by (some_end is_memory bs) (some_device bs) (some_end is_full bs)
 
 -- the batches are these; they are all, unless a write failed
 pub record AreOf (batches : List (List Request)) (status : ℕ) (bs : List Done) : Type 0 where
   pub rest : List (List Request)
   pub in_order : batches ≡ map (λ b. b.requests) bs ++ rest
   pub ended : ((rest ≡ []) × (status ≡ end_status bs)) ⊎ (status ≡ 4)
-
--- The text of a batch was written whole, and this is its status; or it is 4, and some first bytes were written.
-abbrev pub IsBatchWritten : Option (List ℕ) → Option (List ℕ) → List Entry → List Entry → List Answer → ℕ → Type 0
-IsBatchWritten held_old held_new before added answers status = IsWritten held_old held_new (batch_status answers added) (printed_of before added answers) status

@@ -5,8 +5,8 @@
 //! The word `run` reads requests and serves them in order on a desk over the disk's journal. The word `check` reads a statement
 //! and judges it. The word `audit` replays the journal and tells whether it is sound.
 //!
-//! - The input is read whole before the disk is called, and all is served before anything is printed, but the abandonment of a
-//!   round that the journal left open, which is printed first.
+//! - The input is read whole before the disk is called. Then batch after batch is served, and its text is printed before the next
+//!   one is served. The abandonment of a round that the journal left open is printed first.
 //! - Each reply is the one reply of the entries before it, or tells of a fault that the disk counted.
 //! - An accepted act is on the disk before its reply is printed.
 //! - A Close that is accepted is followed by the publication of its round: solved, certified, and never without a proof.
@@ -20,6 +20,8 @@ mod command;
 #[cfg(test)]
 mod journal_tests;
 mod run;
+mod serving;
+mod tally;
 #[cfg(test)]
 mod tests;
 mod top;

@@ -26,7 +26,9 @@ use Rattle.claim_history.proofs.Open.{number_from}
 use Rattle.claim_history.proofs.Pasts.{legal_first, reverse_parts}
 use Rattle.claim_history.proofs.Published.{later_cuts, past_cuts_longer, past_cuts_more}
 use Rattle.round_cut.proofs.OpenCut.{open_formed_law}
+use Rattle.request_text.specs.declared.request.Request.{Request}
 use Rattle.served_lines.specs.declared.answer.Answer.{Answer}
+use Rattle.served_lines.specs.declared.line_end.LineEnd.TheVariants as ends
 use Rattle.statement_text.specs.declared.line.Line.{Line}
 use Rattle.statement_text.specs.declared.line.Line.TheVariants as line
 use Rattle.statement_text.specs.Lines.{line_text}
@@ -34,7 +36,7 @@ use Rattle.entry_text.specs.Entries.{entry_line}
 use Rattle.statement_text.specs.Statements.{party_lines, claim_line, claim_lines, front_of, statement_bytes}
 use Rattle.bureau_edge.specs.Streams.{AppendsPart}
 use Rattle.printed_text.specs.Writing.{Passes}
-use Rattle.printed_text.specs.Printing.{IsPrintable, IsPrintableAt, added_text, end_text, ends_text, entry_text, line_bytes, lines_bytes, open_cut, rounds_in, statement_of}
+use Rattle.printed_text.specs.Printing.{IsPrintable, IsPrintableAt, added_text, end_text, ends_text, entry_text, line_bytes, lines_bytes, open_cut, rounds_in, statement_of, unanswered}
 use Rattle.printed_text.proofs.Passing.{pass_then, part_then, part_more}
 
 -- ---- lines that were not replied to
@@ -43,6 +45,11 @@ use Rattle.printed_text.proofs.Passing.{pass_then, part_then, part_more}
 pub ends_from : (answers : List Answer) (i : ℕ) (answer : Answer) → i < length answers
     → ends_text (drop i answers) ≡ end_text (get_or answers i answer).line (get_or answers i answer).end ++ ends_text (drop (i + 1) answers)
 ends_from answers i answer lt = rw (add-one, drop-cons answers i answer) refl
+
+-- of lines for which there was no memory
+pub unanswered_from : (requests : List Request) (i : ℕ) (request : Request) → i < length requests
+    → ends_text (unanswered (drop i requests)) ≡ end_text (get_or requests i request).line ends.Memory ++ ends_text (unanswered (drop (i + 1) requests))
+unanswered_from requests i request lt = rw (add-one, drop-cons requests i request) refl
 
 -- ---- statements
 

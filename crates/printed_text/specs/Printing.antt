@@ -13,6 +13,7 @@ use Rattle.statement_text.specs.declared.line.Line.{Line}
 use Rattle.statement_text.specs.Lines.{line_text}
 use Rattle.entry_text.specs.Entries.{entry_line}
 use Rattle.statement_text.specs.Statements.{statement_bytes}
+use Rattle.request_text.specs.declared.request.Request.{Request}
 use Rattle.served_lines.specs.declared.answer.Answer.{Answer}
 use Rattle.served_lines.specs.declared.line_end.LineEnd.{LineEnd}
 use Rattle.served_lines.specs.declared.line_end.LineEnd.TheVariants as ends
@@ -76,6 +77,11 @@ end_text line (ends.Full what needed limit) = full_line line what needed limit
 abbrev pub ends_text : List Answer → List ℕ
 ends_text [] = []
 ends_text (answer ∷ answers) = end_text answer.line answer.end ++ ends_text answers
+
+-- the answers of a batch for none of whose lines there was memory
+abbrev pub unanswered : List Request → List Answer
+unanswered [] = []
+unanswered (request ∷ requests) = record { line = request.line; end = ends.Memory } ∷ unanswered requests
 
 -- the entries that a batch added to a history, then a line for each of its lines that was not replied to
 abbrev pub printed_of : List Entry → List Entry → List Answer → List ℕ

@@ -20,5 +20,5 @@ mod verdict_text;
 
 pub use ending::end_with;
 pub use fault_text::{write_bad_line, write_bad_statement};
-pub use output::{output_buffer, print_batch};
+pub use output::{output_buffer, print_batch, print_unanswered};
 pub use verdict_text::{status_of_verdict, write_verdict};

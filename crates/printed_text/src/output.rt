@@ -9,7 +9,7 @@ ghost use Rattle.claim_history.specs.History.{IsLegal, AreValid};
 ghost use Rattle.claim_history.specs.Laws.{IsReplyInRange};
 ghost use Rattle.claim_history.specs.Rounds.{cuts_after};
 ghost use Rattle.entry_text.specs.Entries.{entry_line};
-ghost use Rattle.printed_text.specs.Printing.{added_text, end_text, ends_text, statement_of, IsPrintableAt, rounds_in, printed_of};
+ghost use Rattle.printed_text.specs.Printing.{added_text, end_text, ends_text, statement_of, IsPrintableAt, rounds_in, printed_of, unanswered};
 ghost use Rattle.printed_text.specs.Writing.{Passes};
 
 use crate::fault_text::{write_full_line, write_memory_line};
@@ -17,6 +17,7 @@ use crate::statement::print_statement;
 use bureau_edge::{Failed, Sink, write_all};
 use claim_history::{Act, Entry, Reply};
 use entry_text::write_entry;
+use request_text::Request;
 use served_lines::{Answer, LineEnd};
 use setoff_model::Cut;
 use std::alloc::{AllocError, Global};
@@ -228,5 +229,45 @@ pub fn print_batch<K: Sink>(
 {
     print_entries(sink, buffer, history, from, rounds)?;
     print_ends(sink, buffer, answers)?;
+    flush(sink, buffer)
+}
+
+// Prints that there was no memory for any line of a batch.
+fn print_memory_lines<K: Sink>(
+    sink: &mut K,
+    buffer: &mut Vec<u8>,
+    requests: &[Request],
+) -> Result<(), Failed>
+    requires spare { 65536 ≤ vec_capacity buffer.old }
+    ensures ok { OnOk result (Passes (K.held sink.old) (K.held sink.new) buffer.old.items buffer.new.items (ends_text (unanswered requests.now))) }
+    ensures part { OnErr result (AppendsPart (K.held sink.old) (K.held sink.new) (buffer.old.items ++ ends_text (unanswered requests.now))) }
+    ensures cause { IsCounted (K.faults sink.old) (K.faults sink.new) result }
+    ensures room { 65536 ≤ vec_capacity buffer.new }
+{
+    for request in requests {
+        let answer = Answer {
+            line: request.line,
+            end: LineEnd::Memory,
+        };
+        print_end(sink, buffer, &answer)?;
+    }
+    Ok(())
+}
+
+/// Prints a line for each line of a batch none of which was asked, for want of memory. The buffer is as for `print_batch`.
+pub fn print_unanswered<K: Sink>(
+    sink: &mut K,
+    buffer: &mut Vec<u8>,
+    requests: &[Request],
+) -> Result<(), Failed>
+    requires empty { buffer.old.items ≡ [] }
+    requires spare { 65536 ≤ vec_capacity buffer.old }
+    ensures ok { OnOk result (Appends (K.held sink.old) (K.held sink.new) (ends_text (unanswered requests.now))) }
+    ensures emptied { OnOk result (buffer.new.items ≡ []) }
+    ensures part { OnErr result (AppendsPart (K.held sink.old) (K.held sink.new) (ends_text (unanswered requests.now))) }
+    ensures cause { IsCounted (K.faults sink.old) (K.faults sink.new) result }
+    ensures room { 65536 ≤ vec_capacity buffer.new }
+{
+    print_memory_lines(sink, buffer, requests)?;
     flush(sink, buffer)
 }

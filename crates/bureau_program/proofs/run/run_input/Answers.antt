@@ -1,27 +1,25 @@
 use Rattle.std.specs.Prelude.{codes}
-use Rattle.std.proofs.Common.{◌∙◌, [], ◌∷◌, refl, subst, sym, arith}
+use Rattle.std.proofs.Common.{List, refl, subst, sym, arith}
+use Rattle.request_text.specs.declared.request.Request.{Request}
 use Rattle.request_text.specs.Grammar.{IsRequestText}
-use Rattle.bureau_program.specs.Due.{IsBadLineDue, IsBatchText, IsBatchesDue, IsRunDue, batches_read, no_request_memory, not_read}
-use Rattle.bureau_program.proofs.Reading.{one_batch}
+use Rattle.bureau_program.specs.Due.{IsBadLineDue, IsBatchesDue, IsRunDue, batches_read, no_request_memory, not_read}
 use Rattle.bureau_program.proofs.Written.{no_other, wrote_for, wrote_line}
 use Rattle.bureau_program.proofs.run.run_input.Goals as goal
 
-pub returns-in-len1-clause-wrote : goal.returns-in-len1-clause-wrote
-returns-in-len1-clause-wrote g c =
-    let found = c.in-Ok.ensures.found in
-    let requests = c.requests.result.now in
-    let same = one_batch c.as_slice.result.now found.0 c.batch-item.result requests (c.as_slice.ensures.value ∙ found.1) c.batch-item.is c.requests.ensures.requests in
-    let text : IsBatchText c.args.input.now (requests ∷ []) = (requests, refl, subst (IsRequestText c.args.input.now) (sym same) found.2) in
-    wrote_for (IsBatchesDue g.D.Disk.seen c.args.disk c.run_batch.result.1 (requests ∷ [])) (IsRunDue g.D.Disk.seen c.args.disk c.run_batch.result.1 c.args.input.now) _ _ _ (batches_read (requests ∷ []) text) c.run_batch.ensures.wrote
+pub returns-in-Ok-clause-wrote : goal.returns-in-Ok-clause-wrote
+returns-in-Ok-clause-wrote g c =
+    let batches = c.as_slice.result.now in
+    let text : IsRequestText c.args.input.now batches = subst (λ (bs : List (List Request)). IsRequestText c.args.input.now bs) (sym c.as_slice.ensures.value) c.in-Ok.ensures.found in
+    wrote_for (IsBatchesDue g.D.Disk.seen c.args.disk c.open_and_run.result.1 batches) (IsRunDue g.D.Disk.seen c.args.disk c.open_and_run.result.1 c.args.input.now) _ _ _ (batches_read batches text) c.open_and_run.ensures.wrote
 
-pub returns-in-len1-clause-write_fault : goal.returns-in-len1-clause-write_fault
-returns-in-len1-clause-write_fault g c = c.run_batch.ensures.write_fault
+pub returns-in-Ok-clause-write_fault : goal.returns-in-Ok-clause-write_fault
+returns-in-Ok-clause-write_fault g c = c.open_and_run.ensures.write_fault
 
-pub returns-in-len1-clause-disk_fault : goal.returns-in-len1-clause-disk_fault
-returns-in-len1-clause-disk_fault g c = c.run_batch.ensures.disk_fault
+pub returns-in-Ok-clause-disk_fault : goal.returns-in-Ok-clause-disk_fault
+returns-in-Ok-clause-disk_fault g c = c.open_and_run.ensures.disk_fault
 
-pub returns-in-len1-clause-no_read_fault : goal.returns-in-len1-clause-no_read_fault
-returns-in-len1-clause-no_read_fault g c = c.run_batch.ensures.no_read_fault
+pub returns-in-Ok-clause-no_read_fault : goal.returns-in-Ok-clause-no_read_fault
+returns-in-Ok-clause-no_read_fault g c = c.open_and_run.ensures.no_read_fault
 
 pub returns-in-Err-Memory-clause-wrote : goal.returns-in-Err-Memory-clause-wrote
 returns-in-Err-Memory-clause-wrote g c =

@@ -1,0 +1,192 @@
+-- Batches that are served in turn.
+use Rattle.std.specs.Prelude.{Option, Some, None, MatchOption, drop, take}
+use Rattle.std.specs.List.{list_any}
+use Rattle.std.proofs.Common.{◌≡◌, ◌∙◌, inl, inr, ℕ, Bool, true, false, ◌||◌, List, [], ◌∷◌, ◌++◌, length, map, refl, sym, ap, ap₂, subst, append_assoc, arith, suc}
+use Rattle.std.proofs.lemmas.List.{append-nil, map-append}
+use Rattle.std.proofs.lemmas.List.Folds.{list_any-append}
+use Rattle.std.proofs.lemmas.List.Concat.{flat_map-append}
+use Rattle.std.proofs.Math.Seq.{take-append_seam, drop-append_seam}
+use Rattle.std.specs.Io.KnownBytes.{Appends}
+use Rattle.bureau_edge.specs.Streams.{AppendsPart}
+use Rattle.bureau_edge.proofs.Known.{Appends-none, Appends-then, AppendsPart-after}
+use Rattle.disk_model.specs.Calls.{Seen}
+use Rattle.claim_history.specs.declared.entry.Entry.{Entry}
+use Rattle.claim_history.specs.Needs.{is_of_device}
+use Rattle.request_text.specs.declared.request.Request.{Request}
+use Rattle.bureau_desk.specs.Desks.{DeskView}
+use Rattle.served_lines.specs.declared.answer.Answer.{Answer}
+use Rattle.served_lines.specs.declared.line_end.LineEnd.{LineEnd}
+use Rattle.served_lines.specs.Ends.{is_memory, is_full, has_end}
+use Rattle.served_lines.specs.Served.{IsServed}
+use Rattle.printed_text.specs.Printing.{printed_of, unanswered}
+use Rattle.printed_text.specs.Writing.{IsWritten, broken, whole}
+use Rattle.bureau_program.specs.declared.tally.Tally.{Tally}
+use Rattle.bureau_program.specs.Runs.{Done, AreServed, all_added, end_status, some_device, some_end, status_by, text_of}
+use Rattle.bureau_program.specs.Serving.{HasRunBatch, HasRunBatches, HasSameOpening, IsTally, answers_of}
+use Rattle.bureau_program.proofs.Unasked.{unanswered_served}
+
+-- ---- the opening
+
+pub same_opening : {D : Type 0} (seen : D → Seen) (d : DeskView D) → HasSameOpening seen d d
+same_opening seen d = record { moment = refl; faults = refl; opened_with = refl; tells = refl }
+
+opening_then : {D : Type 0} (seen : D → Seen) (a b c : DeskView D) → HasSameOpening seen a b → HasSameOpening seen b c → HasSameOpening seen a c
+opening_then seen a b c p q = record { moment = q.moment ∙ p.moment; faults = q.faults ∙ p.faults; opened_with = q.opened_with ∙ p.opened_with; tells = q.tells ∙ p.tells }
+
+-- ---- one batch
+
+served_by : (batch : List Request) (answers : Option (List Answer)) (before added : List Entry) → MatchOption answers (added ≡ []) (λ list. IsServed batch list before added) → IsServed batch (answers_of batch answers) before added
+served_by batch None before added none = subst (IsServed batch (unanswered batch) before) (sym none) (unanswered_served batch before)
+served_by batch (Some answers) before added served = served
+
+-- a batch none of whose lines was asked adds nothing
+none_added : (answers : Option (List Answer)) (added : List Entry) (P : List Answer → Type 0) → answers ≡ None → MatchOption answers (added ≡ []) P → added ≡ []
+none_added answers added P none h = subst (λ (a : Option (List Answer)). MatchOption a (added ≡ []) P) none h
+
+pub unasked_adds : {D : Type 0} (seen : D → Seen) (now new : DeskView D) (batch : List Request) (answers : Option (List Answer)) (from : ℕ) → HasRunBatch seen now new batch answers → from ≡ length now.history → answers ≡ None → drop from new.history ≡ []
+unasked_adds seen now new batch answers from ran place none =
+    ap (λ (n : ℕ). drop n new.history) place ∙ ap (drop (length now.history)) ran.history ∙ drop-append_seam now.history ran.added
+    ∙ none_added answers ran.added (λ list. IsServed batch list now.history ran.added) none ran.served
+
+-- ---- one batch more
+
+module _ (bs : List Done) (b : Done) where
+  pub added_more : all_added (bs ++ b ∷ []) ≡ all_added bs ++ b.added
+  added_more = flat_map-append (λ (x : Done). x.added) bs (b ∷ []) ∙ ap (λ (l : List Entry). all_added bs ++ l) (append-nil b.added)
+
+  end_more : (test : LineEnd → Bool) → some_end test (bs ++ b ∷ []) ≡ (some_end test bs || has_end test b.answers)
+  end_more test = list_any-append (λ (x : Done). has_end test x.answers) bs (b ∷ []) ∙ ap (λ (c : Bool). some_end test bs || c) (or_false (has_end test b.answers)) where
+    or_false : (c : Bool) → (c || false) ≡ c
+    or_false true = refl
+    or_false false = refl
+
+  device_more : some_device (bs ++ b ∷ []) ≡ (some_device bs || list_any (λ e. is_of_device e.reply) b.added)
+  device_more = ap (list_any (λ (e : Entry). is_of_device e.reply)) added_more ∙ list_any-append (λ (e : Entry). is_of_device e.reply) (all_added bs) b.added
+
+  not_none : bs ++ b ∷ [] ≡ [] → ⊥
+  not_none is = no_end bs is where
+    no_end : (l : List Done) → l ++ b ∷ [] ≡ [] → ⊥
+    no_end [] e = let n : 1 ≡ 0 = ap (λ (x : List Done). length x) e in omega (arith, n)
+    no_end (x ∷ l) e = let n : suc (length (l ++ b ∷ [])) ≡ 0 = ap (λ (y : List Done). length y) e in omega (arith, n)
+
+served_more : (before : List Entry) (bs : List Done) (b : Done) → AreServed before bs → IsServed b.requests b.answers (before ++ all_added bs) b.added → AreServed before (bs ++ b ∷ [])
+served_more before [] b all served = (subst (λ (h : List Entry). IsServed b.requests b.answers h b.added) (append-nil before) served, tt)
+served_more before (x ∷ bs) b all served =
+    (all.0, served_more (before ++ x.added) bs b all.1 (subst (λ (h : List Entry). IsServed b.requests b.answers h b.added) (sym (append_assoc before x.added (all_added bs))) served))
+
+text_more : (before : List Entry) (bs : List Done) (b : Done) → text_of before (bs ++ b ∷ []) ≡ text_of before bs ++ printed_of (before ++ all_added bs) b.added b.answers
+text_more before [] b = append-nil (printed_of before b.added b.answers) ∙ ap (λ (h : List Entry). printed_of h b.added b.answers) (sym (append-nil before))
+text_more before (x ∷ bs) b =
+    let here = printed_of before x.added x.answers in
+    ap (λ (t : List ℕ). here ++ t) (text_more (before ++ x.added) bs b)
+    ∙ sym (append_assoc here (text_of (before ++ x.added) bs) (printed_of ((before ++ x.added) ++ all_added bs) b.added b.answers))
+    ∙ ap (λ (h : List Entry). (here ++ text_of (before ++ x.added) bs) ++ printed_of h b.added b.answers) (append_assoc before x.added (all_added bs))
+
+-- ---- the first batches
+
+-- The first batches were served in turn on a desk, and the text of each was taken.
+pub record SoFar {D : Type 0} (seen : D → Seen) (first : DeskView D) (x : Option (List ℕ)) (now : DeskView D) (batches : List (List Request)) (y : Option (List ℕ)) (tally : Tally) : Type 0 where
+  pub done : List Done
+  pub all : batches ≡ map (λ b. b.requests) done
+  pub history : now.history ≡ first.history ++ all_added done
+  pub served : AreServed first.history done
+  pub opening : HasSameOpening seen first now
+  pub none : done ≡ [] → now ≡ first
+  pub taken : Appends x y (text_of first.history done)
+  pub told : IsTally tally done
+
+module _ {D : Type 0} (seen : D → Seen) (first : DeskView D) (x : Option (List ℕ)) where
+  pub begins : (tally : Tally) → IsTally tally [] → SoFar seen first x first [] x tally
+  begins tally told = record {
+    done = [];
+    all = refl;
+    history = sym (append-nil first.history);
+    served = tt;
+    opening = same_opening seen first;
+    none = λ e. refl;
+    taken = Appends-none x;
+    told = told;
+  }
+
+  module _ (now new : DeskView D) (batches : List (List Request)) (y z : Option (List ℕ)) (tally : Tally) (batch : List Request) (answers : Option (List Answer)) (so : SoFar seen first x now batches y tally)
+      (ran : HasRunBatch seen now new batch answers) where
+    abbrev one : Done
+    one = record { requests = batch; answers = answers_of batch answers; added = ran.added }
+
+    abbrev done : List Done
+    done = so.done ++ one ∷ []
+
+    behind : drop (length now.history) new.history ≡ ran.added
+    behind = ap (drop (length now.history)) ran.history ∙ drop-append_seam now.history ran.added
+
+    front : take (length now.history) new.history ≡ first.history ++ all_added so.done
+    front = ap (take (length now.history)) ran.history ∙ take-append_seam now.history ran.added ∙ so.history
+
+    abbrev text : List ℕ
+    text = printed_of (take (length now.history) new.history) (drop (length now.history) new.history) (answers_of batch answers)
+
+    text_is : text_of first.history so.done ++ text ≡ text_of first.history done
+    text_is = ap (λ (t : List ℕ). text_of first.history so.done ++ t)
+        (ap₂ (λ (l m : List Entry). printed_of l m (answers_of batch answers)) front behind)
+        ∙ sym (text_more first.history so.done one)
+
+    all : batches ++ batch ∷ [] ≡ map (λ (b : Done). b.requests) done
+    all = ap (λ (l : List (List Request)). l ++ batch ∷ []) so.all ∙ sym (map-append (λ (b : Done). b.requests) so.done (one ∷ []))
+
+    history : new.history ≡ first.history ++ all_added done
+    history = ran.history ∙ ap (λ (h : List Entry). h ++ ran.added) so.history ∙ append_assoc first.history (all_added so.done) ran.added ∙ ap (λ (l : List Entry). first.history ++ l) (sym (added_more so.done one))
+
+    served : AreServed first.history done
+    served = served_more first.history so.done one so.served (subst (λ (h : List Entry). IsServed batch (answers_of batch answers) h ran.added) so.history (served_by batch answers now.history ran.added ran.served))
+
+    opening : HasSameOpening seen first new
+    opening = opening_then seen first now new so.opening ran.opening
+
+    -- it was written
+    pub more : (tally' : Tally) → tally'.memory ≡ (tally.memory || has_end is_memory (answers_of batch answers)) → tally'.device ≡ (tally.device || list_any (λ e. is_of_device e.reply) (drop (length now.history) new.history))
+        → tally'.full ≡ (tally.full || has_end is_full (answers_of batch answers)) → Appends y z text → SoFar seen first x new (batches ++ batch ∷ []) z tally'
+    more tally' memory device full taken = record {
+      done = done;
+      all = all;
+      history = history;
+      served = served;
+      opening = opening;
+      none = λ e. absurd (not_none so.done one e);
+      taken = subst (Appends x z) text_is (Appends-then x y z (text_of first.history so.done) text so.taken taken);
+      told = record {
+        memory = memory ∙ ap (λ (c : Bool). c || has_end is_memory (answers_of batch answers)) so.told.memory ∙ sym (end_more so.done one is_memory);
+        device = device ∙ ap₂ (λ (c : Bool) (l : List Entry). c || list_any (λ e. is_of_device e.reply) l) so.told.device behind ∙ sym (device_more so.done one);
+        full = full ∙ ap (λ (c : Bool). c || has_end is_full (answers_of batch answers)) so.told.full ∙ sym (end_more so.done one is_full);
+      };
+    }
+
+    -- or the sink failed at it
+    pub breaks : (whole_run rest : List (List Request)) → whole_run ≡ (batches ++ batch ∷ []) ++ rest → AppendsPart y z text → HasRunBatches seen first new whole_run x z 4
+    breaks whole_run rest parts part = record {
+      done = done;
+      due = 4;
+      all = record { rest = rest; in_order = parts ∙ ap (λ (l : List (List Request)). l ++ rest) all; ended = inr refl };
+      history = history;
+      served = served;
+      opening = opening;
+      none = λ e. absurd (not_none so.done one e);
+      written = broken (subst (AppendsPart x z) text_is (AppendsPart-after x y z (text_of first.history so.done) text so.taken part));
+    }
+
+  -- all were served and written
+  pub ends : (last : DeskView D) (batches : List (List Request)) (y : Option (List ℕ)) (tally : Tally) (status : ℕ) → SoFar seen first x last batches y tally → status ≡ status_by tally.memory tally.device tally.full
+      → HasRunBatches seen first last batches x y status
+  ends last batches y tally status so is =
+      let due : status ≡ end_status so.done =
+      is ∙ ap (λ (b : Bool). status_by b tally.device tally.full) so.told.memory ∙ ap (λ (b : Bool). status_by (some_end is_memory so.done) b tally.full) so.told.device
+      ∙ ap (λ (b : Bool). status_by (some_end is_memory so.done) (some_device so.done) b) so.told.full in
+      record {
+        done = so.done;
+        due = end_status so.done;
+        all = record { rest = []; in_order = so.all ∙ sym (append-nil (map (λ (b : Done). b.requests) so.done)); ended = inl (refl, refl) };
+        history = so.history;
+        served = so.served;
+        opening = so.opening;
+        none = so.none;
+        written = subst (λ (n : ℕ). IsWritten x y (end_status so.done) (text_of first.history so.done) n) (sym due) (whole so.taken);
+      }

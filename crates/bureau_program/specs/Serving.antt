@@ -1,0 +1,52 @@
+-- Batches that are served on a desk in turn.
+use Rattle.std.specs.Prelude.{◌≡◌, ℕ, List, [], ◌++◌, length, Option, Some, None, MatchOption}
+use Rattle.disk_model.specs.Calls.{Seen}
+use Rattle.claim_history.specs.declared.entry.Entry.{Entry}
+use Rattle.claim_history.specs.Rounds.{cuts_after}
+use Rattle.request_text.specs.declared.request.Request.{Request}
+use Rattle.bureau_desk.specs.Desks.{DeskView, base_of}
+use Rattle.served_lines.specs.declared.answer.Answer.{Answer}
+use Rattle.served_lines.specs.Served.{IsServed}
+use Rattle.served_lines.specs.Ends.{is_memory, is_full}
+use Rattle.printed_text.specs.Printing.{unanswered}
+use Rattle.printed_text.specs.Writing.{IsWritten}
+use Rattle.bureau_program.specs.declared.tally.Tally.{Tally}
+use Rattle.bureau_program.specs.Runs.{Done, AreOf, AreServed, all_added, text_of, some_device, some_end}
+
+-- of the six numbers of a desk, those of its opening are as they were
+pub record HasSameOpening {D : Type 0} (seen : D → Seen) (old new : DeskView D) : Type 0 where
+  pub moment : (base_of seen new).moment_of_first_sync ≡ (base_of seen old).moment_of_first_sync
+  pub faults : (base_of seen new).faults_at_opening_end ≡ (base_of seen old).faults_at_opening_end
+  pub opened_with : (base_of seen new).opened_with ≡ (base_of seen old).opened_with
+  pub tells : (base_of seen new).tells ≡ (base_of seen old).tells
+
+-- A batch added its entries to the history. Without answers no line was asked, for want of memory. The rounds are those that it
+-- published.
+pub record HasRunBatch {D : Type 0} (seen : D → Seen) (old new : DeskView D) (batch : List Request) (answers : Option (List Answer)) : Type 0 where
+  pub added : List Entry
+  pub history : new.history ≡ old.history ++ added
+  pub served : MatchOption answers (added ≡ []) (λ list. IsServed batch list old.history added)
+  pub rounds : new.rounds ≡ cuts_after (length old.history) new.history
+  pub opening : HasSameOpening seen old new
+
+-- what came of the lines of a batch: where no line was asked, there was no memory for each
+abbrev pub answers_of : List Request → Option (List Answer) → List Answer
+answers_of batch (Some answers) = answers
+answers_of batch None = unanswered batch
+
+-- what a tally of these batches tells
+pub record IsTally (tally : Tally) (done : List Done) : Type 0 where
+  pub memory : tally.memory ≡ some_end is_memory done
+  pub device : tally.device ≡ some_device done
+  pub full : tally.full ≡ some_end is_full done
+
+-- Batches were served in turn, and what each added was written after it was served. They are all, unless a write failed.
+pub record HasRunBatches {D : Type 0} (seen : D → Seen) (old new : DeskView D) (batches : List (List Request)) (held_old held_new : Option (List ℕ)) (status : ℕ) : Type 0 where
+  pub done : List Done
+  pub due : ℕ
+  pub all : AreOf batches due done
+  pub history : new.history ≡ old.history ++ all_added done
+  pub served : AreServed old.history done
+  pub opening : HasSameOpening seen old new
+  pub none : done ≡ [] → new ≡ old
+  pub written : IsWritten held_old held_new due (text_of old.history done) status

@@ -1,0 +1,133 @@
+//! Batches that are served on a desk in turn.
+ghost use Rattle.std.specs.Prelude.{◌≡◌, ◌≢◌, ◌≤◌, [], None, length, take, drop, OnOk, OnErr, vec_capacity};
+ghost use Rattle.std.specs.Io.KnownBytes.{Appends};
+ghost use Rattle.fault_count.specs.Counts.{HasRisen, IsCounted};
+ghost use Rattle.claim_history.specs.Rounds.{cuts_after};
+ghost use Rattle.bureau_edge.specs.Streams.{AppendsPart};
+ghost use Rattle.printed_text.specs.Printing.{printed_of};
+ghost use Rattle.bureau_program.specs.Serving.{HasRunBatch, HasRunBatches, answers_of};
+
+use crate::tally::Tally;
+use bureau_desk::Desk;
+use bureau_edge::{Failed, Sink};
+use claim_history::limits_hold;
+use desk_runner::serve_all;
+use disk_model::Disk;
+use printed_text::{print_batch, print_unanswered};
+use request_text::{Batch, Request};
+use served_lines::Answer;
+use std::alloc::Global;
+use std::marker::Model;
+
+/// What came of the lines of a batch, by rising line numbers.
+#[derive(Drop)]
+pub struct Answers {
+    answers: Vec<Answer>,
+}
+
+impl Model for Answers {
+    ghost use Rattle.std.specs.Prelude.{List};
+    ghost use Rattle.served_lines.specs.declared.answer.Answer.{Answer};
+
+    ghost Value = { List Answer };
+
+    ghost view = { λ a. a.answers.items };
+}
+
+impl Answers {
+    /// One for each line. It takes no memory.
+    pub fn list(&self) -> &[Answer]
+        ensures { result.now ≡ self.now }
+    {
+        &self.answers
+    }
+}
+
+/// The desk after a batch, and what came of its lines: None where there was no memory before any line was asked.
+#[derive(Drop)]
+pub struct BatchEnd<D: Disk> {
+    pub desk: Desk<D>,
+    pub answers: Option<Answers>,
+}
+
+// Serves a batch on a desk.
+#[tactic(none)]
+fn serve_batch<D: Disk>(alloc: Global, desk: Desk<D>, batch: &Batch) -> BatchEnd<D>
+    ensures { HasRunBatch D.seen desk result.desk batch.now result.answers }
+{
+    let mut desk = desk;
+    desk.clear_rounds();
+    let requests = batch.requests();
+    let Ok(mut answers) = Vec::with_capacity(alloc, requests.len()) else {
+        return BatchEnd {
+            desk,
+            answers: None,
+        };
+    };
+    serve_all(alloc, &mut desk, requests, &mut answers);
+    let _book = desk.book();
+    BatchEnd {
+        desk,
+        answers: Some(Answers { answers }),
+    }
+}
+
+// Prints what a batch added to a desk, whose entries from a place on are those of the batch.
+#[tactic(none)]
+fn print_served<K: Sink, D: Disk>(
+    sink: &mut K,
+    buffer: &mut Vec<u8>,
+    desk: &Desk<D>,
+    from: usize,
+    requests: &[Request],
+    answers: &Option<Answers>,
+) -> Result<(), Failed>
+    requires from { from ≤ length desk.now.history }
+    requires rounds { desk.now.rounds ≡ cuts_after from desk.now.history }
+    requires unasked { answers.now ≡ None → drop from desk.now.history ≡ [] }
+    requires empty { buffer.old.items ≡ [] }
+    requires spare { 65536 ≤ vec_capacity buffer.old }
+    ensures ok { OnOk result (Appends (K.held sink.old) (K.held sink.new) (printed_of (take from desk.now.history) (drop from desk.now.history) (answers_of requests.now answers.now))) }
+    ensures emptied { OnOk result (buffer.new.items ≡ []) }
+    ensures part { OnErr result (AppendsPart (K.held sink.old) (K.held sink.new) (printed_of (take from desk.now.history) (drop from desk.now.history) (answers_of requests.now answers.now))) }
+    ensures cause { IsCounted (K.faults sink.old) (K.faults sink.new) result }
+    ensures room { 65536 ≤ vec_capacity buffer.new }
+{
+    limits_hold();
+    let history = desk.book().history();
+    match answers {
+        Some(answers) => print_batch(sink, buffer, history, from, desk.rounds(), answers.list()),
+        None => print_unanswered(sink, buffer, requests),
+    }
+}
+
+/// Serves batches on a desk in turn, and prints what came of each after it was served. Says the status: 4 where the sink failed,
+/// which ends it.
+pub fn run_batches<K: Sink, D: Disk>(
+    alloc: Global,
+    batches: &[Batch],
+    sink: &mut K,
+    buffer: &mut Vec<u8>,
+    desk: Desk<D>,
+) -> (u8, Desk<D>)
+    requires empty { buffer.old.items ≡ [] }
+    requires spare { 65536 ≤ vec_capacity buffer.old }
+    ensures ran { HasRunBatches D.seen desk result.1 batches.now (K.held sink.old) (K.held sink.new) result.0 }
+    ensures write_fault { result.0 ≡ 4 → HasRisen (K.faults sink.old) (K.faults sink.new) }
+    ensures later { K.faults sink.old ≤ K.faults sink.new }
+    ensures no_read_fault { result.0 ≢ 3 }
+{
+    let mut desk = desk;
+    let mut tally = Tally::new();
+    for batch in batches {
+        let from = desk.book().history().len();
+        let end = serve_batch(alloc, desk, batch);
+        desk = end.desk;
+        let requests = batch.requests();
+        tally.add(requests, &end.answers, desk.book().history(), from);
+        if print_served(sink, buffer, &desk, from, requests, &end.answers).is_err() {
+            return (4, desk);
+        }
+    }
+    (tally.status(), desk)
+}

@@ -1,0 +1,34 @@
+use Rattle.std.proofs.Common.{◌≡◌, ◌∙◌, ◌+◌, ◌++◌, List, ℕ, ap, subst, sym, get_or, drop, arith}
+use Rattle.request_text.specs.declared.request.Request.{Request}
+use Rattle.served_lines.specs.declared.line_end.LineEnd.TheVariants as ends
+use Rattle.printed_text.specs.Printing.{end_text, ends_text, unanswered}
+use Rattle.setoff_model.proofs.Lists.{on_err}
+use Rattle.printed_text.proofs.Passing.{PassesUpTo, up_more, up_breaks}
+use Rattle.printed_text.proofs.Printing.{unanswered_from}
+use Rattle.printed_text.proofs.output.print_memory_lines.Goals as goal
+
+pub returns-in_err-print_end-clause-part : goal.returns-in_err-print_end-clause-part
+returns-in_err-print_end-clause-part g c =
+    let requests = c.args.requests.now in
+    let i = c.loop-request.request-index in
+    let r = c.request-item.result in
+    let rest = ends_text (unanswered (drop (i + 1) requests)) in
+    let cut : ends_text (unanswered (drop i requests)) ≡ end_text r.line ends.Memory ++ rest =
+    unanswered_from requests i r c.loop-request-test.true ∙ ap (λ (q : Request). end_text q.line ends.Memory ++ rest) (sym c.request-item.is) in
+    let up = subst (λ (t : List ℕ). PassesUpTo (g.K.Sink.held c.args.sink.now) (g.K.Sink.held c.loop-request.sink) c.args.buffer.now.items c.loop-request.buffer.items t (ends_text (unanswered requests))) cut c.loop-request.invariant.passes in
+    on_err _ _ (up_breaks (g.K.Sink.held c.args.sink.now) (g.K.Sink.held c.loop-request.sink) (g.K.Sink.held c.print_end.new.sink) c.args.buffer.now.items c.loop-request.buffer.items (end_text r.line ends.Memory) rest (ends_text (unanswered requests)) up c.in_err-print_end.ensures.part)
+
+pub loop-request-preserved : goal.loop-request-preserved
+loop-request-preserved g c =
+    let requests = c.args.requests.now in
+    let i = c.loop-request.request-index in
+    let r = c.request-item.result in
+    let rest = ends_text (unanswered (drop (i + 1) requests)) in
+    let cut : ends_text (unanswered (drop i requests)) ≡ end_text r.line ends.Memory ++ rest =
+    unanswered_from requests i r c.loop-request-test.true ∙ ap (λ (q : Request). end_text q.line ends.Memory ++ rest) (sym c.request-item.is) in
+    let up = subst (λ (t : List ℕ). PassesUpTo (g.K.Sink.held c.args.sink.now) (g.K.Sink.held c.loop-request.sink) c.args.buffer.now.items c.loop-request.buffer.items t (ends_text (unanswered requests))) cut c.loop-request.invariant.passes in
+    record {
+      passes = up_more (g.K.Sink.held c.args.sink.now) (g.K.Sink.held c.loop-request.sink) (g.K.Sink.held c.print_end.new.sink) c.args.buffer.now.items c.loop-request.buffer.items c.print_end.new.buffer.items (end_text r.line ends.Memory) rest (ends_text (unanswered requests)) up c.in_ok-print_end.ensures.ok;
+      room = c.in_ok-print_end.ensures.room;
+      later = omega (arith, c.loop-request.invariant.later, c.in_ok-print_end.ensures.cause.later);
+    }
