@@ -40,7 +40,7 @@ lines_more (r ∷ requests) [] request answer same = absurd (cc same)
 lines_more (r ∷ requests) (a ∷ answers) request answer same =
     ap (λ (l : List Line). record { request = r; end = a.end } ∷ l) (lines_more requests answers request answer (cc same))
 
-lane_more : (lane : ℕ) (requests : List Request) (answers : List Answer) (request : Request) (answer : Answer) → map (λ a. a.line) answers ≡ map (λ r. r.line) requests
+pub lane_more : (lane : ℕ) (requests : List Request) (answers : List Answer) (request : Request) (answer : Answer) → map (λ a. a.line) answers ≡ map (λ r. r.line) requests
     → lane_lines lane (requests ++ request ∷ []) (answers ++ answer ∷ []) ≡ lane_lines lane requests answers ++ (if request.lane == lane then record { request = request; end = answer.end } ∷ [] else [])
 lane_more lane requests answers request answer same =
     ap (filter (λ (line : Line). line.request.lane == lane)) (lines_more requests answers request answer same)

@@ -1,2 +1,3 @@
 pub mod Longer
 pub mod InTurn
+pub mod Each

@@ -1,0 +1,48 @@
+-- What one lane does.
+use Rattle.std.specs.Prelude.{◌≡◌, ◌==◌, ◌<◌, ◌≤◌, ℕ, List, [], ◌∷◌, ◌++◌, filter, length, slice_index_or, vec_capacity}
+use mathlib.Core.List.{IsPrefix}
+use Rattle.claim_history.specs.declared.entry.Entry.{Entry}
+use Rattle.turn_lock.specs.declared.turn.Seat.{Seat}
+use Rattle.turn_lock.specs.declared.turn.Turn.{Turn}
+use Rattle.turn_lock.specs.Seats.{number, seen, own, opened, IsSameSeat}
+use Rattle.request_text.specs.declared.request.Request.{Request}
+use Rattle.bureau_desk.specs.Desks.{DeskView}
+use Rattle.shared_bureau.specs.Adding.{IsReady}
+use Rattle.served_lines.specs.declared.line_end.LineEnd.{LineEnd}
+use Rattle.served_lines.specs.Served.{Line, LinesAdd}
+use Rattle.lane_runner.specs.declared.lane.Lane.{Lane}
+
+-- the requests of one lane
+abbrev pub of_lane : ℕ → List Request → List Request
+of_lane lane requests = filter (λ request. request.lane == lane) requests
+
+-- each request with what came of it
+abbrev pub ended : List Request → List LineEnd → List Line
+ended [] ends = []
+ended (request ∷ requests) [] = []
+ended (request ∷ requests) (end ∷ ends) = record { request = request; end = end } ∷ ended requests ends
+
+-- A seat served requests in turn, and this came of them, one each. Its own entries grow by theirs.
+pub record HasRun {T : Type 0} (old new : Seat T Entry) (requests : List Request) (ends : List LineEnd) : Type 0 where
+  pub more : List Entry
+  pub same : IsSameSeat old new
+  pub begins : IsPrefix (seen old) (seen new)
+  pub grows : own new ≡ own old ++ more
+  pub all : length ends ≡ length requests
+  pub adds : LinesAdd (seen new) (opened new) (own old) (ended requests ends) more
+
+module _ {D : Type 0} (turn : Turn (DeskView D) Entry) (requests : List Request) where
+  -- a lane of this lock that has served nothing, with room for what comes of its requests among these
+  pub record IsFit (lane : Lane D) : Type 0 where
+    pub ready : IsReady turn lane.seat
+    pub fresh : lane.ends.items ≡ []
+    pub room : length (of_lane (number lane.seat) requests) ≤ vec_capacity lane.ends
+
+  -- it has served them
+  pub record HasServedLane (old new : Lane D) : Type 0 where
+    pub run : HasRun old.seat new.seat (of_lane (number old.seat) requests) new.ends.items
+    pub ready : IsReady turn new.seat
+
+  -- each lane has
+  abbrev pub HaveServed : List (Lane D) → List (Lane D) → Type 0
+  HaveServed old new = (length new ≡ length old) × ((k : ℕ) (none : Lane D) → k < length old → HasServedLane (slice_index_or old k none) (slice_index_or new k none))
