@@ -1,4 +1,5 @@
 pub mod Words
+pub mod Causes
 pub mod Requests
 pub mod Orders
 pub mod ReadBack

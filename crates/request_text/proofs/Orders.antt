@@ -5,7 +5,8 @@ use Rattle.std.proofs.lemmas.List.Elements.{All-nil, All-cons}
 use Rattle.std.proofs.lemmas.List.Kept.{AllPairs-cons}
 use Rattle.claim_history.specs.Acts.{is_request}
 use Rattle.request_text.specs.declared.request.Request.{Request}
-use Rattle.request_text.specs.Grammar.{AreBatches, IsLane}
+use Rattle.request_text.specs.Lanes.{IsLane}
+use Rattle.request_text.specs.Grammar.{AreBatches}
 use Rattle.request_text.specs.Batches.{AreInOrder}
 
 -- each request of the first batch has a line from this number on, a lane and a valid act

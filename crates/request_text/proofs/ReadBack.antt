@@ -10,7 +10,8 @@ use Rattle.claim_history.specs.declared.act.Act.{Act}
 use Rattle.claim_history.specs.Acts.{act_fields, act_text}
 use Rattle.claim_history.proofs.Shapes.{act_texts_law}
 use Rattle.request_text.specs.declared.request.Request.{Request}
-use Rattle.request_text.specs.Grammar.{line_fields, fence, fence_line, IsLine, AreBatches, IsRequestText, Asked, CanBeAsked, request_line, batch_text, batches_text, numbered, all_numbered, ReadBackLaw}
+use Rattle.request_text.specs.Lanes.{fence, fence_line}
+use Rattle.request_text.specs.Grammar.{line_fields, IsLine, AreBatches, IsRequestText, Asked, CanBeAsked, request_line, batch_text, batches_text, numbered, all_numbered, ReadBackLaw}
 use Rattle.request_text.proofs.Words.{fields_visible, cut_fields, has_verb, one_lane}
 
 -- ---- what is written is read

@@ -2,10 +2,15 @@
 use Rattle.std.proofs.Common.{◌≡◌, ℕ, ◌+◌, List, [], ◌∷◌, ◌++◌, length, refl, sym, ap, ap₂, ◌∙◌, subst, append_assoc, arith, length-append}
 use Rattle.std.proofs.lemmas.List.{append-nil}
 use Rattle.std.specs.Str.Lines.{lines}
+use Rattle.text_lines.specs.Fields.{fields}
+use Rattle.request_text.specs.declared.error.LineCause.{LineCause}
 use Rattle.request_text.specs.declared.error.RequestError.{RequestError}
 use Rattle.request_text.specs.declared.error.RequestError.TheVariants as errors
 use Rattle.request_text.specs.declared.request.Request.{Request}
-use Rattle.request_text.specs.Grammar.{AreBatches, AsksNothing, IsRequestText, IsNoRequestText, IsLine, IsNoLine, IsFirstBadLine, OnBadLine, fence}
+use Rattle.request_text.specs.Lanes.{fence}
+use Rattle.request_text.specs.Causes.{HasCause, IsBadLine}
+use Rattle.request_text.specs.Grammar.{AreBatches, IsRequestText, IsNoRequestText, IsLine, IsFirstBadLine, OnBadLine}
+use Rattle.request_text.proofs.Causes.{asks_nothing}
 
 -- what is read of an input up to a rest
 pub record ReadUpTo (input rest : List ℕ) (number : ℕ) (batches : List (List Request)) : Type 0 where
@@ -75,8 +80,8 @@ pub ends_with : (input rest : List ℕ) (number : ℕ) (ended all : List (List R
 ends_with input rest number ended all batch new so_far e same whole =
     subst (IsRequestText input) (ap (λ (b : List Request). ended ++ b ∷ []) (sym same) ∙ sym whole) (ends input rest number (ended ++ batch ∷ []) so_far e)
 
-breaks : (input rest line after : List ℕ) (number : ℕ) (batches : List (List Request)) → ReadUpTo input rest number batches → lines rest ≡ line ∷ lines after → IsNoLine line → IsFirstBadLine input number
-breaks input rest line after number batches so_far cut bad = record {
+breaks : (input rest line after : List ℕ) (number : ℕ) (cause : LineCause) (batches : List (List Request)) → ReadUpTo input rest number batches → lines rest ≡ line ∷ lines after → IsBadLine line cause → IsFirstBadLine input number cause
+breaks input rest line after number cause batches so_far cut bad = record {
   before = so_far.before;
   line = line;
   after = lines after;
@@ -87,23 +92,24 @@ breaks input rest line after number batches so_far cut bad = record {
   bad = bad;
 }
 
-none_with : (number : ℕ) (before : List (List ℕ)) (line : List ℕ) (after : List (List ℕ)) (all : List (List Request)) → IsNoLine line → AreBatches number (before ++ line ∷ after) all → ⊥
-none_with number before line after [] bad h = h
-none_with number [] line after ([] ∷ batches) bad h = bad.no_fence h.0
-none_with number [] line after ((request ∷ requests) ∷ batches) bad h = bad.asks_nothing request.lane request.act h.1
-none_with number (b ∷ before) line after ([] ∷ batches) bad h = none_with (number + 1) before line after batches bad h.1
-none_with number (b ∷ before) line after ((request ∷ requests) ∷ batches) bad h = none_with (number + 1) before line after (requests ∷ batches) bad h.2
+none_with : (number : ℕ) (before : List (List ℕ)) (line : List ℕ) (after : List (List ℕ)) (cause : LineCause) (all : List (List Request)) → IsBadLine line cause → AreBatches number (before ++ line ∷ after) all → ⊥
+none_with number before line after cause [] bad h = h
+none_with number [] line after cause ([] ∷ batches) bad h = bad.no_fence h.0
+none_with number [] line after cause ((request ∷ requests) ∷ batches) bad h = asks_nothing line cause bad.why request.lane request.act h.1
+none_with number (b ∷ before) line after cause ([] ∷ batches) bad h = none_with (number + 1) before line after cause batches bad h.1
+none_with number (b ∷ before) line after cause ((request ∷ requests) ∷ batches) bad h = none_with (number + 1) before line after cause (requests ∷ batches) bad h.2
 
-no_text : (input : List ℕ) (number : ℕ) → IsFirstBadLine input number → IsNoRequestText input
-no_text input number b = λ all h. none_with 1 b.before b.line b.after all b.bad (subst (λ (ls : List (List ℕ)). AreBatches 1 ls all) b.cut h)
+no_text : (input : List ℕ) (number : ℕ) (cause : LineCause) → IsFirstBadLine input number cause → IsNoRequestText input
+no_text input number cause b = λ all h. none_with 1 b.before b.line b.after cause all b.bad (subst (λ (ls : List (List ℕ)). AreBatches 1 ls all) b.cut h)
 
--- what holds of a line holds of the line of an error
-pub weaker : (P Q : ℕ → Type 0) → ((n : ℕ) → Q n → P n) → (e : RequestError) → OnBadLine Q e → OnBadLine P e
+-- what holds of a line and a cause holds of those of an error
+pub weaker : (P Q : ℕ → LineCause → Type 0) → ((n : ℕ) (cause : LineCause) → Q n cause → P n cause) → (e : RequestError) → OnBadLine Q e → OnBadLine P e
 weaker P Q f errors.Memory h = tt
-weaker P Q f (errors.BadLine line cause) h = f line h
+weaker P Q f (errors.BadLine line cause) h = f line cause h
 
-pub breaks_at : (input rest line after : List ℕ) (number n : ℕ) (batches : List (List Request)) → ReadUpTo input rest number batches → lines rest ≡ line ∷ lines after
-    → (line ≡ fence → ⊥) → (n ≡ number) × AsksNothing line → IsFirstBadLine input n × IsNoRequestText input
-breaks_at input rest line after number n batches so_far cut no_fence bad =
-    let first = subst (IsFirstBadLine input) (sym bad.0) (breaks input rest line after number batches so_far cut (record { no_fence = no_fence; asks_nothing = bad.1 })) in
-    (first, no_text input n first)
+pub breaks_at : (input rest line after : List ℕ) (number n : ℕ) (cause : LineCause) (batches : List (List Request)) → ReadUpTo input rest number batches → lines rest ≡ line ∷ lines after
+    → (line ≡ fence → ⊥) → (n ≡ number) × HasCause (fields line) cause → IsFirstBadLine input n cause × IsNoRequestText input
+breaks_at input rest line after number n cause batches so_far cut no_fence bad =
+    let here = breaks input rest line after number cause batches so_far cut (record { no_fence = no_fence; why = bad.1 }) in
+    let first = subst (λ (m : ℕ). IsFirstBadLine input m cause) (sym bad.0) here in
+    (first, no_text input n cause first)

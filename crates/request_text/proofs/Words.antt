@@ -1,6 +1,6 @@
 -- A line and its fields.
 use Rattle.std.proofs.Common.{◌≡◌, ℕ, ◌<◌, ◌≤◌, ◌+◌, ◌/◌, ◌%◌, ◌^◌, true, List, [], ◌∷◌, ◌++◌, refl, sym, ap, ◌∙◌, subst, arith, decimal}
-use Rattle.std.specs.Prelude.{◌&&◌, nat_le, codes, get_or, Result, Ok, Err, IfOk, OnErr}
+use Rattle.std.specs.Prelude.{◌&&◌, nat_le, codes, Result, Ok, Err, IfOk, IfErr}
 use Rattle.std.specs.List.{AllByRecursion}
 use Rattle.std.proofs.lemmas.Bool.{leb-true, and_parts}
 use Rattle.setoff_model.specs.Limits.{most_amount}
@@ -18,36 +18,21 @@ use Rattle.claim_history.specs.declared.act.Act.TheVariants as act
 use Rattle.claim_history.specs.Days.{day_text, date_of, two_digits}
 use Rattle.claim_history.specs.Acts.{is_request, is_key, is_amount, is_claim_amount, is_day, act_fields}
 use Rattle.request_text.specs.declared.error.LineCause.{LineCause}
-use Rattle.request_text.specs.Grammar.{AreNoArgs, AreFields, AreNoFields, AsksNothing, IsLane, IsLine, line_fields}
+use Rattle.request_text.specs.Lanes.{IsLane}
+use Rattle.request_text.specs.Causes.{HasCause, HasForm, some_cents}
+use Rattle.request_text.specs.Grammar.{AreFields, IsLine, line_fields}
 
 amount_within : (cents : ℕ) → is_claim_amount cents ≡ true → (1 ≤ cents) × (cents ≤ most_amount)
 amount_within cents h =
     let p : (nat_le 1 cents ≡ true) × (nat_le cents most_amount ≡ true) = and_parts _ _ h in
     (leb-true 1 cents p.0, leb-true cents most_amount p.1)
 
--- an amount of a claim is not that of nothing
-pub not_nothing : (cents : ℕ) → is_claim_amount cents ≡ true → cents_text 0 ≡ cents_text cents → ⊥
-not_nothing cents h e =
-    let w = amount_within cents h in
-    let zero : 0 ≡ cents = spelling_law.cents 0 cents (omega arith) (omega (arith, w.1)) e in
+-- nothing is no amount of a claim
+pub nothing : (field : List ℕ) (cents : ℕ) → cents ≡ 0 → field ≡ cents_text cents → HasForm some_cents field → ⊥
+nothing field cents none e f =
+    let w = amount_within f.0 f.1.0 in
+    let same : cents ≡ f.0 = spelling_law.cents cents f.0 (omega arith) (omega (arith, w.1)) (sym e ∙ f.1.1) in
     absurd (omega (arith, w.0))
-
--- the limits of an account, of which the second is no amount
-pub no_ceiling : (firm credit ceiling : List ℕ) → ((cents : ℕ) → is_amount cents ≡ true → ceiling ≡ cents_text cents → ⊥) → AreNoArgs (codes "LIMIT") (firm ∷ credit ∷ ceiling ∷ [])
-no_ceiling firm credit ceiling h (act.Firm firm₂) valid e = absurd cc
-no_ceiling firm credit ceiling h (act.File key₂ debtor₂ amount₂ due₂) valid e = absurd cc
-no_ceiling firm credit ceiling h (act.Confirm key₂ debtor₂) valid e = absurd cc
-no_ceiling firm credit ceiling h (act.Dispute key₂ debtor₂) valid e = absurd cc
-no_ceiling firm credit ceiling h (act.Withdraw key₂) valid e = absurd cc
-no_ceiling firm credit ceiling h (act.Receive key₂ amount₂) valid e = absurd cc
-no_ceiling firm credit ceiling h (act.Fund firm₂ amount₂) valid e = absurd cc
-no_ceiling firm credit ceiling h (act.Draw firm₂ amount₂) valid e = absurd cc
-no_ceiling firm credit ceiling h (act.Limit f c d) valid e = h d (and_parts (is_name f && is_amount c) (is_amount d) valid).1 (ap (λ (fs : List (List ℕ)). get_or fs 3 []) e)
-no_ceiling firm credit ceiling h (act.Offer firm₂ amount₂) valid e = absurd cc
-no_ceiling firm credit ceiling h (act.Position firm₂) valid e = absurd cc
-no_ceiling firm credit ceiling h (act.Close kind₂ horizon₂) valid e = absurd cc
-no_ceiling firm credit ceiling h (act.Abandon) valid e = absurd cc
-no_ceiling firm credit ceiling h (act.Publish round₂ outcome₂) valid e = absurd cc
 
 -- the fields of an act are visible
 
@@ -159,13 +144,10 @@ cut_fields law visible lane a by valid = law.cut (decimal lane) (act_fields a) (
 is_line : JoinLaw → (line : List ℕ) (lane : ℕ) (a : Act) → AreFields (fields line) lane a → IsLine line lane a
 is_line law line lane a h = record { by = h.by; valid = h.valid; spelled = sym (law.joined line) ∙ ap line_of h.spelled }
 
-asks_nothing : JoinLaw → VisibleLaw → (line : List ℕ) → AreNoFields (fields line) → AsksNothing line
-asks_nothing law visible line h lane a l = h lane a (record { by = l.by; valid = l.valid; spelled = ap fields l.spelled ∙ cut_fields law visible lane a l.by l.valid })
-
 pub found_line : JoinLaw → (line : List ℕ) (parts : List (List ℕ)) (r : Result (ℕ × Act) LineCause) → parts ≡ fields line → IfOk r (λ (x : ℕ × Act). AreFields parts x.0 x.1) → IfOk r (λ (x : ℕ × Act). IsLine line x.0 x.1)
 found_line law line parts (Ok x) e h = is_line law line x.0 x.1 (record { by = h.by; valid = h.valid; spelled = sym e ∙ h.spelled })
 found_line law line parts (Err cause) e h = tt
 
-pub bad_line : JoinLaw → VisibleLaw → (line : List ℕ) (parts : List (List ℕ)) (r : Result (ℕ × Act) LineCause) → parts ≡ fields line → OnErr r (AreNoFields parts) → OnErr r (AsksNothing line)
-bad_line law visible line parts (Ok x) e h = tt
-bad_line law visible line parts (Err cause) e h = asks_nothing law visible line (λ lane a same. h lane a (record { by = same.by; valid = same.valid; spelled = e ∙ same.spelled }))
+pub bad_line : (line : List ℕ) (parts : List (List ℕ)) (r : Result (ℕ × Act) LineCause) → parts ≡ fields line → IfErr r (HasCause parts) → IfErr r (HasCause (fields line))
+bad_line line parts (Ok x) e h = tt
+bad_line line parts (Err cause) e h = subst (λ (ps : List (List ℕ)). HasCause ps cause) e h

@@ -2,7 +2,7 @@
 use Rattle.std.specs.Prelude.{◌≡◌, ◌<◌, true, List, All, AllPairs}
 use Rattle.claim_history.specs.Acts.{is_request}
 use Rattle.request_text.specs.declared.request.Request.{Request}
-use Rattle.request_text.specs.Grammar.{IsLane}
+use Rattle.request_text.specs.Lanes.{IsLane}
 
 -- the line numbers rise, each lane is 1 to 16, and each act is valid and no publication
 pub record AreInOrder (requests : List Request) : Type 0 where

@@ -1,30 +1,23 @@
 -- The text of requests: lines `lane VERB fields`, and lines `FENCE`, each of which ends a batch.
-use Rattle.std.specs.Prelude.{◌≡◌, ℕ, ◌+◌, ◌≤◌, true, List, [], ◌∷◌, ◌++◌, length, codes, decimal, All, flat_map}
+use Rattle.std.specs.Prelude.{◌≡◌, ℕ, ◌+◌, true, List, [], ◌∷◌, ◌++◌, length, codes, decimal, All, flat_map}
 use Rattle.std.specs.Str.Lines.{lines}
 use Rattle.text_lines.specs.Fields.{line_of}
 use Rattle.claim_history.specs.declared.act.Act.{Act}
 use Rattle.claim_history.specs.Acts.{is_request, act_fields}
+use Rattle.request_text.specs.declared.error.LineCause.{LineCause}
 use Rattle.request_text.specs.declared.error.RequestError.{RequestError}
 use Rattle.request_text.specs.declared.error.RequestError.TheVariants as errors
 use Rattle.request_text.specs.declared.request.Request.{Request}
+use Rattle.request_text.specs.Lanes.{IsLane, fence, fence_line}
+use Rattle.request_text.specs.Causes.{IsBadLine}
 
--- the lanes are 1 to 16
-abbrev pub IsLane : ℕ → Type 0
-IsLane lane = (1 ≤ lane) × (lane ≤ 16)
-
--- the line that ends a batch, and the same with its end
-abbrev pub fence : List ℕ
-fence = codes "FENCE"
-
-abbrev pub fence_line : List ℕ
-fence_line = fence ++ codes "\n"
-
--- a verb and the fields after it that are an act's, and those that are no act's
+-- a verb and the fields after it that are an act's
 abbrev pub AreArgs : List ℕ → List (List ℕ) → Act → Type 0
 AreArgs verb args act = (is_request act ≡ true) × (verb ∷ args ≡ act_fields act)
 
-abbrev pub AreNoArgs : List ℕ → List (List ℕ) → Type 0
-AreNoArgs verb args = (act : Act) → is_request act ≡ true → verb ∷ args ≡ act_fields act → ⊥
+-- fields after a lane that are an act's
+abbrev pub AreActFields : List (List ℕ) → Act → Type 0
+AreActFields after act = (is_request act ≡ true) × (after ≡ act_fields act)
 
 -- a lane and an act's fields
 abbrev pub line_fields : ℕ → Act → List (List ℕ)
@@ -36,24 +29,11 @@ pub record AreFields (fields : List (List ℕ)) (lane : ℕ) (act : Act) : Type 
   pub valid : is_request act ≡ true
   pub spelled : fields ≡ line_fields lane act
 
--- fields that ask nothing of a lane
-abbrev pub AreNoFields : List (List ℕ) → Type 0
-AreNoFields fields = (lane : ℕ) (act : Act) → AreFields fields lane act → ⊥
-
 -- a line asks this of a lane: its fields stand with single spaces between them
 pub record IsLine (line : List ℕ) (lane : ℕ) (act : Act) : Type 0 where
   pub by : IsLane lane
   pub valid : is_request act ≡ true
   pub spelled : line ≡ line_of (line_fields lane act)
-
--- a line asks nothing of a lane
-abbrev pub AsksNothing : List ℕ → Type 0
-AsksNothing line = (lane : ℕ) (act : Act) → IsLine line lane act → ⊥
-
--- a line ends no batch, and asks nothing of a lane
-pub record IsNoLine (line : List ℕ) : Type 0 where
-  pub no_fence : line ≡ fence → ⊥
-  pub asks_nothing : AsksNothing line
 
 -- each line is a request of the first batch, or ends it; the lines are numbered on
 abbrev pub AreBatches : ℕ → List (List ℕ) → List (List Request) → Type 0
@@ -71,8 +51,8 @@ IsRequestText bytes batches = AreBatches 1 (lines bytes) batches
 abbrev pub IsNoRequestText : List ℕ → Type 0
 IsNoRequestText bytes = (batches : List (List Request)) → IsRequestText bytes batches → ⊥
 
--- the lines before this one are in the grammar, and this one is not
-pub record IsFirstBadLine (bytes : List ℕ) (number : ℕ) : Type 0 where
+-- the lines before this one are in the grammar, and this one is not, for this cause
+pub record IsFirstBadLine (bytes : List ℕ) (number : ℕ) (cause : LineCause) : Type 0 where
   pub before : List (List ℕ)
   pub line : List ℕ
   pub after : List (List ℕ)
@@ -80,12 +60,12 @@ pub record IsFirstBadLine (bytes : List ℕ) (number : ℕ) : Type 0 where
   pub number_is : number ≡ length before + 1
   pub batches : List (List Request)
   pub spelled : AreBatches 1 before batches
-  pub bad : IsNoLine line
+  pub bad : IsBadLine line cause
 
--- what holds of the line of an error
-abbrev pub OnBadLine : (ℕ → Type 0) → RequestError → Type 0
+-- what holds of the line and the cause of an error
+abbrev pub OnBadLine : (ℕ → LineCause → Type 0) → RequestError → Type 0
 OnBadLine P errors.Memory = Unit {0}
-OnBadLine P (errors.BadLine line cause) = P line
+OnBadLine P (errors.BadLine line cause) = P line cause
 
 -- what is asked of a lane
 pub record Asked : Type 0 where

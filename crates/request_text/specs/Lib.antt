@@ -1,2 +1,4 @@
+pub mod Lanes
+pub mod Causes
 pub mod Grammar
 pub mod Batches

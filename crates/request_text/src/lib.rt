@@ -4,9 +4,9 @@
 //! ends at a line feed, or at a carriage return and a line feed; the last line may end with the input. A batch may be empty, and an
 //! input with no fence is one.
 //!
-//! - A text has one reading, or is refused with the number of its first bad line.
+//! - A text has one reading, or is refused with the number of its first bad line and the first cause in the order of `LineCause` that
+//!   applies to it.
 //! - What is written of batches is read back as these batches.
-//! - The cause that is told is the first in the order of `LineCause` that applies. This is tested and not proved.
 #![tactic(auto)]
 
 ghost use Rattle.request_text.specs.Grammar.{ReadBackLaw};
@@ -17,6 +17,7 @@ mod reading;
 mod request;
 #[cfg(test)]
 mod tests;
+mod verb;
 mod writing;
 
 pub use error::{LineCause, RequestError};

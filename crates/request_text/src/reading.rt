@@ -1,6 +1,9 @@
 //! Reading requests.
 ghost use Rattle.std.specs.Prelude.{◌≡◌, ◌↔◌, IfOk, IfErr, IsTrue};
-ghost use Rattle.request_text.specs.Grammar.{fence, AsksNothing, IsFirstBadLine, IsLine, IsNoRequestText, IsRequestText, OnBadLine};
+ghost use Rattle.text_lines.specs.Fields.{fields};
+ghost use Rattle.request_text.specs.Lanes.{fence};
+ghost use Rattle.request_text.specs.Causes.{HasCause};
+ghost use Rattle.request_text.specs.Grammar.{IsFirstBadLine, IsLine, IsNoRequestText, IsRequestText, OnBadLine};
 
 use crate::error::RequestError;
 use crate::fields::read_line;
@@ -19,7 +22,7 @@ fn is_fence(line: &[u8]) -> bool
 fn request_of(alloc: Global, number: u64, line: &[u8]) -> Result<Request, RequestError>
     ensures numbered { IfOk result (λ request. request.line ≡ number) }
     ensures found { IfOk result (λ request. IsLine line.now request.lane request.act) }
-    ensures bad { IfErr result (OnBadLine (λ n. (n ≡ number) × AsksNothing line.now)) }
+    ensures bad { IfErr result (OnBadLine (λ n cause. (n ≡ number) × HasCause (fields line.now) cause)) }
 {
     match read_line(alloc, line)? {
         Ok((lane, act)) => Ok(Request {
@@ -37,10 +40,10 @@ fn request_of(alloc: Global, number: u64, line: &[u8]) -> Result<Request, Reques
 /// The batches of requests that the input spells: lines `lane VERB fields`, and lines `FENCE`, each of which ends a batch. An input
 /// with k fences has k + 1 batches, which may be empty. The lines are numbered from 1, fences too.
 ///
-/// `BadLine` comes exactly where some line is not in the grammar, with the first such line.
+/// `BadLine` comes exactly where some line is not in the grammar, with the first such line and the first cause that applies to it.
 pub fn read_requests(alloc: Global, input: &[u8]) -> Result<Vec<Batch>, RequestError>
     ensures found { IfOk result (λ batches. IsRequestText input.now batches.items) }
-    ensures bad { IfErr result (OnBadLine (λ number. IsFirstBadLine input.now number × IsNoRequestText input.now)) }
+    ensures bad { IfErr result (OnBadLine (λ number cause. IsFirstBadLine input.now number cause × IsNoRequestText input.now)) }
 {
     let mut batches = Vec::new(alloc);
     let mut requests = Vec::new(alloc);

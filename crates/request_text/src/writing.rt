@@ -1,7 +1,8 @@
 //! Writing requests.
 ghost use Rattle.std.specs.Prelude.{◌≡◌, ◌+◌, ◌≤◌, ◌++◌, decimal, true, vec_len, vec_capacity};
 ghost use Rattle.claim_history.specs.Acts.{is_request};
-ghost use Rattle.request_text.specs.Grammar.{request_line, IsLane};
+ghost use Rattle.request_text.specs.Grammar.{request_line};
+ghost use Rattle.request_text.specs.Lanes.{IsLane};
 
 use claim_history::{Act, write_act};
 use setoff_model::{put, write_number};

@@ -10,4 +10,4 @@ returns-clause-found c =
 pub returns-clause-bad : goal.returns-clause-bad
 returns-clause-bad c =
     let e = ap (map (λ (f : Bor (List ℕ)). f.now)) c.as_slice.ensures.value ∙ c.in_ok-fields.ensures in
-    bad_line c.joined_fields_are_cut_again.ensures.law c.ended_lines_are_lines.ensures.visible c.args.line.now _ c.asked_of.result e c.asked_of.ensures.bad
+    bad_line c.args.line.now _ c.asked_of.result e c.asked_of.ensures.bad

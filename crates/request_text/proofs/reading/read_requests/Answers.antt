@@ -12,7 +12,7 @@ new-requires-2 c = in_order 1 c.loop-line.invariant.read.before c.loop-line.batc
 
 pub returns-in-Err-clause-bad : goal.returns-in-Err-clause-bad
 returns-in-Err-clause-bad c =
-    weaker _ _ (λ n h. breaks_at c.args.input.now c.loop-line.rest.now c.in-Some.line.now c.in-Some.after.now c.loop-line.number n (c.loop-line.batches.items ++ c.loop-line.requests.items ∷ []) c.loop-line.invariant.read c.in-Some.ensures.0 (λ e. let wrong = c.if-is_fence.ensures.1 e in absurd cc) h) c.in-Err.e c.in-Err.ensures.bad
+    weaker _ _ (λ n cause h. breaks_at c.args.input.now c.loop-line.rest.now c.in-Some.line.now c.in-Some.after.now c.loop-line.number n cause (c.loop-line.batches.items ++ c.loop-line.requests.items ∷ []) c.loop-line.invariant.read c.in-Some.ensures.0 (λ e. let wrong = c.if-is_fence.ensures.1 e in absurd cc) h) c.in-Err.e c.in-Err.ensures.bad
 
 pub returns-clause-found : goal.returns-clause-found
 returns-clause-found c =

@@ -1,0 +1,89 @@
+-- What is wrong with a line: the first of the causes that applies.
+use Rattle.std.specs.Prelude.{◌≡◌, ℕ, zero, suc, true, List, [], ◌∷◌, length, codes, decimal}
+use Rattle.setoff_model.specs.Names.{is_name}
+use Rattle.setoff_model.specs.Texts.{cents_text, kind_text}
+use Rattle.setoff_model.specs.declared.kind.Kind.{Kind}
+use Rattle.text_lines.specs.Fields.{fields}
+use Rattle.claim_history.specs.Days.{day_text}
+use Rattle.claim_history.specs.Acts.{is_amount, is_claim_amount, is_day}
+use Rattle.request_text.specs.declared.error.LineCause.{LineCause}
+use Rattle.request_text.specs.declared.error.LineCause.TheVariants as causes
+use Rattle.request_text.specs.declared.verb.Verb.{Verb}
+use Rattle.request_text.specs.declared.verb.Verb.TheVariants as verbs
+use Rattle.request_text.specs.Lanes.{IsLane, fence}
+
+-- what a field after a verb is: a name, an amount from 0.01 on, an amount from 0.00 on, a kind, or a date
+pub data Form : Type 0 where
+  named : Form
+  some_cents : Form
+  any_cents : Form
+  of_kind : Form
+  on_day : Form
+
+-- the field is in its grammar and range
+abbrev pub HasForm : Form → List ℕ → Type 0
+HasForm named field = is_name field ≡ true
+HasForm some_cents field = (cents : ℕ) × ((is_claim_amount cents ≡ true) × (field ≡ cents_text cents))
+HasForm any_cents field = (cents : ℕ) × ((is_amount cents ≡ true) × (field ≡ cents_text cents))
+HasForm of_kind field = (kind : Kind) × (field ≡ kind_text kind)
+HasForm on_day field = (day : ℕ) × ((is_day day ≡ true) × (field ≡ day_text day))
+
+abbrev pub verb_text : Verb → List ℕ
+verb_text verbs.Firm = codes "FIRM"
+verb_text verbs.File = codes "FILE"
+verb_text verbs.Confirm = codes "CONFIRM"
+verb_text verbs.Dispute = codes "DISPUTE"
+verb_text verbs.Withdraw = codes "WITHDRAW"
+verb_text verbs.Receive = codes "RECEIVE"
+verb_text verbs.Fund = codes "FUND"
+verb_text verbs.Draw = codes "DRAW"
+verb_text verbs.Limit = codes "LIMIT"
+verb_text verbs.Offer = codes "OFFER"
+verb_text verbs.Position = codes "POSITION"
+verb_text verbs.Close = codes "CLOSE"
+verb_text verbs.Abandon = codes "ABANDON"
+
+-- what the fields after a verb are
+abbrev pub forms_of : Verb → List Form
+forms_of verbs.Firm = named ∷ []
+forms_of verbs.File = named ∷ named ∷ named ∷ some_cents ∷ on_day ∷ []
+forms_of verbs.Confirm = named ∷ named ∷ named ∷ []
+forms_of verbs.Dispute = named ∷ named ∷ named ∷ []
+forms_of verbs.Withdraw = named ∷ named ∷ []
+forms_of verbs.Receive = named ∷ named ∷ some_cents ∷ []
+forms_of verbs.Fund = named ∷ some_cents ∷ []
+forms_of verbs.Draw = named ∷ some_cents ∷ []
+forms_of verbs.Limit = named ∷ any_cents ∷ any_cents ∷ []
+forms_of verbs.Offer = named ∷ any_cents ∷ []
+forms_of verbs.Position = named ∷ []
+forms_of verbs.Close = of_kind ∷ on_day ∷ []
+forms_of verbs.Abandon = []
+
+-- the k-th field, from 1, is the first that is not in its grammar and range
+abbrev pub IsFirstBadField : List Form → List (List ℕ) → ℕ → Type 0
+IsFirstBadField [] args k = ⊥
+IsFirstBadField (form ∷ forms) [] k = ⊥
+IsFirstBadField (form ∷ forms) (field ∷ args) zero = ⊥
+IsFirstBadField (form ∷ forms) (field ∷ args) (suc zero) = HasForm form field → ⊥
+IsFirstBadField (form ∷ forms) (field ∷ args) (suc (suc k)) = HasForm form field × IsFirstBadField forms args (suc k)
+
+-- the number of the fields after the verb is not the verb's; or it is, and the k-th is the first that is not in its grammar and range
+abbrev pub HasArgsCause : List Form → List (List ℕ) → LineCause → Type 0
+HasArgsCause forms args causes.Fields = length args ≡ length forms → ⊥
+HasArgsCause forms args (causes.Field k) = (length args ≡ length forms) × IsFirstBadField forms args k
+HasArgsCause forms args _ = ⊥
+
+-- after the lane there is no field, or none that is a verb; or there is one, and the cause is in the fields after it
+abbrev pub HasVerbCause : List (List ℕ) → LineCause → Type 0
+HasVerbCause after causes.Verb = (verb : Verb) (args : List (List ℕ)) → after ≡ verb_text verb ∷ args → ⊥
+HasVerbCause after cause = (verb : Verb) × ((args : List (List ℕ)) × ((after ≡ verb_text verb ∷ args) × HasArgsCause (forms_of verb) args cause))
+
+-- the first field is no lane; or it is one, and the cause is in the fields after it
+abbrev pub HasCause : List (List ℕ) → LineCause → Type 0
+HasCause parts causes.Lane = (lane : ℕ) (after : List (List ℕ)) → IsLane lane → parts ≡ decimal lane ∷ after → ⊥
+HasCause parts cause = (lane : ℕ) × ((after : List (List ℕ)) × (IsLane lane × (parts ≡ decimal lane ∷ after) × HasVerbCause after cause))
+
+-- the line is no fence, and this is the first cause that applies
+pub record IsBadLine (line : List ℕ) (cause : LineCause) : Type 0 where
+  pub no_fence : line ≡ fence → ⊥
+  pub why : HasCause (fields line) cause
