@@ -1,10 +1,16 @@
 -- The definitions at worked cases.
-use Rattle.std.specs.Prelude.{codes}
-use Rattle.std.proofs.Common.{ℕ, ◌+◌, ◌<◌, ◌≤◌, List, [], ◌∷◌, ◌++◌, refl, sym, ap, arith}
+use Rattle.std.specs.Prelude.{codes, decimal}
+use Rattle.std.proofs.Common.{◌≡◌, ℕ, ◌+◌, ◌<◌, ◌≤◌, List, [], ◌∷◌, ◌++◌, drop, refl, sym, ap, arith}
 use Rattle.std.proofs.lemmas.Fmt.{decimal_digit}
 use Rattle.claim_history.specs.declared.act.Act.{Act}
 use Rattle.claim_history.specs.declared.act.Act.TheVariants as act
+use Rattle.setoff_model.specs.Texts.{cents_text}
+use Rattle.text_lines.specs.Fields.{fields}
+use Rattle.request_text.specs.declared.error.LineCause.TheVariants as causes
 use Rattle.request_text.specs.declared.request.Request.{Request}
+use Rattle.request_text.specs.declared.verb.Verb.TheVariants as verbs
+use Rattle.request_text.specs.Causes.{HasArgsCause, HasCause, forms_of}
+use Rattle.request_text.proofs.Words.{nothing}
 use Rattle.request_text.specs.Grammar.{IsRequestText, IsLine}
 
 abbrev firm : List ℕ → Act
@@ -27,3 +33,17 @@ no_lines = (refl, refl)
 
 one_fence : IsRequestText (codes "FENCE") ([] ∷ [] ∷ [])
 one_fence = (refl, (refl, refl))
+
+-- ---- causes
+
+-- an amount of nothing is the fourth field of a FILE, and the first that is out of range; the date after it is none
+filing : List (List ℕ)
+filing = fields (codes "1 FILE B I-1 A 0.00 2025-02-30")
+
+zero_amount : HasCause filing (causes.Field 4)
+unfolding filing
+zero_amount =
+    let one : codes "1" ≡ decimal 1 = sym (decimal_digit 1 (omega arith)) in
+    let zero : codes "0.00" ≡ cents_text 0 = ap (λ (text : List ℕ). text ++ codes "." ++ codes "00") (sym (decimal_digit 0 (omega arith))) in
+    let bad : HasArgsCause (forms_of verbs.File) (drop 2 filing) (causes.Field 4) = (refl, (refl, (refl, (refl, nothing (codes "0.00") 0 refl zero)))) in
+    (1, (drop 1 filing, ((omega arith, omega arith), ap (λ (field : List ℕ). field ∷ drop 1 filing) one, (verbs.File, (drop 2 filing, (refl, bad))))))
