@@ -74,11 +74,11 @@ claim_kept firms keys more d c discharge i may named small e = record {
 
 -- ---- what may stand next
 
-new_firm : {A : Type 0} (B : ℕ → Type 0) (r : Option ℕ) → MatchOption r A B → is_some r ≡ false → A
+pub new_firm : {A : Type 0} (B : ℕ → Type 0) (r : Option ℕ) → MatchOption r A B → is_some r ≡ false → A
 new_firm B None h e = h
 new_firm B (Some p) h e = absurd cc
 
-old_firm : (firms : List (List ℕ)) (firm : List ℕ) (r : Option ℕ) → MatchOption r (All (λ f. f ≢ firm) firms) (λ p. (p < length firms) × ((d : List ℕ) → get_or firms p d ≡ firm)) → is_some r ≡ true → All (λ f. f ≢ firm) firms → ⊥
+pub old_firm : (firms : List (List ℕ)) (firm : List ℕ) (r : Option ℕ) → MatchOption r (All (λ f. f ≢ firm) firms) (λ p. (p < length firms) × ((d : List ℕ) → get_or firms p d ≡ firm)) → is_some r ≡ true → All (λ f. f ≢ firm) firms → ⊥
 old_firm firms firm None h e new = absurd cc
 old_firm firms firm (Some p) h e new = new p [] h.0 (h.1 [])
 

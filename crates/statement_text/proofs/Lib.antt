@@ -8,3 +8,4 @@ pub mod Next
 pub mod Texts
 pub mod OneReading
 pub mod Written
+pub mod Causes

@@ -152,7 +152,7 @@ pub record ReadUpTo (ls : List (List ℕ)) (d : Drafted) (rest : List (List ℕ)
   pub read : ls ≡ texts_of d ++ rest
   pub numbered : number ≡ length (lines_of d) + 1
 
-texts_long : (d : Drafted) → length (texts_of d) ≡ length (lines_of d)
+pub texts_long : (d : Drafted) → length (texts_of d) ≡ length (lines_of d)
 texts_long d = length-map (lines_of d) line_text
 
 pub finish_found : (ls : List (List ℕ)) (d whole : Drafted) (this : List ℕ) (after : List (List ℕ)) (number : ℕ) (r : Result (CutView × OutcomeView) StatementError) → ReadUpTo ls d (this ∷ after) number → whole ≡ d → this ≡ line_text line.End
@@ -165,7 +165,7 @@ finish_found ls d whole this after number (Ok read) so_far same last h =
     subst (λ c. IsStatement ls c read.1) (sym cut) (subst (IsStatement ls d.cut) (sym outcome) whole_is)
 finish_found ls d whole this after number (Err e) so_far same last h = tt
 
-abbrev IsNotEmpty : List (List ℕ) → Type 0
+abbrev pub IsNotEmpty : List (List ℕ) → Type 0
 IsNotEmpty ls = (text : List ℕ) × (others : List (List ℕ)) × (ls ≡ text ∷ others)
 
 after_end : (ls : List (List ℕ)) (d : Drafted) (this text : List ℕ) (others : List (List ℕ)) (number n : ℕ) → ReadUpTo ls d (this ∷ text ∷ others) number → this ≡ line_text line.End → n ≡ number + 1 → IsBadLine ls n

@@ -2,3 +2,4 @@ pub mod Lines
 pub mod Statements
 pub mod Drafts
 pub mod Steps
+pub mod Causes

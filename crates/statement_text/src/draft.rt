@@ -1,5 +1,5 @@
 //! A statement as far as it is read.
-ghost use Rattle.std.specs.Prelude.{◌≡◌, ◌↔◌, ◌<◌, ◌≤◌, ◌^◌, true, IfOk, OnErr, IsNone, IsTrue, unsigned_abs};
+ghost use Rattle.std.specs.Prelude.{◌≡◌, ◌↔◌, ◌<◌, ◌≤◌, ◌^◌, true, IfErr, IfOk, IfSome, OnErr, IsNone, IsTrue, unsigned_abs};
 ghost use Rattle.setoff_model.specs.Limits.{most_amount, most_window};
 ghost use Rattle.setoff_model.specs.CutView.{IsWindowOf};
 
@@ -49,6 +49,7 @@ fn has_window_of(kind: Kind, party: &Party) -> bool
 impl Draft {
     ghost use Rattle.setoff_model.specs.declared.cut.CutClaim.{CutClaim};
     ghost use Rattle.setoff_model.specs.Names.{is_name};
+    ghost use Rattle.statement_text.specs.Causes.{HasPartyCause, HasClaimCause};
     ghost use Rattle.statement_text.specs.Statements.{CanBeStated};
     ghost use Rattle.statement_text.specs.Drafts.{begun, with_party, with_claim, MayBeParty, MayBeClaim, IsClaimOf};
 
@@ -75,6 +76,7 @@ impl Draft {
         requires spend { party.now.spend ≤ most_window }
         requires room { party.now.room ≤ most_window }
         ensures refused { IsNone result ↔ MayBeParty self.now party.now }
+        ensures cause { IfSome result (HasPartyCause self.now party.now) }
         ensures stated { CanBeStated self.now.cut self.now.outcome }
     {
         if !self.claims.is_empty() {
@@ -115,6 +117,7 @@ impl Draft {
         requires amount { amount ≤ most_amount }
         ensures found { IfOk result (λ c. MayBeClaim self.now c × IsClaimOf self.now.cut.parties key.now debtor.now amount c) }
         ensures refused { OnErr result ((c : CutClaim) → MayBeClaim self.now c → IsClaimOf self.now.cut.parties key.now debtor.now amount c → ⊥) }
+        ensures cause { IfErr result (HasClaimCause self.now key.now debtor.now) }
         ensures stated { CanBeStated self.now.cut self.now.outcome }
     {
         if self.claims.len() >= MOST_CLAIMS {

@@ -6,7 +6,7 @@
 //! - What is written of a cut and an outcome is a statement of them, and a statement has one cut and one outcome.
 //! - A text that is no statement is refused with the number of a line: the first up to which no statement begins like the text, or
 //!   one past the last.
-//! - The cause that is told is the first in the order of `StatementCause` that applies. This is tested and not proved.
+//! - The cause that is told is the first in the order of `StatementCause` that applies to this line.
 #![tactic(auto)]
 
 ghost use Rattle.statement_text.specs.Statements.{OneReadingLaw, WrittenLaw};

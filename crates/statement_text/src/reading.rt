@@ -4,6 +4,7 @@ ghost use Rattle.std.specs.Str.Lines.{lines};
 ghost use Rattle.statement_text.specs.Lines.{IsInRange, IsLine, IsNoLine};
 ghost use Rattle.statement_text.specs.Statements.{CanBeStated, IsStatement, IsNoStatement, IsNoFront, IsFirstBadLine, OnBadLine};
 ghost use Rattle.statement_text.specs.Drafts.{lines_of, texts_of, IsNoNext};
+ghost use Rattle.statement_text.specs.Causes.{HasCause, HasLineCause, HasTextCause, IsNoHeadText, OnCause};
 ghost use Rattle.statement_text.specs.Steps.{IsNoHead, IsTaken, IsStep};
 
 use crate::draft::Draft;
@@ -28,6 +29,7 @@ fn take_party(draft: Draft, number: u64, party: Party, price: i64) -> Result<Ste
     requires { IsInRange (Line.Party party price) }
     ensures found { IfOk result (IsTaken draft (Line.Party party price)) }
     ensures bad { IfErr result (OnBadLine (λ n. (n ≡ number) × IsNoNext draft (Line.Party party price))) }
+    ensures cause { IfErr result (OnCause (λ n cause. (n ≡ number) × HasLineCause draft (Line.Party party price) cause)) }
 {
     match draft.party_refusal(&party) {
         Some(cause) => Err(StatementError::BadLine {
@@ -50,6 +52,7 @@ fn take_claim(
     requires { IsInRange (Line.Claim key debtor amount discharge) }
     ensures found { IfOk result (IsTaken draft (Line.Claim key debtor amount discharge)) }
     ensures bad { IfErr result (OnBadLine (λ n. (n ≡ number) × IsNoNext draft (Line.Claim key debtor amount discharge))) }
+    ensures cause { IfErr result (OnCause (λ n cause. (n ≡ number) × HasLineCause draft (Line.Claim key debtor amount discharge) cause)) }
 {
     match draft.placed(&key, &debtor, amount) {
         Err(cause) => Err(StatementError::BadLine {
@@ -66,6 +69,7 @@ fn take_line(draft: Draft, number: u64, line: Line) -> Result<Step, StatementErr
     requires range { IsInRange line }
     ensures found { IfOk result (IsTaken draft line) }
     ensures bad { IfErr result (OnBadLine (λ n. (n ≡ number) × IsNoNext draft line)) }
+    ensures cause { IfErr result (OnCause (λ n cause. (n ≡ number) × HasLineCause draft line cause)) }
 {
     match line {
         Line::Party { party, price } => take_party(draft, number, party, price),
@@ -88,6 +92,7 @@ fn take_text(alloc: Global, draft: Draft, number: u64, text: &[u8]) -> Result<St
     requires { CanBeStated draft.cut draft.outcome }
     ensures found { IfOk result (IsStep draft text.now) }
     ensures bad { IfErr result (OnBadLine (λ n. (n ≡ number) × IsNoFront (texts_of draft ++ text.now ∷ []))) }
+    ensures cause { IfErr result (OnCause (λ n cause. (n ≡ number) × HasTextCause draft text.now cause)) }
 {
     match read_line(alloc, text)? {
         Some(line) => take_line(draft, number, line),
@@ -102,6 +107,7 @@ fn take_text(alloc: Global, draft: Draft, number: u64, text: &[u8]) -> Result<St
 fn finished(draft: Draft, number: u64, rest: &[u8]) -> Result<(Cut, Outcome), StatementError>
     ensures found { IfOk result (λ read. (read.0 ≡ draft.cut) × (read.1 ≡ draft.outcome) × (lines rest.now ≡ [])) }
     ensures bad { IfErr result (OnBadLine (λ n. (n ≡ number) × ((text : List ℕ) × (others : List (List ℕ)) × (lines rest.now ≡ text ∷ others)))) }
+    ensures cause { IfErr result (OnCause (λ n cause. cause ≡ StatementCause.After)) }
 {
     match next_line(rest) {
         Some(_) => Err(StatementError::BadLine {
@@ -118,6 +124,7 @@ fn read_rest(alloc: Global, head: Draft, text: &[u8]) -> Result<(Cut, Outcome), 
     requires first { length (lines_of head) ≡ 1 }
     ensures found { IfOk result (λ read. IsStatement (texts_of head ++ lines text.now) read.0 read.1) }
     ensures bad { IfErr result (OnBadLine (IsFirstBadLine (texts_of head ++ lines text.now))) }
+    ensures cause { IfErr result (OnCause (HasCause (texts_of head ++ lines text.now))) }
 {
     let mut draft = head;
     let mut rest = text;
@@ -143,6 +150,7 @@ fn begin(alloc: Global, line: Line) -> Result<Draft, StatementError>
     ensures stated { IfOk result (λ head. CanBeStated head.cut head.outcome) }
     ensures first { IfOk result (λ head. lines_of head ≡ line ∷ []) }
     ensures bad { IfErr result (OnBadLine (λ n. (n ≡ 1) × IsNoHead line)) }
+    ensures cause { IfErr result (OnCause (λ n cause. cause ≡ StatementCause.Round)) }
 {
     match line {
         Line::Head { round, kind } => Ok(Draft::new(alloc, round, kind)),
@@ -158,6 +166,7 @@ fn begin_text(alloc: Global, text: &[u8]) -> Result<Draft, StatementError>
     ensures stated { IfOk result (λ head. CanBeStated head.cut head.outcome) }
     ensures first { IfOk result (λ head. (length (lines_of head) ≡ 1) × (texts_of head ≡ text.now ∷ [])) }
     ensures bad { IfErr result (OnBadLine (λ n. (n ≡ 1) × IsNoFront (text.now ∷ []))) }
+    ensures cause { IfErr result (OnCause (λ n cause. (n ≡ 1) × (cause ≡ StatementCause.Round) × IsNoHeadText text.now)) }
 {
     match read_line(alloc, text)? {
         Some(line) => begin(alloc, line),
@@ -174,10 +183,11 @@ fn begin_text(alloc: Global, text: &[u8]) -> Result<Draft, StatementError>
 ///
 /// The cut is well formed, and the outcome has a price for each party and a discharge for each claim. `BadLine` comes exactly
 /// where the input is no statement, with the first line, counted from 1, up to which no statement begins like the input, or
-/// one past the last line where some statement goes on from there.
+/// one past the last line where some statement goes on from there, and with the first cause that applies there.
 pub fn read_statement(alloc: Global, input: &[u8]) -> Result<(Cut, Outcome), StatementError>
     ensures found { IfOk result (λ read. IsStatement (lines input.now) read.0 read.1) }
     ensures bad { IfErr result (OnBadLine (λ number. IsFirstBadLine (lines input.now) number × IsNoStatement (lines input.now))) }
+    ensures cause { IfErr result (OnCause (HasCause (lines input.now))) }
 {
     let Some((first, rest)) = next_line(input) else {
         return Err(StatementError::BadLine {
