@@ -49,7 +49,7 @@ pub data IsBatchesDue {D : Type 0} (seen : D → Seen) (old new : D) (batches : 
 -- the status and the text that an input comes to that is not in the grammar: its first bad line, or there was no memory
 pub data IsBadLineDue (input : List ℕ) : ℕ → List ℕ → Type 0 where
   no_line_memory : IsBadLineDue input 9 (codes "fault memory\n")
-  bad_line : (line : ℕ) (cause : LineCause) → IsFirstBadLine input line → IsNoRequestText input → IsBadLineDue input 6 (bad_line_text line cause)
+  bad_line : (line : ℕ) (cause : LineCause) → IsFirstBadLine input line cause → IsNoRequestText input → IsBadLineDue input 6 (bad_line_text line cause)
 
 -- the status and the text that an input of requests comes to
 pub data IsRunDue {D : Type 0} (seen : D → Seen) (old new : D) (input : List ℕ) : ℕ → List ℕ → Type 0 where

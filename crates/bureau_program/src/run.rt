@@ -91,7 +91,7 @@ fn tell_bad_line<K: Sink>(
     input: &[u8],
     sink: &mut K,
 ) -> u8
-    requires first { IsFirstBadLine input.now line }
+    requires first { IsFirstBadLine input.now line cause }
     requires none { IsNoRequestText input.now }
     ensures wrote { Wrote (IsBadLineDue input.now) (K.held sink.old) (K.held sink.new) result }
     ensures write_fault { result ≡ 4 → HasRisen (K.faults sink.old) (K.faults sink.new) }

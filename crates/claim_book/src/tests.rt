@@ -76,12 +76,10 @@ fn fund(firm: Name, amount: u64) -> Act {
     Act::Fund { firm, amount }
 }
 
-#[test]
-fn limits_of_an_account(rt: HostRuntime) {
-    let parts = make_parts().expect(&rt, "names and a day");
+// What the limits of an account let pass, and what the account is then. None where the memory is missing.
+fn limits_hold(alloc: Global, book: &mut Book, parts: &Parts) -> Option<bool> {
     let a = parts.a;
-    let mut book = Book::new(rt.alloc());
-    let acts = vec![in rt.alloc();
+    let acts = vec![in alloc;
         Act::Firm { firm: a },
         limit(a, 5_000, 10_000),
         draw(a, 5_000),
@@ -109,62 +107,105 @@ fn limits_of_an_account(rt: HostRuntime) {
         Reply::Done,
         Reply::Refused(Why::FirmExists),
     ];
-    assert!(rt; ask_all(&mut book, acts.expect(&rt, "memory"), &due));
-    assert!(rt; book.history().len() == 10);
-    let account = book.account(a).expect(&rt, "registered");
-    assert!(rt; account.balance == 10_000 && account.credit == 5_000);
-    assert!(rt; account.ceiling == 10_000 && account.offer == 7);
-    assert!(rt; book.accounts().len() == 1 && book.account(parts.b).is_none());
+    if !ask_all(book, acts.ok()?, &due) {
+        return Some(false);
+    }
+    let account = book.account(a)?;
+    let as_set = account.balance == 10_000 && account.credit == 5_000;
+    let as_offered = account.ceiling == 10_000 && account.offer == 7;
+    let alone = book.accounts().len() == 1 && book.account(parts.b).is_none();
+    Some(as_set && as_offered && alone && book.history().len() == 10)
+}
+
+#[test]
+fn limits_of_an_account(rt: HostRuntime) {
+    let parts = make_parts().expect(&rt, "names and a day");
+    let mut book = Book::new(rt.alloc());
+    assert!(rt; limits_hold(rt.alloc(), &mut book, &parts) == Some(true));
 }
 
 fn status_and_left(claim: &ClaimFact) -> (Status, u64) {
     (claim.status, claim.left)
 }
 
-fn asked(book: &mut Book, parts: &Parts, act: Act, due: Reply) -> Option<(Status, u64)> {
+// Whether the claim is such after an act that got this reply.
+fn goes(book: &mut Book, parts: &Parts, act: Act, due: Reply, status: Status, left: u64) -> bool {
     if ask(book, 1, act) != Some(due) {
-        return None;
+        return false;
     }
-    let claim = book.claim(&parts.key)?;
-    Some(status_and_left(&claim))
+    match book.claim(&parts.key) {
+        Some(claim) => status_and_left(&claim) == (status, left),
+        None => false,
+    }
+}
+
+fn are_registered(alloc: Global, book: &mut Book, parts: &Parts) -> Option<bool> {
+    let firms = vec![in alloc; Act::Firm { firm: parts.a }, Act::Firm { firm: parts.b }];
+    let done = ask_all(book, firms.ok()?, &[Reply::Done; 2]);
+    Some(done && book.claim(&parts.key).is_none() && book.claims().len() == 0)
+}
+
+fn is_confirmed_in_part(book: &mut Book, parts: &Parts) -> bool {
+    let file = file(parts.key, parts.a, 1_000, parts.due);
+    let confirm = confirm(parts.key, parts.a);
+    let receive = Act::Receive {
+        key: parts.key,
+        amount: 400,
+    };
+    let more = Act::Receive {
+        key: parts.key,
+        amount: 601,
+    };
+    let over = Reply::Refused(Why::OverOpen);
+    let filed = goes(book, parts, file, Reply::Done, Status::Filed, 1_000);
+    let confirmed = goes(book, parts, confirm, Reply::Done, Status::Confirmed, 1_000);
+    let received = goes(book, parts, receive, Reply::Done, Status::Confirmed, 600);
+    let held = goes(book, parts, more, over, Status::Confirmed, 600);
+    filed && confirmed && received && held
+}
+
+fn is_owed(book: &Book, parts: &Parts) -> bool {
+    let owed = Position {
+        balance: 0,
+        receivable: 600,
+        payable: 0,
+    };
+    let owing = Position {
+        balance: 0,
+        receivable: 0,
+        payable: 600,
+    };
+    book.position(parts.b) == Some(owed) && book.position(parts.a) == Some(owing)
+}
+
+fn is_withdrawn(book: &mut Book, parts: &Parts) -> bool {
+    let dispute = Act::Dispute {
+        key: parts.key,
+        debtor: parts.a,
+    };
+    let withdraw = Act::Withdraw { key: parts.key };
+    let wrong = Reply::Refused(Why::WrongState);
+    let disputed = goes(book, parts, dispute, Reply::Done, Status::Disputed, 600);
+    let withdrawn = goes(book, parts, withdraw, Reply::Done, Status::Withdrawn, 600);
+    let held = goes(
+        book,
+        parts,
+        confirm(parts.key, parts.a),
+        wrong,
+        Status::Withdrawn,
+        600,
+    );
+    disputed && withdrawn && held && book.claims().len() == 1 && book.history().len() == 9
 }
 
 #[test]
 fn life_of_a_claim(rt: HostRuntime) {
     let parts = make_parts().expect(&rt, "names and a day");
-    let key = parts.key;
-    let debtor = parts.a;
     let mut book = Book::new(rt.alloc());
-    let firms = vec![in rt.alloc(); Act::Firm { firm: parts.a }, Act::Firm { firm: parts.b }];
-    let done = [Reply::Done, Reply::Done];
-    assert!(rt; ask_all(&mut book, firms.expect(&rt, "memory"), &done));
-    assert!(rt; book.claim(&key).is_none() && book.claims().len() == 0);
-    let file = Act::File {
-        key,
-        debtor,
-        amount: 1_000,
-        due: parts.due,
-    };
-    assert!(rt; asked(&mut book, &parts, file, Reply::Done) == Some((Status::Filed, 1_000)));
-    let confirm = Act::Confirm { key, debtor };
-    assert!(rt; asked(&mut book, &parts, confirm, Reply::Done) == Some((Status::Confirmed, 1_000)));
-    let receive = Act::Receive { key, amount: 400 };
-    assert!(rt; asked(&mut book, &parts, receive, Reply::Done) == Some((Status::Confirmed, 600)));
-    let owed = book.position(parts.b).expect(&rt, "registered");
-    assert!(rt; owed.balance == 0 && owed.receivable == 600 && owed.payable == 0);
-    let owing = book.position(parts.a).expect(&rt, "registered");
-    assert!(rt; owing.balance == 0 && owing.receivable == 0 && owing.payable == 600);
-    let more = Act::Receive { key, amount: 601 };
-    let over = Reply::Refused(Why::OverOpen);
-    assert!(rt; asked(&mut book, &parts, more, over) == Some((Status::Confirmed, 600)));
-    let dispute = Act::Dispute { key, debtor };
-    assert!(rt; asked(&mut book, &parts, dispute, Reply::Done) == Some((Status::Disputed, 600)));
-    let withdraw = Act::Withdraw { key };
-    assert!(rt; asked(&mut book, &parts, withdraw, Reply::Done) == Some((Status::Withdrawn, 600)));
-    let again = Act::Confirm { key, debtor };
-    let wrong = Reply::Refused(Why::WrongState);
-    assert!(rt; asked(&mut book, &parts, again, wrong) == Some((Status::Withdrawn, 600)));
-    assert!(rt; book.claims().len() == 1 && book.history().len() == 9);
+    assert!(rt; are_registered(rt.alloc(), &mut book, &parts) == Some(true));
+    assert!(rt; is_confirmed_in_part(&mut book, &parts));
+    assert!(rt; is_owed(&book, &parts));
+    assert!(rt; is_withdrawn(&mut book, &parts));
 }
 
 // The name of A with the hexadecimal-like letters of a number.
@@ -184,15 +225,21 @@ fn register(book: &mut Book, number: u32) -> Option<Reply> {
     ask(book, 1, Act::Firm { firm })
 }
 
+fn is_full_of_firms(book: &mut Book) -> bool {
+    for number in 0..16_384 {
+        if register(book, number) != Some(Reply::Done) {
+            return false;
+        }
+    }
+    register(book, 16_384) == Some(Reply::Refused(Why::FirmsFull))
+        && register(book, 77) == Some(Reply::Refused(Why::FirmExists))
+        && book.accounts().len() == 16_384
+}
+
 #[test]
 fn full_of_firms(rt: HostRuntime) {
     let mut book = Book::new(rt.alloc());
-    for number in 0..16_384 {
-        assert!(rt; register(&mut book, number) == Some(Reply::Done));
-    }
-    assert!(rt; register(&mut book, 16_384) == Some(Reply::Refused(Why::FirmsFull)));
-    assert!(rt; register(&mut book, 77) == Some(Reply::Refused(Why::FirmExists)));
-    assert!(rt; book.accounts().len() == 16_384);
+    assert!(rt; is_full_of_firms(&mut book));
 }
 
 // ---- rounds
@@ -242,20 +289,21 @@ fn confirm(key: Key, debtor: Name) -> Act {
     Act::Confirm { key, debtor }
 }
 
-// The book in which A owes B 10.00, B owes C 7.00 and C owes A 12.00.
-fn circle_book(alloc: Global, circle: &Circle) -> Option<Book> {
+// Lets A owe B 10.00, B owe C 7.00 and C owe A 12.00. None where the memory is missing.
+fn fill(alloc: Global, book: &mut Book, circle: &Circle) -> Option<bool> {
     let Circle { a, b, c, due, .. } = *circle;
-    let mut book = Book::new(alloc);
-    ask(&mut book, 1, Act::Firm { firm: a })?;
-    ask(&mut book, 1, Act::Firm { firm: b })?;
-    ask(&mut book, 1, Act::Firm { firm: c })?;
-    ask(&mut book, 1, file(circle.owed_by_a, a, 1_000, due))?;
-    ask(&mut book, 1, file(circle.owed_by_b, b, 700, due))?;
-    ask(&mut book, 1, file(circle.owed_by_c, c, 1_200, due))?;
-    ask(&mut book, 1, confirm(circle.owed_by_a, a))?;
-    ask(&mut book, 1, confirm(circle.owed_by_b, b))?;
-    ask(&mut book, 1, confirm(circle.owed_by_c, c))?;
-    Some(book)
+    let acts = vec![in alloc;
+        Act::Firm { firm: a },
+        Act::Firm { firm: b },
+        Act::Firm { firm: c },
+        file(circle.owed_by_a, a, 1_000, due),
+        file(circle.owed_by_b, b, 700, due),
+        file(circle.owed_by_c, c, 1_200, due),
+        confirm(circle.owed_by_a, a),
+        confirm(circle.owed_by_b, b),
+        confirm(circle.owed_by_c, c),
+    ];
+    Some(ask_all(book, acts.ok()?, &[Reply::Done; 9]))
 }
 
 // Opens a round of a caller, and gives its number. None where no round can be opened, or the memory is missing.
@@ -278,11 +326,9 @@ fn open(alloc: Global, book: &mut Book, caller: u32, kind: Kind, horizon: Day) -
     Some(round)
 }
 
-// The book of the circle, in which caller 1 opened round 1 with the day on which the claims are due as its horizon.
-fn open_circle(alloc: Global, circle: &Circle, kind: Kind) -> Option<Book> {
-    let mut book = circle_book(alloc, circle)?;
-    let number = open(alloc, &mut book, 1, kind, circle.due)?;
-    if number == 1 { Some(book) } else { None }
+// Lets caller 1 open round 1 over the circle, with the day on which the claims are due as its horizon.
+fn open_circle(alloc: Global, book: &mut Book, circle: &Circle, kind: Kind) -> bool {
+    fill(alloc, book, circle) == Some(true) && open(alloc, book, 1, kind, circle.due) == Some(1)
 }
 
 fn frozen(book: &mut Book, act: Act) -> bool {
@@ -293,68 +339,123 @@ fn done(book: &mut Book, act: Act) -> bool {
     ask(book, 2, act) == Some(Reply::Done)
 }
 
+fn others_are_frozen(book: &mut Book, circle: &Circle) -> bool {
+    let dispute = frozen(
+        book,
+        Act::Dispute {
+            key: circle.owed_by_a,
+            debtor: circle.a,
+        },
+    );
+    let receive = frozen(
+        book,
+        Act::Receive {
+            key: circle.owed_by_a,
+            amount: 1,
+        },
+    );
+    let withdraw = frozen(
+        book,
+        Act::Withdraw {
+            key: circle.owed_by_a,
+        },
+    );
+    dispute && receive && withdraw && book.open_round() == Some(1) && book.owner() == Some(1)
+}
+
+fn bureau_abandons(book: &mut Book, circle: &Circle) -> bool {
+    let not_owner = ask(book, 2, Act::Abandon) == Some(Reply::Refused(Why::NotOwner { round: 1 }));
+    let abandoned = ask(book, 0, Act::Abandon) == Some(Reply::Abandoned { round: 1 });
+    let ended = book.open_round().is_none() && book.owner().is_none();
+    let freed = done(
+        book,
+        Act::Dispute {
+            key: circle.owed_by_a,
+            debtor: circle.a,
+        },
+    );
+    let no_round = ask(book, 1, Act::Abandon) == Some(Reply::Refused(Why::NoRound));
+    not_owner && abandoned && ended && freed && no_round
+}
+
 #[test]
 fn others_while_a_round_is_open(rt: HostRuntime) {
     let circle = make_circle().expect(&rt, "names and a day");
-    let key = circle.owed_by_a;
+    let mut book = Book::new(rt.alloc());
+    assert!(rt; open_circle(rt.alloc(), &mut book, &circle, Kind::Plain));
+    assert!(rt; others_are_frozen(&mut book, &circle));
+    assert!(rt; bureau_abandons(&mut book, &circle));
+}
+
+fn new_claim_goes_on(book: &mut Book, circle: &Circle) -> Option<bool> {
+    let key = key(circle.b, Name::of(b"I-4")?);
     let debtor = circle.a;
-    let mut book = open_circle(rt.alloc(), &circle, Kind::Plain).expect(&rt, "memory");
-    assert!(rt; book.open_round() == Some(1) && book.owner() == Some(1));
-    assert!(rt; frozen(&mut book, Act::Dispute { key, debtor }));
-    assert!(rt; frozen(&mut book, Act::Receive { key, amount: 1 }));
-    assert!(rt; frozen(&mut book, Act::Withdraw { key }));
-    let not_owner = Reply::Refused(Why::NotOwner { round: 1 });
-    assert!(rt; ask(&mut book, 2, Act::Abandon) == Some(not_owner));
-    assert!(rt; ask(&mut book, 0, Act::Abandon) == Some(Reply::Abandoned { round: 1 }));
-    assert!(rt; book.open_round().is_none() && book.owner().is_none());
-    assert!(rt; done(&mut book, Act::Dispute { key, debtor }));
-    let no_round = Reply::Refused(Why::NoRound);
-    assert!(rt; ask(&mut book, 1, Act::Abandon) == Some(no_round));
+    let filed = done(book, file(key, debtor, 500, circle.due));
+    let confirmed = done(book, confirm(key, debtor));
+    let received = done(book, Act::Receive { key, amount: 200 });
+    let disputed = done(book, Act::Dispute { key, debtor });
+    let claim = book.claim(&key)?;
+    let is_such = status_and_left(&claim) == (Status::Disputed, 300);
+    Some(filed && confirmed && received && disputed && is_such)
 }
 
 #[test]
 fn claims_outside_the_cut_go_on(rt: HostRuntime) {
     let circle = make_circle().expect(&rt, "names and a day");
-    let mut book = open_circle(rt.alloc(), &circle, Kind::Plain).expect(&rt, "memory");
-    let invoice = Name::of(b"I-4").expect(&rt, "a name");
-    let key = key(circle.b, invoice);
-    let debtor = circle.a;
-    assert!(rt; done(&mut book, file(key, debtor, 500, circle.due)));
-    assert!(rt; done(&mut book, confirm(key, debtor)));
-    assert!(rt; done(&mut book, Act::Receive { key, amount: 200 }));
-    assert!(rt; done(&mut book, Act::Dispute { key, debtor }));
-    let claim = book.claim(&key).expect(&rt, "filed");
-    assert!(rt; status_and_left(&claim) == (Status::Disputed, 300));
+    let mut book = Book::new(rt.alloc());
+    assert!(rt; open_circle(rt.alloc(), &mut book, &circle, Kind::Plain));
+    assert!(rt; new_claim_goes_on(&mut book, &circle) == Some(true));
+}
+
+fn only_parties_are_frozen(book: &mut Book, circle: &Circle) -> Option<bool> {
+    let other = Name::of(b"D")?;
+    let held = frozen(book, fund(circle.a, 1));
+    let registered = done(book, Act::Firm { firm: other });
+    let funded = done(book, fund(other, 1));
+    Some(held && registered && funded)
 }
 
 #[test]
 fn funds_are_held_in_a_funded_round_alone(rt: HostRuntime) {
     let circle = make_circle().expect(&rt, "names and a day");
-    let fund = |firm| Act::Fund { firm, amount: 1 };
-    let mut plain = open_circle(rt.alloc(), &circle, Kind::Plain).expect(&rt, "memory");
-    assert!(rt; done(&mut plain, fund(circle.a)));
-    let mut funded = open_circle(rt.alloc(), &circle, Kind::Funded).expect(&rt, "memory");
-    assert!(rt; frozen(&mut funded, fund(circle.a)));
-    let other = Name::of(b"D").expect(&rt, "a name");
-    assert!(rt; done(&mut funded, Act::Firm { firm: other }));
-    assert!(rt; done(&mut funded, fund(other)));
+    let mut plain = Book::new(rt.alloc());
+    assert!(rt; open_circle(rt.alloc(), &mut plain, &circle, Kind::Plain));
+    assert!(rt; done(&mut plain, fund(circle.a, 1)));
+    let mut funded = Book::new(rt.alloc());
+    assert!(rt; open_circle(rt.alloc(), &mut funded, &circle, Kind::Funded));
+    assert!(rt; only_parties_are_frozen(&mut funded, &circle) == Some(true));
+}
+
+fn close(kind: Kind, horizon: Day) -> Act {
+    Act::Close { kind, horizon }
+}
+
+fn only_the_owner_continues(book: &mut Book, horizon: Day) -> bool {
+    let open = Some(Reply::Refused(Why::RoundOpen { round: 1 }));
+    let other_kind = ask(book, 1, close(Kind::Funded, horizon)) == open;
+    let other_caller = ask(book, 2, close(Kind::Plain, horizon)) == open;
+    let continued = ask(book, 1, close(Kind::Plain, horizon))
+        == Some(Reply::Continued { round: 1 });
+    other_kind && other_caller && continued
+}
+
+fn keeps_the_cut(book: &Book) -> bool {
+    let Some(cut) = book.kept_cut() else {
+        return false;
+    };
+    let claims = cut.claims();
+    cut.round() == 1
+        && claims.len() == 3
+        && claims[0].amount == 1_000
+        && claims[1].amount == 700
+        && claims[2].amount == 1_200
 }
 
 #[test]
 fn a_close_continues_its_own_round_alone(rt: HostRuntime) {
     let circle = make_circle().expect(&rt, "names and a day");
-    let mut book = open_circle(rt.alloc(), &circle, Kind::Plain).expect(&rt, "memory");
-    let horizon = circle.due;
-    let close = |kind| Act::Close { kind, horizon };
-    let open = Some(Reply::Refused(Why::RoundOpen { round: 1 }));
-    assert!(rt; ask(&mut book, 1, close(Kind::Funded)) == open);
-    assert!(rt; ask(&mut book, 2, close(Kind::Plain)) == open);
-    let continued = Some(Reply::Continued { round: 1 });
-    assert!(rt; ask(&mut book, 1, close(Kind::Plain)) == continued);
-    let cut = book.kept_cut().expect(&rt, "open");
-    let amounts = [1_000, 700, 1_200];
-    assert!(rt; cut.round() == 1 && cut.claims().len() == 3);
-    for (claim, amount) in cut.claims().iter().zip(amounts) {
-        assert!(rt; claim.amount == amount);
-    }
+    let mut book = Book::new(rt.alloc());
+    assert!(rt; open_circle(rt.alloc(), &mut book, &circle, Kind::Plain));
+    assert!(rt; only_the_owner_continues(&mut book, circle.due));
+    assert!(rt; keeps_the_cut(&book));
 }

@@ -1,11 +1,11 @@
 -- Invoices, read row by row.
-use Rattle.std.proofs.Common.{◌≡◌, ◌∙◌, ℕ, ◌+◌, ◌≤◌, List, [], ◌∷◌, ◌++◌, length, Some, None, refl, sym, ap, subst, inl, inr, arith, length-append}
+use Rattle.std.proofs.Common.{◌≡◌, ◌∙◌, ℕ, ◌+◌, ◌≤◌, List, [], ◌∷◌, ◌++◌, length, map, Some, None, refl, sym, ap, subst, inl, inr, arith, length-append}
 use Rattle.std.specs.Prelude.{Result, Ok, Err, IfErr, Vec}
 use Rattle.std.specs.Result.{IsErrAnd}
 use Rattle.std.specs.declared.alloc.Global.{Global}
 use Rattle.std.specs.Borrow.{Bor}
 use Rattle.std.proofs.lemmas.Bool.{cases_Bool}
-use Rattle.std.proofs.lemmas.List.{append-nil}
+use Rattle.std.proofs.lemmas.List.{append-nil, map-append}
 use Rattle.std.proofs.lemmas.List.Concat.{flat_map-cons}
 use Rattle.std.proofs.lemmas.Grind.{flat_map-append}
 use Rattle.csv.specs.Machine.{Read, next_record}
@@ -13,12 +13,13 @@ use Rattle.csv.specs.Reading.{Reached, default_config, strip_bom, is_bom}
 use Rattle.csv.specs.declared.parser.State.TheVariants as st
 use Rattle.csv.specs.declared.reader.Reader.{Reader}
 use Rattle.claim_history.specs.declared.act.Act.{Act}
+use Rattle.request_text.specs.Grammar.{Asked, request_line, batch_text}
 use Rattle.firm_notices.specs.declared.error.RowCause.{RowCause}
 use Rattle.firm_notices.specs.declared.error.RowCause.TheVariants as cause
 use Rattle.firm_notices.specs.declared.error.ImportError.{ImportError}
 use Rattle.firm_notices.specs.declared.error.ImportError.TheVariants as errors
 use Rattle.firm_notices.specs.Rows.{AreRows, AreFirstRows, StandsAt}
-use Rattle.firm_notices.specs.Invoices.{invoice_names, IsInvoice, AreInvoices, IsInvoiceText, filing_line, import_text, IsFiled, HasCause, IsBadInvoice, IsFirstBadRow, OnBadRow}
+use Rattle.firm_notices.specs.Invoices.{invoice_names, IsInvoice, AreInvoices, IsInvoiceText, asked_of, import_text, IsFiled, HasCause, IsBadInvoice, IsFirstBadRow, OnBadRow}
 use Rattle.firm_notices.proofs.Reading.{taken}
 
 -- ---- the names
@@ -56,10 +57,14 @@ invoices_more [] (f ∷ filings) fields filing h is = absurd h
 invoices_more (r ∷ rows) [] fields filing h is = absurd h
 invoices_more (r ∷ rows) (f ∷ filings) fields filing h is = (h.0, invoices_more rows filings fields filing h.1 is)
 
-lines_more : (lane : ℕ) (filings : List Act) (filing : Act) → import_text lane (filings ++ filing ∷ []) ≡ import_text lane filings ++ filing_line lane filing
+abbrev line : Asked → List ℕ
+line asked = request_line asked.lane asked.act
+
+lines_more : (lane : ℕ) (filings : List Act) (filing : Act) → import_text lane (filings ++ filing ∷ []) ≡ import_text lane filings ++ request_line lane filing
 lines_more lane filings filing =
-    flat_map-append (filing_line lane) filings (filing ∷ [])
-    ∙ ap (λ (t : List ℕ). import_text lane filings ++ t) (flat_map-cons (filing_line lane) filing [] ∙ append-nil (filing_line lane filing))
+    ap batch_text (map-append (asked_of lane) filings (filing ∷ []))
+    ∙ flat_map-append line (map (asked_of lane) filings) (asked_of lane filing ∷ [])
+    ∙ ap (λ (t : List ℕ). import_text lane filings ++ t) (flat_map-cons line (asked_of lane filing) [] ∙ append-nil (request_line lane filing))
 
 count_more : (rows : List (List (List ℕ))) (fields : List (List ℕ)) → length (rows ++ fields ∷ []) ≡ length rows + 1
 count_more rows fields = length-append rows (fields ∷ [])
@@ -72,7 +77,7 @@ reads_on bytes lane row reader reader2 text text2 fields h stands (filing, is, g
   filings = h.filings ++ filing ∷ [];
   stands = stands;
   spelled = invoices_more h.rows h.filings fields filing h.spelled is;
-  written = grown ∙ ap (λ (t : List ℕ). t ++ filing_line lane filing) h.written ∙ sym (lines_more lane h.filings filing);
+  written = grown ∙ ap (λ (t : List ℕ). t ++ request_line lane filing) h.written ∙ sym (lines_more lane h.filings filing);
   number_is = ap (λ (n : ℕ). n + 1) h.number_is ∙ ap (λ (n : ℕ). n + 1) (sym (count_more h.rows fields));
 }
 

@@ -1,5 +1,5 @@
 -- Invoices have one reading, and what is refused has none.
-use Rattle.std.proofs.Common.{◌≡◌, ◌∙◌, ℕ, zero, suc, true, List, [], ◌∷◌, ◌++◌, length, drop, get_or, Some, None, refl, sym, ap, ap₂, subst, arith}
+use Rattle.std.proofs.Common.{◌≡◌, ◌∙◌, ℕ, zero, suc, true, List, [], ◌∷◌, ◌++◌, length, map, drop, get_or, Some, None, refl, sym, ap, ap₂, subst, arith}
 use Rattle.std.specs.Prelude.{◌&&◌, codes, All}
 use Rattle.std.proofs.lemmas.Bool.{and_parts}
 use Rattle.std.proofs.lemmas.List.Elements.{All-nil, All-cons}
@@ -17,7 +17,11 @@ use Rattle.claim_history.specs.declared.act.Act.TheVariants as act
 use Rattle.claim_history.proofs.Shapes.{act_texts_law}
 use Rattle.firm_notices.specs.declared.error.RowCause.{RowCause}
 use Rattle.firm_notices.specs.declared.error.RowCause.TheVariants as cause
-use Rattle.firm_notices.specs.Invoices.{invoice_names, invoice_shapes, IsInvoice, AreInvoices, IsInvoiceText, IsFirstBad, HasCause, IsBadInvoice, IsFirstBadRow, OneReadingLaw, FiledLaw}
+use Rattle.firm_notices.specs.Invoices.{invoice_names, IsInvoice, AreInvoices, IsInvoiceText, HasCause, IsBadInvoice, IsFirstBadRow, OneReadingLaw, FiledLaw, asked_of}
+use Rattle.request_text.specs.Grammar.{Asked, CanBeAsked}
+use Rattle.request_text.specs.Lanes.{IsLane}
+use Rattle.request_text.specs.Causes.{forms_of, IsFirstBadField}
+use Rattle.request_text.specs.declared.verb.Verb.TheVariants as verbs
 
 -- ---- rows
 
@@ -79,13 +83,13 @@ each_filed (b ∷ before) fields more (f ∷ filings) h = each_filed before fiel
 -- ---- causes
 
 no_bad : (creditor invoice debtor : List ℕ) (amount due : ℕ) → is_name creditor ≡ true → is_name invoice ≡ true → is_name debtor ≡ true → is_claim_amount amount ≡ true → is_day due ≡ true
-    → (place : ℕ) → IsFirstBad invoice_shapes (creditor ∷ invoice ∷ debtor ∷ cents_text amount ∷ day_text due ∷ []) place → ⊥
+    → (place : ℕ) → IsFirstBadField (forms_of verbs.File) (creditor ∷ invoice ∷ debtor ∷ cents_text amount ∷ day_text due ∷ []) place → ⊥
 no_bad creditor invoice debtor amount due c i d a t zero h = h
 no_bad creditor invoice debtor amount due c i d a t (suc zero) h = h c
 no_bad creditor invoice debtor amount due c i d a t (suc (suc zero)) h = h.1 i
 no_bad creditor invoice debtor amount due c i d a t (suc (suc (suc zero))) h = h.1.1 d
-no_bad creditor invoice debtor amount due c i d a t (suc (suc (suc (suc zero)))) h = h.1.1.1 (amount, a, refl)
-no_bad creditor invoice debtor amount due c i d a t (suc (suc (suc (suc (suc zero))))) h = h.1.1.1.1 (due, t, refl)
+no_bad creditor invoice debtor amount due c i d a t (suc (suc (suc (suc zero)))) h = h.1.1.1 (amount, (a, refl))
+no_bad creditor invoice debtor amount due c i d a t (suc (suc (suc (suc (suc zero))))) h = h.1.1.1.1 (due, (t, refl))
 no_bad creditor invoice debtor amount due c i d a t (suc (suc (suc (suc (suc (suc place)))))) h = h.1.1.1.1.1
 
 no_cause : (fields : List (List ℕ)) (why : RowCause) (creditor invoice debtor : List ℕ) (amount due : ℕ) → fields ≡ creditor ∷ invoice ∷ debtor ∷ cents_text amount ∷ day_text due ∷ []
@@ -93,7 +97,7 @@ no_cause : (fields : List (List ℕ)) (why : RowCause) (creditor invoice debtor 
 no_cause fields cause.Header creditor invoice debtor amount due e c i d a t h = h
 no_cause fields cause.Fields creditor invoice debtor amount due e c i d a t h = h (ap length e)
 no_cause fields (cause.Field place) creditor invoice debtor amount due e c i d a t h =
-    no_bad creditor invoice debtor amount due c i d a t place (subst (λ fs. IsFirstBad invoice_shapes fs place) e h.1)
+    no_bad creditor invoice debtor amount due c i d a t place (subst (λ fs. IsFirstBadField (forms_of verbs.File) fs place) e h.1)
 
 -- a letter of the verb, of which the fields of two acts begin with one
 letter : (place : ℕ) (a b : List (List ℕ)) → a ≡ b → get_or (get_or a 0 []) place 0 ≡ get_or (get_or b 0 []) place 0
@@ -146,11 +150,13 @@ one_reading_law = record { only = only; refused = refused }
 
 -- ---- lines
 
-each_asked : (rows : List (List (List ℕ))) (filings : List Act) → AreInvoices rows filings → All (λ (f : Act). is_request f ≡ true) filings
-each_asked [] [] h = All-nil (λ (f : Act). is_request f ≡ true)
-each_asked [] (f ∷ filings) h = absurd h
-each_asked (r ∷ rows) [] h = absurd h
-each_asked (r ∷ rows) (f ∷ filings) h = All-cons (λ (f : Act). is_request f ≡ true) f filings h.0.0 (each_asked rows filings h.1)
+each_asked : (lane : ℕ) (rows : List (List (List ℕ))) (filings : List Act) → IsLane lane → AreInvoices rows filings → All CanBeAsked (map (asked_of lane) filings)
+each_asked lane [] [] by h = All-nil CanBeAsked
+each_asked lane [] (f ∷ filings) by h = absurd h
+each_asked lane (r ∷ rows) [] by h = absurd h
+each_asked lane (r ∷ rows) (f ∷ filings) by h = All-cons CanBeAsked (asked_of lane f) (map (asked_of lane) filings) (record { by = by; valid = h.0.0 }) (each_asked lane rows filings by h.1)
 
 pub filed_law : FiledLaw
-filed_law bytes filings (rows, all, are) = read_back_law.written filings (each_asked rows filings are)
+filed_law lane bytes filings by (rows, all, are) =
+    let batch = map (asked_of lane) filings in
+    read_back_law.written batch [] (All-cons (All CanBeAsked) batch [] (each_asked lane rows filings by are) (All-nil (All CanBeAsked)))

@@ -1,11 +1,11 @@
 -- Invoices as CSV: a row of names, and below it a row for each invoice, which are read as FILE requests.
-use Rattle.std.specs.Prelude.{◌≡◌, ◌≢◌, ℕ, zero, suc, ◌+◌, true, List, [], ◌∷◌, ◌++◌, length, codes, flat_map}
-use Rattle.setoff_model.specs.Names.{is_name}
-use Rattle.setoff_model.specs.Texts.{cents_text}
+use Rattle.std.specs.Prelude.{◌≡◌, ◌≢◌, ℕ, zero, suc, ◌+◌, true, List, [], ◌∷◌, ◌++◌, length, map, codes}
 use Rattle.claim_history.specs.Days.{day_text}
-use Rattle.claim_history.specs.Acts.{is_claim_amount, is_day}
 use Rattle.claim_history.specs.declared.act.Act.{Act}
-use Rattle.request_text.specs.Grammar.{AreArgs, request_line, numbered, IsRequestText}
+use Rattle.request_text.specs.Grammar.{AreArgs, Asked, request_line, batch_text, numbered, IsRequestText}
+use Rattle.request_text.specs.Lanes.{IsLane}
+use Rattle.request_text.specs.Causes.{forms_of, IsFirstBadField}
+use Rattle.request_text.specs.declared.verb.Verb.TheVariants as verbs
 use Rattle.firm_notices.specs.Rows.{AreRows, AreFirstRows}
 use Rattle.firm_notices.specs.declared.error.RowCause.{RowCause}
 use Rattle.firm_notices.specs.declared.error.RowCause.TheVariants as cause
@@ -33,47 +33,25 @@ IsInvoiceText bytes filings = (rows : List (List (List ℕ))) × AreRows bytes (
 
 -- ---- the lines of FILEs
 
--- the line of a FILE in a lane
-abbrev pub filing_line : ℕ → Act → List ℕ
-filing_line lane filing = request_line filing
+-- a FILE that is asked of a lane
+abbrev pub asked_of : ℕ → Act → Asked
+asked_of lane filing = record { lane = lane; act = filing }
 
 -- the lines of FILEs in a lane
 abbrev pub import_text : ℕ → List Act → List ℕ
-import_text lane filings = flat_map (filing_line lane) filings
+import_text lane filings = batch_text (map (asked_of lane) filings)
 
 -- a text has grown by the line of the FILE with these fields
 abbrev pub IsFiled : ℕ → List (List ℕ) → List ℕ → List ℕ → Type 0
-IsFiled lane fields old new = (filing : Act) × IsInvoice fields filing × (new ≡ old ++ filing_line lane filing)
+IsFiled lane fields old new = (filing : Act) × IsInvoice fields filing × (new ≡ old ++ request_line lane filing)
 
 -- ---- rows that are none
-
--- what a field may be: a name, an amount from 0.01 on, or a day
-pub data Shape : Type 0 where
-  a_name : Shape
-  an_amount : Shape
-  a_day : Shape
-
--- the field is spelled as such a one, and is in its range
-abbrev pub HasShape : Shape → List ℕ → Type 0
-HasShape a_name field = is_name field ≡ true
-HasShape an_amount field = (cents : ℕ) × (is_claim_amount cents ≡ true) × (field ≡ cents_text cents)
-HasShape a_day field = (day : ℕ) × (is_day day ≡ true) × (field ≡ day_text day)
-
--- creditor, invoice, debtor, amount and due day
-abbrev pub invoice_shapes : List Shape
-invoice_shapes = a_name ∷ a_name ∷ a_name ∷ an_amount ∷ a_day ∷ []
-
--- the field at this place, counted from 1, is the first that has not its shape
-abbrev pub IsFirstBad : List Shape → List (List ℕ) → ℕ → Type 0
-IsFirstBad (shape ∷ shapes) (field ∷ fields) (suc zero) = HasShape shape field → ⊥
-IsFirstBad (shape ∷ shapes) (field ∷ fields) (suc (suc place)) = HasShape shape field × IsFirstBad shapes fields (suc place)
-IsFirstBad shapes fields place = ⊥
 
 -- why a row below the names is no invoice, by the first cause that applies
 abbrev pub HasCause : List (List ℕ) → RowCause → Type 0
 HasCause fields cause.Header = ⊥
 HasCause fields cause.Fields = length fields ≢ 5
-HasCause fields (cause.Field place) = (length fields ≡ 5) × IsFirstBad invoice_shapes fields place
+HasCause fields (cause.Field place) = (length fields ≡ 5) × IsFirstBadField (forms_of verbs.File) fields place
 
 -- the rows before this one are the names and invoices, and this one is no invoice
 pub record IsBadInvoice (bytes : List ℕ) (row : ℕ) (why : RowCause) : Type 0 where
@@ -102,6 +80,6 @@ pub record OneReadingLaw : Type 0 where
   pub only : (bytes : List ℕ) (a b : List Act) → IsInvoiceText bytes a → IsInvoiceText bytes b → a ≡ b
   pub refused : (bytes : List ℕ) (filings : List Act) (row : ℕ) (why : RowCause) → IsInvoiceText bytes filings → IsFirstBadRow bytes row why → ⊥
 
--- the lines of the FILEs that invoices spell are requests, which ask for these FILEs
+-- the lines of the FILEs that invoices spell are a batch of requests, which ask for these FILEs
 abbrev pub FiledLaw : Type 0
-FiledLaw = (bytes : List ℕ) (filings : List Act) → IsInvoiceText bytes filings → IsRequestText (import_text 1 filings) (numbered 1 filings)
+FiledLaw = (lane : ℕ) (bytes : List ℕ) (filings : List Act) → IsLane lane → IsInvoiceText bytes filings → IsRequestText (import_text lane filings) (numbered 1 (map (asked_of lane) filings) ∷ [])

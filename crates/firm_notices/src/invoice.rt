@@ -1,7 +1,8 @@
 //! The FILE of a row's fields.
-ghost use Rattle.std.specs.Prelude.{◌≡◌, ℕ, ◌∷◌, [], true, false, IsTrue, ◌↔◌, get_or, IfOk, IfErr, IfSome, IfNone};
+ghost use Rattle.std.specs.Prelude.{◌≡◌, ◌∷◌, [], true, false, IsTrue, ◌↔◌, get_or, IfOk, IfErr, IfSome, IfNone};
 ghost use Rattle.setoff_model.specs.Texts.{cents_text};
 ghost use Rattle.claim_history.specs.Acts.{is_claim_amount};
+ghost use Rattle.request_text.specs.Causes.{HasForm, some_cents};
 ghost use Rattle.csv.specs.Records.{fields_of};
 ghost use Rattle.firm_notices.specs.Invoices.{IsInvoice, HasCause, invoice_names};
 
@@ -91,13 +92,12 @@ fn filing(
 }
 
 // The amount from 0.01 on that a field is.
-#[tactic(auto, using(request_text::proofs::Words::not_nothing))]
 fn claim_amount(field: &[u8]) -> Option<u64>
     ensures found { IfSome result (λ cents. (field.now ≡ cents_text cents) × (is_claim_amount cents ≡ true)) }
-    ensures none { IfNone result ((cents : ℕ) → is_claim_amount cents ≡ true → field.now ≡ cents_text cents → ⊥) }
+    ensures none { IfNone result (HasForm some_cents field.now → ⊥) }
 {
     match read_amount(field) {
-        None | Some(0) => None,
-        Some(cents) => Some(cents),
+        Some(cents) if 1 <= cents => Some(cents),
+        _ => None,
     }
 }

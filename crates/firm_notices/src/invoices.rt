@@ -1,6 +1,7 @@
 //! Invoices as FILE requests.
 ghost use Rattle.std.specs.Prelude.{◌≡◌, ◌∷◌, [], List, length, OnOk, IfOk, IfErr};
 ghost use Rattle.claim_history.specs.declared.act.Act.{Act};
+ghost use Rattle.request_text.specs.Lanes.{IsLane};
 ghost use Rattle.csv.specs.Records.{fields_of};
 ghost use Rattle.firm_notices.specs.Rows.{StandsAt};
 ghost use Rattle.firm_notices.specs.Invoices.{invoice_names, IsInvoiceText, IsFirstBadRow, OnBadRow, HasCause, import_text, IsFiled, OneReadingLaw, FiledLaw};
@@ -16,9 +17,9 @@ use std::alloc::Global;
 ///
 /// The first row has the names `creditor,invoice,debtor,amount,due`, and every other row these fields of an invoice. A byte order mark
 /// at the start, quoted fields, and rows that end with a carriage return and a line feed are read as spreadsheets write them. `BadRow`
-/// tells the first row that is not as it has to be, and its first cause. The only lane is 1 for now.
+/// tells the first row that is not as it has to be, and its first cause. The lane is 1 to 16.
 pub fn import(alloc: Global, input: &[u8], lane: u32) -> Result<Vec<u8>, ImportError>
-    requires { lane ≡ 1 }
+    requires { IsLane lane }
     ensures read { IfOk result (λ text. (filings : List Act) × IsInvoiceText input.now filings × (text.items ≡ import_text lane filings)) }
     ensures bad { IfErr result (OnBadRow (IsFirstBadRow input.now)) }
 {
@@ -78,7 +79,7 @@ fn put_filing(
     row: u64,
     fields: &ByteRecord,
 ) -> Result<(), ImportError>
-    requires { lane ≡ 1 }
+    requires { IsLane lane }
     ensures put { OnOk result (IsFiled lane (fields_of fields.now) text.old.items text.new.items) }
     ensures bad { IfErr result (OnBadRow (λ number why. (number ≡ row) × HasCause (fields_of fields.now) why)) }
 {

@@ -111,16 +111,16 @@ fn invoices_are_filed(rt: HostRuntime) {
     let cases: [(&[u8], &[u8]); 3] = [
         (
             b"creditor,invoice,debtor,amount,due\r\nB,I-1,A,10.00,2025-01-31\r\n\"C\",\"I-2\",B,7.00,2025-01-31",
-            b"1 FILE B I-1 A 10.00 2025-01-31\n1 FILE C I-2 B 7.00 2025-01-31\n",
+            b"2 FILE B I-1 A 10.00 2025-01-31\n2 FILE C I-2 B 7.00 2025-01-31\n",
         ),
         (
             b"\xef\xbb\xbf\"creditor\",invoice,debtor,amount,due\n\nB,I-1,A,\"0.01\",\"1970-01-01\"\n\n",
-            b"1 FILE B I-1 A 0.01 1970-01-01\n",
+            b"2 FILE B I-1 A 0.01 1970-01-01\n",
         ),
         (b"creditor,invoice,debtor,amount,due", b""),
     ];
     for (input, lines) in cases {
-        match import(rt.alloc(), input, 1) {
+        match import(rt.alloc(), input, 2) {
             Ok(text) => assert!(rt; text.as_slice() == lines),
             Err(_) => assert!(rt; false),
         }
