@@ -14,6 +14,8 @@ mod line;
 mod merge;
 mod room;
 mod seats;
+#[cfg(test)]
+mod tests;
 
 pub use answers::Answers;
 pub use batch::{BatchEnd, run_batch};
