@@ -13,16 +13,17 @@ use Rattle.disk_model.specs.Calls.{Seen}
 use Rattle.claim_history.specs.declared.entry.Entry.{Entry}
 use Rattle.claim_history.specs.Needs.{is_of_device}
 use Rattle.request_text.specs.declared.request.Request.{Request}
-use Rattle.bureau_desk.specs.Desks.{DeskView}
+use Rattle.bureau_desk.specs.Desks.{DeskBase, DeskView, base_of}
 use Rattle.served_lines.specs.declared.answer.Answer.{Answer}
 use Rattle.served_lines.specs.declared.line_end.LineEnd.{LineEnd}
 use Rattle.served_lines.specs.Ends.{is_memory, is_full, has_end}
 use Rattle.served_lines.specs.Served.{IsServed}
+use Rattle.lane_runner.specs.Batches.{HasRunBatch, base_cleared}
 use Rattle.printed_text.specs.Printing.{printed_of, unanswered}
 use Rattle.printed_text.specs.Writing.{IsWritten, broken, whole}
 use Rattle.bureau_program.specs.declared.tally.Tally.{Tally}
 use Rattle.bureau_program.specs.Runs.{Done, AreServed, all_added, end_status, some_device, some_end, status_by, text_of}
-use Rattle.bureau_program.specs.Serving.{HasRunBatch, HasRunBatches, HasSameOpening, IsTally, answers_of}
+use Rattle.bureau_program.specs.Serving.{HasRunBatches, HasSameOpening, IsTally, answers_of}
 use Rattle.bureau_program.proofs.Unasked.{unanswered_served}
 
 -- ---- the opening
@@ -32,6 +33,15 @@ same_opening seen d = record { moment = refl; faults = refl; opened_with = refl;
 
 opening_then : {D : Type 0} (seen : D → Seen) (a b c : DeskView D) → HasSameOpening seen a b → HasSameOpening seen b c → HasSameOpening seen a c
 opening_then seen a b c p q = record { moment = q.moment ∙ p.moment; faults = q.faults ∙ p.faults; opened_with = q.opened_with ∙ p.opened_with; tells = q.tells ∙ p.tells }
+
+-- a batch leaves the numbers of the opening
+opening_of : {D : Type 0} (seen : D → Seen) (old new : DeskView D) → base_of seen new ≡ base_cleared seen old → HasSameOpening seen old new
+opening_of seen old new is = record {
+  moment = ap (λ (b : DeskBase). b.moment_of_first_sync) is;
+  faults = ap (λ (b : DeskBase). b.faults_at_opening_end) is;
+  opened_with = ap (λ (b : DeskBase). b.opened_with) is;
+  tells = ap (λ (b : DeskBase). b.tells) is;
+}
 
 -- ---- one batch
 
@@ -140,7 +150,7 @@ module _ {D : Type 0} (seen : D → Seen) (first : DeskView D) (x : Option (List
     served = served_more first.history so.done one so.served (subst (λ (h : List Entry). IsServed batch (answers_of batch answers) h ran.added) so.history (served_by batch answers now.history ran.added ran.served))
 
     opening : HasSameOpening seen first new
-    opening = opening_then seen first now new so.opening ran.opening
+    opening = opening_then seen first now new so.opening (opening_of seen now new ran.base)
 
     -- it was written
     pub more : (tally' : Tally) → tally'.memory ≡ (tally.memory || has_end is_memory (answers_of batch answers)) → tally'.device ≡ (tally.device || list_any (λ e. is_of_device e.reply) (drop (length now.history) new.history))

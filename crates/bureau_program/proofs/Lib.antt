@@ -5,7 +5,6 @@ pub mod Printed
 pub mod Reading
 pub mod Commands
 pub mod Unasked
-pub mod OneBatch
 pub mod Batches
 pub mod Served
 pub mod Completeness

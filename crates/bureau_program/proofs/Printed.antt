@@ -1,10 +1,10 @@
 -- What of a desk's history is printed.
 use Rattle.std.specs.Prelude.{Option, Some, None, Result, Ok, Err, OnErr, OnOk, is_err, drop, take}
-use Rattle.std.proofs.Common.{◌≡◌, ◌∙◌, ℕ, Bool, true, false, List, [], ◌++◌, refl, sym, ap, true≢false, arith}
+use Rattle.std.proofs.Common.{◌≡◌, ◌∙◌, ℕ, Bool, true, false, List, [], refl, sym, ap, true≢false, arith}
 use Rattle.claim_history.specs.declared.entry.Entry.{Entry}
 use Rattle.request_text.specs.declared.request.Request.{Request}
 use Rattle.served_lines.specs.declared.answer.Answer.{Answer}
-use Rattle.printed_text.specs.Printing.{added_text, ends_text, printed_of, unanswered}
+use Rattle.printed_text.specs.Printing.{ends_text, printed_of, unanswered}
 use Rattle.bureau_program.specs.Runs.{status_by}
 use Rattle.bureau_program.specs.Serving.{answers_of}
 

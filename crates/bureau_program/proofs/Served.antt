@@ -1,6 +1,6 @@
 -- A run over a desk.
 use Rattle.std.specs.Prelude.{Option, IsTrue, drop, take, if◌then◌else◌}
-use Rattle.std.proofs.Common.{◌≡◌, ◌∙◌, ⊎_elim, inl, inr, ℕ, ◌≤◌, Bool, true, false, List, [], ◌∷◌, ◌++◌, length, refl, sym, ap, subst, arith}
+use Rattle.std.proofs.Common.{◌≡◌, ◌∙◌, ⊎_elim, inr, ℕ, ◌≤◌, Bool, true, false, List, [], ◌∷◌, ◌++◌, length, refl, sym, ap, subst, arith}
 use Rattle.std.proofs.lemmas.List.{append-nil}
 use Rattle.std.proofs.lemmas.List.Elements.{All-weaker}
 use Rattle.std.proofs.Math.Seq.{take-append_seam}
@@ -31,7 +31,6 @@ use Rattle.bureau_program.specs.Headline.{IsHeadline, LeavesDisk, SurvivesCrashe
 use Rattle.bureau_program.specs.Serving.{HasRunBatches, HasSameOpening}
 use Rattle.bureau_program.specs.Due.{IsBatchesDue}
 use Rattle.bureau_program.specs.Due.{served as served_due}
-use Rattle.bureau_program.proofs.Batches.{same_opening}
 use Rattle.bureau_program.proofs.Printed.{five_by, no_three_by}
 use Rattle.bureau_program.proofs.Rising.{device_rose}
 use Rattle.bureau_program.proofs.Written.{told_status, written_after, wrote_line}

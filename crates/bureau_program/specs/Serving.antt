@@ -20,15 +20,6 @@ pub record HasSameOpening {D : Type 0} (seen : D → Seen) (old new : DeskView D
   pub opened_with : (base_of seen new).opened_with ≡ (base_of seen old).opened_with
   pub tells : (base_of seen new).tells ≡ (base_of seen old).tells
 
--- A batch added its entries to the history. Without answers no line was asked, for want of memory. The rounds are those that it
--- published.
-pub record HasRunBatch {D : Type 0} (seen : D → Seen) (old new : DeskView D) (batch : List Request) (answers : Option (List Answer)) : Type 0 where
-  pub added : List Entry
-  pub history : new.history ≡ old.history ++ added
-  pub served : MatchOption answers (added ≡ []) (λ list. IsServed batch list old.history added)
-  pub rounds : new.rounds ≡ cuts_after (length old.history) new.history
-  pub opening : HasSameOpening seen old new
-
 -- what came of the lines of a batch: where no line was asked, there was no memory for each
 abbrev pub answers_of : List Request → Option (List Answer) → List Answer
 answers_of batch (Some answers) = answers

@@ -1,9 +1,11 @@
-use crate::tests::{is_like, words_of};
-use crate::top::{Ended, bureau};
+use crate::tests::{is_like, program, words_of};
+use crate::top::Ended;
 use bureau_edge::{BytesSink, SureSource};
 use disk_model::MemoryDisk;
 use std::alloc::{AllocError, Global};
+use std::sync::Wait;
 use std::test::Fail;
+use std::thread::Threads;
 
 // The header, and the record of the act `1 FIRM A`.
 const ONE_RECORD: &[u8] = b"BUREAUJ1\x01\x00\x00\x00\x07\x00\x00\x00\x01\x01\x01A\x00";
@@ -29,14 +31,14 @@ const NOT_PUBLISHED: &[u8] =
     b"1 FIRM A = ok\n1 FIRM B = ok\n1 FIRM C = ok\n1 FILE B I-1 A 10.00 2025-01-31 = ok\n1 FILE C I-2 B 7.00 2025-01-31 = ok\n1 FILE A I-3 C 12.00 2025-01-31 = ok\n1 CONFIRM B I-1 A = ok\n1 CONFIRM C I-2 B = ok\n1 CONFIRM A I-3 C = ok\n1 CLOSE PLAIN 2025-12-31 = opened 1\n1 PUBLISH 1 = refused 18 device 0 1\n";
 
 // What the program ends with for a word and an input, on a disk with these bytes, of whose calls one fails.
-fn ended_on(
-    rt: &HostRuntime,
+fn ended_on<R: Threads + Wait + Sync>(
+    rt: &R,
+    alloc: Global,
     word: &str,
     input: &[u8],
     bytes: &[u8],
     fails: u64,
 ) -> Result<Ended<SureSource, BytesSink, MemoryDisk>, AllocError> {
-    let alloc = rt.alloc();
     let source = SureSource::new(Vec::from_slice(alloc, input)?);
     let sink = BytesSink::new(alloc, Vec::new(alloc));
     let disk = MemoryDisk::new(
@@ -44,7 +46,7 @@ fn ended_on(
         Vec::from_slice(alloc, bytes)?,
         Vec::from_slice(alloc, &[fails])?,
     );
-    Ok(bureau(rt, alloc, words_of(alloc, &[word])?, source, sink, disk))
+    Ok(program(rt, alloc, words_of(alloc, &[word])?, source, sink, disk))
 }
 
 // A word, an input, the bytes of a disk and the call that fails; the status, the output with ? for each price, the bytes of the
@@ -182,7 +184,7 @@ fn journals(rt: HostRuntime) -> Result<(), Fail> {
         ),
     ];
     for (word, input, bytes, fails, status, output, length, calls) in cases {
-        let ended = ended_on(&rt, word, input, bytes, fails)?;
+        let ended = ended_on(&rt, rt.alloc(), word, input, bytes, fails)?;
         assert!(rt; ended.status == status);
         assert!(rt; is_like(ended.sink.bytes(), output));
         assert!(rt; ended.disk.bytes().len() == length);
@@ -223,13 +225,13 @@ fn days_on_one_journal(rt: HostRuntime) -> Result<(), Fail> {
         ),
     ];
     for (first, fails, second, output, length, verdict) in cases {
-        let day = ended_on(&rt, "run", first, b"", fails)?;
-        let day = ended_on(&rt, "run", second, day.disk.bytes(), 0)?;
+        let day = ended_on(&rt, rt.alloc(), "run", first, b"", fails)?;
+        let day = ended_on(&rt, rt.alloc(), "run", second, day.disk.bytes(), 0)?;
         assert!(rt; day.status == 0);
         assert!(rt; is_like(day.sink.bytes(), output));
         assert!(rt; day.disk.bytes().starts_with(b"BUREAUJ1"));
         assert!(rt; day.disk.bytes().len() == length);
-        let audit = ended_on(&rt, "audit", b"", day.disk.bytes(), 0)?;
+        let audit = ended_on(&rt, rt.alloc(), "audit", b"", day.disk.bytes(), 0)?;
         assert!(rt; audit.status == 0);
         assert!(rt; audit.sink.bytes() == verdict);
     }
@@ -240,11 +242,15 @@ fn days_on_one_journal(rt: HostRuntime) -> Result<(), Fail> {
 const GATES: [usize; 12] = [8, 20, 32, 44, 74, 104, 134, 152, 170, 188, 203, 261];
 
 // Which of the numbers of acts an audit tells; None where it tells something else.
-fn acts_told(rt: &HostRuntime, image: &[u8]) -> Result<Option<usize>, AllocError> {
-    let audit = ended_on(rt, "audit", b"", image, 0)?;
+fn acts_told<R: Threads + Wait + Sync>(
+    rt: &R,
+    alloc: Global,
+    image: &[u8],
+) -> Result<Option<usize>, AllocError> {
+    let audit = ended_on(rt, alloc, "audit", b"", image, 0)?;
     for acts in 0..GATES.len() {
         let rounds = if acts == 11 { 1 } else { 0 };
-        let line = format!(in rt.alloc(); "yes acts {acts} rounds {rounds}\n")?;
+        let line = format!(in alloc; "yes acts {acts} rounds {rounds}\n")?;
         if audit.sink.bytes() == line.as_bytes() {
             return Ok(Some(acts));
         }
@@ -256,11 +262,11 @@ fn acts_told(rt: &HostRuntime, image: &[u8]) -> Result<Option<usize>, AllocError
 // calls and each act four.
 #[test]
 fn every_crash_of_the_triangle(rt: HostRuntime) -> Result<(), Fail> {
-    let ended = ended_on(&rt, "run", TRIANGLE, b"", 0)?;
+    let ended = ended_on(&rt, rt.alloc(), "run", TRIANGLE, b"", 0)?;
     for moment in 0..=ended.disk.moment() {
         for pick in 0..8 {
             let image = ended.disk.image(rt.alloc(), moment, pick)?;
-            let acts = acts_told(&rt, &image)?.expect(&rt, "some first acts");
+            let acts = acts_told(&rt, rt.alloc(), &image)?.expect(&rt, "some first acts");
             let gate = *GATES.get(acts).expect(&rt, "a gate");
             assert!(rt; acts as u64 >= (moment / 8).saturating_sub(1));
             let kept = ended.disk.bytes().get(..gate).expect(&rt, "the records");

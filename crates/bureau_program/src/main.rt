@@ -19,12 +19,15 @@ mod check;
 mod command;
 #[cfg(test)]
 mod journal_tests;
+#[cfg(test)]
+mod lane_tests;
 mod run;
 mod serving;
 mod tally;
 #[cfg(test)]
 mod tests;
 mod top;
+mod unhindered;
 
 use bureau_edge::{StandardIn, StandardOut};
 use disk_model::FileDisk;
@@ -33,6 +36,7 @@ use std::env;
 use std::io::ErrorKind;
 use std::process::ExitCode;
 pub use top::{Ended, bureau, without_words};
+use unhindered::Unhindered;
 
 // The words after the program's name. Where one of them is no text, there are none, and no list of the program's words is that.
 // The only error is that memory is missing.
@@ -61,7 +65,17 @@ fn main(rt: HostRuntime) -> ExitCode {
     let status = match (words(&rt), journal(&rt)) {
         (Ok(words), Ok(path)) => {
             let disk = FileDisk::new(&rt, path);
-            bureau(&rt, rt.alloc(), words, source, sink, disk).status
+            bureau(
+                &rt,
+                rt.alloc(),
+                words,
+                source,
+                sink,
+                disk,
+                Unhindered,
+                Unhindered,
+            )
+            .status
         }
         _ => without_words(source, sink).status,
     };

@@ -16,9 +16,13 @@ use bureau_edge::{Failed, Sink};
 use claim_history::limits_hold;
 use desk_text::{status_of_opening, write_opening_fault};
 use disk_model::Disk;
+use lane_runner::Gate;
 use printed_text::{end_with, output_buffer, print_batch, write_bad_line};
 use request_text::{Batch, LineCause, RequestError, read_requests};
+use shared_bureau::Pause;
 use std::alloc::Global;
+use std::sync::Wait;
+use std::thread::Threads;
 
 // Prints the abandonment of a desk that was opened, where there is one.
 #[tactic(none)]
@@ -56,12 +60,13 @@ fn tell_refused<K: Sink>(sink: &mut K, buffer: &mut Vec<u8>, cause: DeskCause) -
 
 // Opens a desk on a disk, serves batches on it, and prints what came of them.
 #[tactic(none)]
-fn open_and_run<K: Sink, D: Disk>(
-    alloc: Global,
-    batches: &[Batch],
-    sink: &mut K,
-    disk: D,
-) -> (u8, D)
+fn open_and_run<
+    R: Threads + Wait + Sync,
+    K: Sink,
+    D: Disk + Send + Sync,
+    G: Gate + Sync,
+    P: Pause + Sync,
+>(rt: &R, alloc: Global, batches: &[Batch], sink: &mut K, disk: D, gate: &G, pause: &P) -> (u8, D)
     ensures wrote { Wrote (IsBatchesDue D.seen disk result.1 batches.now) (K.held sink.old) (K.held sink.new) result.0 }
     ensures write_fault { result.0 ≡ 4 → HasRisen (K.faults sink.old) (K.faults sink.new) }
     ensures disk_fault { result.0 ≡ 5 → HasRisen (D.seen disk).count (D.seen result.1).count }
@@ -79,7 +84,7 @@ fn open_and_run<K: Sink, D: Disk>(
     if print_begun(sink, &mut buffer, &desk).is_err() {
         return (4, desk.close());
     }
-    let (status, desk) = run_batches(alloc, batches, sink, &mut buffer, desk);
+    let (status, desk) = run_batches(rt, alloc, batches, sink, &mut buffer, desk, gate, pause);
     (status, desk.close())
 }
 
@@ -105,14 +110,20 @@ fn tell_bad_line<K: Sink>(
 }
 
 /// Reads requests from an input, serves them on a disk, and prints what came of them.
-pub fn run_input<K: Sink, D: Disk>(alloc: Global, input: &[u8], sink: &mut K, disk: D) -> (u8, D)
+pub fn run_input<
+    R: Threads + Wait + Sync,
+    K: Sink,
+    D: Disk + Send + Sync,
+    G: Gate + Sync,
+    P: Pause + Sync,
+>(rt: &R, alloc: Global, input: &[u8], sink: &mut K, disk: D, gate: &G, pause: &P) -> (u8, D)
     ensures wrote { Wrote (IsRunDue D.seen disk result.1 input.now) (K.held sink.old) (K.held sink.new) result.0 }
     ensures write_fault { result.0 ≡ 4 → HasRisen (K.faults sink.old) (K.faults sink.new) }
     ensures disk_fault { result.0 ≡ 5 → HasRisen (D.seen disk).count (D.seen result.1).count }
     ensures no_read_fault { result.0 ≢ 3 }
 {
     match read_requests(alloc, input) {
-        Ok(batches) => open_and_run(alloc, batches.as_slice(), sink, disk),
+        Ok(batches) => open_and_run(rt, alloc, batches.as_slice(), sink, disk, gate, pause),
         Err(RequestError::Memory) => (end_with(sink, 9, b"fault memory\n"), disk),
         Err(RequestError::BadLine { line, cause }) => {
             (tell_bad_line(alloc, line, cause, input, sink), disk)

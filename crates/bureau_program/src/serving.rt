@@ -5,72 +5,21 @@ ghost use Rattle.fault_count.specs.Counts.{HasRisen, IsCounted};
 ghost use Rattle.claim_history.specs.Rounds.{cuts_after};
 ghost use Rattle.bureau_edge.specs.Streams.{AppendsPart};
 ghost use Rattle.printed_text.specs.Printing.{printed_of};
-ghost use Rattle.bureau_program.specs.Serving.{HasRunBatch, HasRunBatches, answers_of};
+ghost use Rattle.bureau_program.specs.Serving.{HasRunBatches, answers_of};
 
 use crate::tally::Tally;
 use bureau_desk::Desk;
 use bureau_edge::{Failed, Sink};
 use claim_history::limits_hold;
-use desk_runner::serve_all;
 use disk_model::Disk;
+use lane_runner::{Answers, Gate, run_batch};
+use level_solver::LevelSolver;
 use printed_text::{print_batch, print_unanswered};
 use request_text::{Batch, Request};
-use served_lines::Answer;
+use shared_bureau::Pause;
 use std::alloc::Global;
-use std::marker::Model;
-
-/// What came of the lines of a batch, by rising line numbers.
-#[derive(Drop)]
-pub struct Answers {
-    answers: Vec<Answer>,
-}
-
-impl Model for Answers {
-    ghost use Rattle.std.specs.Prelude.{List};
-    ghost use Rattle.served_lines.specs.declared.answer.Answer.{Answer};
-
-    ghost Value = { List Answer };
-
-    ghost view = { λ a. a.answers.items };
-}
-
-impl Answers {
-    /// One for each line. It takes no memory.
-    pub fn list(&self) -> &[Answer]
-        ensures { result.now ≡ self.now }
-    {
-        &self.answers
-    }
-}
-
-/// The desk after a batch, and what came of its lines: None where there was no memory before any line was asked.
-#[derive(Drop)]
-pub struct BatchEnd<D: Disk> {
-    pub desk: Desk<D>,
-    pub answers: Option<Answers>,
-}
-
-// Serves a batch on a desk.
-#[tactic(none)]
-fn serve_batch<D: Disk>(alloc: Global, desk: Desk<D>, batch: &Batch) -> BatchEnd<D>
-    ensures { HasRunBatch D.seen desk result.desk batch.now result.answers }
-{
-    let mut desk = desk;
-    desk.clear_rounds();
-    let requests = batch.requests();
-    let Ok(mut answers) = Vec::with_capacity(alloc, requests.len()) else {
-        return BatchEnd {
-            desk,
-            answers: None,
-        };
-    };
-    serve_all(alloc, &mut desk, requests, &mut answers);
-    let _book = desk.book();
-    BatchEnd {
-        desk,
-        answers: Some(Answers { answers }),
-    }
-}
+use std::sync::Wait;
+use std::thread::Threads;
 
 // Prints what a batch added to a desk, whose entries from a place on are those of the batch.
 #[tactic(none)]
@@ -103,12 +52,21 @@ fn print_served<K: Sink, D: Disk>(
 
 /// Serves batches on a desk in turn, and prints what came of each after it was served. Says the status: 4 where the sink failed,
 /// which ends it.
-pub fn run_batches<K: Sink, D: Disk>(
+pub fn run_batches<
+    R: Threads + Wait + Sync,
+    K: Sink,
+    D: Disk + Send + Sync,
+    G: Gate + Sync,
+    P: Pause + Sync,
+>(
+    rt: &R,
     alloc: Global,
     batches: &[Batch],
     sink: &mut K,
     buffer: &mut Vec<u8>,
     desk: Desk<D>,
+    gate: &G,
+    pause: &P,
 ) -> (u8, Desk<D>)
     requires empty { buffer.old.items ≡ [] }
     requires spare { 65536 ≤ vec_capacity buffer.old }
@@ -121,7 +79,7 @@ pub fn run_batches<K: Sink, D: Disk>(
     let mut tally = Tally::new();
     for batch in batches {
         let from = desk.book().history().len();
-        let end = serve_batch(alloc, desk, batch);
+        let end = run_batch(rt, alloc, desk, batch, &LevelSolver::new(), gate, pause);
         desk = end.desk;
         let requests = batch.requests();
         tally.add(requests, &end.answers, desk.book().history(), from);

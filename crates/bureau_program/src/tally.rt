@@ -6,8 +6,8 @@ ghost use Rattle.served_lines.specs.Ends.{is_memory, is_full, has_end};
 ghost use Rattle.bureau_program.specs.Runs.{status_by};
 ghost use Rattle.bureau_program.specs.Serving.{IsTally, answers_of};
 
-use crate::serving::Answers;
 use claim_history::{Entry, Reply, Why};
+use lane_runner::Answers;
 use request_text::Request;
 use served_lines::{some_full, some_memory};
 

@@ -1,8 +1,11 @@
 use crate::top::{Ended, bureau, without_words};
-use bureau_edge::{BytesSink, BytesSource, Failed, Source, SureSource};
-use disk_model::MemoryDisk;
+use crate::unhindered::Unhindered;
+use bureau_edge::{BytesSink, BytesSource, Failed, Sink, Source, SureSource};
+use disk_model::{Disk, MemoryDisk};
 use std::alloc::{AllocError, Global};
+use std::sync::Wait;
 use std::test::Fail;
+use std::thread::Threads;
 
 const FOUR_LINES: &[u8] =
     b"1 FIRM A\n1 FIRM B\r\n1 FILE B I-1 A 10.00 2025-01-31\n1 CONFIRM B I-1 A";
@@ -25,7 +28,7 @@ const CLAIM_ENTRIES: &[u8] =
     b"1 FIRM A = ok\n1 FIRM B = ok\n1 FILE B I-1 A 10.00 2025-01-31 = ok\n1 RECEIVE B I-1 10.01 = refused 11 over-open\n1 CONFIRM B I-1 A = ok\n1 RECEIVE B I-1 4.00 = ok\n1 POSITION A = balance 0.00 receivable 0.00 payable 6.00\n1 POSITION B = balance 0.00 receivable 6.00 payable 0.00\n1 DISPUTE B I-1 B = refused 8 not-debtor\n1 DISPUTE B I-1 A = ok\n1 POSITION A = balance 0.00 receivable 0.00 payable 0.00\n1 DISPUTE B I-1 A = refused 9 wrong-state\n1 WITHDRAW B I-1 = ok\n1 RECEIVE B I-1 1.00 = refused 9 wrong-state\n1 WITHDRAW B I-2 = refused 7 unknown-claim\n";
 
 // A disk in memory without bytes, none of whose calls fails.
-fn new_disk(alloc: Global) -> MemoryDisk {
+pub(crate) fn new_disk(alloc: Global) -> MemoryDisk {
     MemoryDisk::new(alloc, Vec::new(alloc), Vec::new(alloc))
 }
 
@@ -35,6 +38,18 @@ pub(crate) fn words_of(alloc: Global, texts: &[&str]) -> Result<Vec<String>, All
         words.push(String::from_str(alloc, text)?)?;
     }
     Ok(words)
+}
+
+// The program over these words, whose lanes nothing holds up.
+pub(crate) fn program<R: Threads + Wait + Sync, S: Source, K: Sink, D: Disk + Send + Sync>(
+    rt: &R,
+    alloc: Global,
+    words: Vec<String>,
+    source: S,
+    sink: K,
+    disk: D,
+) -> Ended<S, K, D> {
+    bureau(rt, alloc, words, source, sink, disk, Unhindered, Unhindered)
 }
 
 #[test]
@@ -86,7 +101,7 @@ fn runs(rt: HostRuntime) -> Result<(), Fail> {
         let source = SureSource::new(Vec::from_slice(rt.alloc(), input)?);
         let sink = BytesSink::new(rt.alloc(), Vec::new(rt.alloc()));
         let words = words_of(rt.alloc(), texts)?;
-        let ended = bureau(&rt, rt.alloc(), words, source, sink, new_disk(rt.alloc()));
+        let ended = program(&rt, rt.alloc(), words, source, sink, new_disk(rt.alloc()));
         assert!(rt; ended.status == status);
         assert!(rt; ended.sink.bytes() == output);
     }
@@ -108,7 +123,7 @@ fn a_failing_call(rt: HostRuntime) -> Result<(), Fail> {
         let input = Vec::from_slice(rt.alloc(), FOUR_LINES)?;
         let source = BytesSource::new(input, Vec::from_slice(rt.alloc(), &[read])?);
         let sink = BytesSink::new(rt.alloc(), Vec::from_slice(rt.alloc(), &[write])?);
-        let ended = bureau(
+        let ended = program(
             &rt,
             rt.alloc(),
             words_of(rt.alloc(), &["run"])?,
@@ -232,7 +247,12 @@ fn checks(rt: HostRuntime) -> Result<(), Fail> {
         ),
     ];
     for (input, status, output) in cases {
-        let ended = ended_for(&rt, "check", Vec::from_slice(rt.alloc(), input)?)?;
+        let ended = ended_for(
+            &rt,
+            rt.alloc(),
+            "check",
+            Vec::from_slice(rt.alloc(), input)?,
+        )?;
         assert!(rt; ended.status == status);
         assert!(rt; ended.sink.bytes() == output);
     }
@@ -263,7 +283,7 @@ fn an_input_in_pieces_of_one_byte(rt: HostRuntime) -> Result<(), Fail> {
         source: SureSource::new(Vec::from_slice(rt.alloc(), FOUR_LINES)?),
     };
     let sink = BytesSink::new(rt.alloc(), Vec::new(rt.alloc()));
-    let ended = bureau(
+    let ended = program(
         &rt,
         rt.alloc(),
         words_of(rt.alloc(), &["run"])?,
@@ -305,7 +325,7 @@ fn the_longest_input(rt: HostRuntime) -> Result<(), Fail> {
     ];
     for (left, status, output) in cases {
         let sink = BytesSink::new(rt.alloc(), Vec::new(rt.alloc()));
-        let ended = bureau(
+        let ended = program(
             &rt,
             rt.alloc(),
             words_of(rt.alloc(), &["run"])?,
@@ -327,7 +347,7 @@ fn a_run_of_100_000_lines(rt: HostRuntime) -> Result<(), Fail> {
         input.extend_from_slice(b"1 POSITION A\n")?;
         output.extend_from_slice(b"1 POSITION A = balance 0.00 receivable 0.00 payable 0.00\n")?;
     }
-    let ended = ended_for(&rt, "run", input)?;
+    let ended = ended_for(&rt, rt.alloc(), "run", input)?;
     assert!(rt; ended.status == 0);
     assert!(rt; ended.sink.bytes() == output.as_slice());
     Ok(())
@@ -341,7 +361,7 @@ fn a_statement_of_too_many_parties(rt: HostRuntime) -> Result<(), Fail> {
         statement.push_str(&format!(in rt.alloc(); "PARTY F-{party} 0.00 0.00 0\n")?)?;
     }
     statement.push_str("PARTY F-0 0.00 0.00 0\n")?;
-    let ended = ended_for(&rt, "check", statement.into_bytes())?;
+    let ended = ended_for(&rt, rt.alloc(), "check", statement.into_bytes())?;
     assert!(rt; ended.status == 6);
     assert!(rt; ended.sink.bytes() == b"fault line 16386 limit\n".as_slice());
     Ok(())
@@ -424,26 +444,38 @@ fn statement_in(alloc: Global, output: &[u8]) -> Result<Vec<u8>, AllocError> {
 }
 
 // What the program ends with for a word and an input.
-fn ended_for(
-    rt: &HostRuntime,
+fn ended_for<R: Threads + Wait + Sync>(
+    rt: &R,
+    alloc: Global,
     word: &str,
     input: Vec<u8>,
 ) -> Result<Ended<SureSource, BytesSink, MemoryDisk>, AllocError> {
-    let words = words_of(rt.alloc(), &[word])?;
-    let source = SureSource::new(input);
-    let sink = BytesSink::new(rt.alloc(), Vec::new(rt.alloc()));
-    Ok(bureau(rt, rt.alloc(), words, source, sink, new_disk(rt.alloc())))
+    let words = words_of(alloc, &[word])?;
+    let sink = BytesSink::new(alloc, Vec::new(alloc));
+    Ok(program(
+        rt,
+        alloc,
+        words,
+        SureSource::new(input),
+        sink,
+        new_disk(alloc),
+    ))
 }
 
 // Each output is the expected one but for its prices, and `check` accepts its statement.
 #[test]
 fn rounds(rt: HostRuntime) -> Result<(), Fail> {
     for (requests, output, verdict) in ROUNDS {
-        let ended = ended_for(&rt, "run", Vec::from_slice(rt.alloc(), requests)?)?;
+        let ended = ended_for(
+            &rt,
+            rt.alloc(),
+            "run",
+            Vec::from_slice(rt.alloc(), requests)?,
+        )?;
         assert!(rt; ended.status == 0);
         assert!(rt; is_like(ended.sink.bytes(), output));
         let statement = statement_in(rt.alloc(), ended.sink.bytes())?;
-        let judged = ended_for(&rt, "check", statement)?;
+        let judged = ended_for(&rt, rt.alloc(), "check", statement)?;
         assert!(rt; judged.status == 0);
         assert!(rt; judged.sink.bytes() == verdict);
     }
@@ -516,10 +548,10 @@ fn drawn_rounds(rt: HostRuntime) -> Result<(), Fail> {
     for (firms, claims, seed, verdict) in cases {
         let requests = drawn_requests(rt.alloc(), firms, claims, seed)?;
         let requests = requests.expect(&rt, "two firms");
-        let ended = ended_for(&rt, "run", requests)?;
+        let ended = ended_for(&rt, rt.alloc(), "run", requests)?;
         assert!(rt; ended.status == 0);
         let statement = statement_in(rt.alloc(), ended.sink.bytes())?;
-        let judged = ended_for(&rt, "check", statement)?;
+        let judged = ended_for(&rt, rt.alloc(), "check", statement)?;
         assert!(rt; judged.status == 0);
         assert!(rt; judged.sink.bytes() == verdict);
     }

@@ -12,9 +12,13 @@ use crate::command::{Command, command_of};
 use crate::run::run_input;
 use bureau_edge::{ReadEnd, Sink, Source, read_whole};
 use disk_model::Disk;
+use lane_runner::Gate;
 use printed_text::end_with;
 use setoff_model::limits::MOST_INPUT_BYTES;
+use shared_bureau::Pause;
 use std::alloc::Global;
+use std::sync::Wait;
+use std::thread::Threads;
 
 /// What a call ends with: the status of the process, and the source, the sink and the disk as they are then.
 #[derive(Drop)]
@@ -42,14 +46,21 @@ fn tell_unread<K: Sink>(end: ReadEnd, sink: &mut K) -> u8
 
 // Serves the requests of a source on a disk.
 #[tactic(none)]
-fn run<S: Source, K: Sink, D: Disk>(alloc: Global, source: &mut S, sink: &mut K, disk: D) -> (u8, D)
+fn run<
+    R: Threads + Wait + Sync,
+    S: Source,
+    K: Sink,
+    D: Disk + Send + Sync,
+    G: Gate + Sync,
+    P: Pause + Sync,
+>(rt: &R, alloc: Global, source: &mut S, sink: &mut K, disk: D, gate: &G, pause: &P) -> (u8, D)
     ensures wrote { Wrote (IsReadDue (IsRunDue D.seen disk result.1) (result.1 ≡ disk) (S.left source.old) (S.left source.new)) (K.held sink.old) (K.held sink.new) result.0 }
     ensures read_fault { result.0 ≡ 3 → HasRisen (S.faults source.old) (S.faults source.new) }
     ensures write_fault { result.0 ≡ 4 → HasRisen (K.faults sink.old) (K.faults sink.new) }
     ensures disk_fault { result.0 ≡ 5 → HasRisen (D.seen disk).count (D.seen result.1).count }
 {
     match read_whole(alloc, source, MOST_INPUT_BYTES) {
-        Ok(input) => run_input(alloc, input.as_slice(), sink, disk),
+        Ok(input) => run_input(rt, alloc, input.as_slice(), sink, disk, gate, pause),
         Err(end) => (tell_unread(end, sink), disk),
     }
 }
@@ -70,12 +81,22 @@ fn check<S: Source, K: Sink>(alloc: Global, source: &mut S, sink: &mut K) -> u8
 
 // Answers the words.
 #[tactic(none)]
-fn answer_words<S: Source, K: Sink, D: Disk>(
+fn answer_words<
+    R: Threads + Wait + Sync,
+    S: Source,
+    K: Sink,
+    D: Disk + Send + Sync,
+    G: Gate + Sync,
+    P: Pause + Sync,
+>(
+    rt: &R,
     alloc: Global,
     words: &[String],
     source: &mut S,
     sink: &mut K,
     mut disk: D,
+    gate: &G,
+    pause: &P,
 ) -> (u8, D)
     ensures ran { Ran S.left D.seen (map (λ w. string_bytes w) words.now) source.old source.new disk result.1 (K.held sink.old) (K.held sink.new) result.0 }
     ensures read_fault { result.0 ≡ 3 → HasRisen (S.faults source.old) (S.faults source.new) }
@@ -83,7 +104,7 @@ fn answer_words<S: Source, K: Sink, D: Disk>(
     ensures disk_fault { result.0 ≡ 5 → HasRisen (D.seen disk).count (D.seen result.1).count }
 {
     match command_of(words) {
-        Some(Command::Run) => run(alloc, source, sink, disk),
+        Some(Command::Run) => run(rt, alloc, source, sink, disk, gate, pause),
         Some(Command::Check) => (check(alloc, source, sink), disk),
         Some(Command::Audit) => {
             let status = audit_disk(alloc, sink, &mut disk);
@@ -95,7 +116,8 @@ fn answer_words<S: Source, K: Sink, D: Disk>(
 
 /// The whole program over the words after its name, a source, a sink and a disk. The bytes of the journal stand on the disk.
 ///
-/// `run` serves the requests of the source on the disk's journal and prints what came of it; `check` judges the statement of
+/// `run` serves the batches of requests of the source on the disk's journal, the lanes of a batch side by side, and prints what
+/// came of each; `gate` is called round each line, and `pause` while a round is open and no turn is held; `check` judges the statement of
 /// the source; `audit` replays the journal without writing to it. No command calls a source or a disk that it does not need.
 /// Where none of them counts a fault, the input is in the grammar and the journal is sound, all of the text is written, or memory
 /// was missing. The status is
@@ -112,13 +134,22 @@ fn answer_words<S: Source, K: Sink, D: Disk>(
 /// - 8 only where the disk has more than nine bytes that stand for no sound records;
 /// - 9 for want of memory, always where a line was not replied to for want of it and the sink did not fail.
 #[tactic(none)]
-pub fn bureau<R, S: Source, K: Sink, D: Disk>(
-    _rt: &R,
+pub fn bureau<
+    R: Threads + Wait + Sync,
+    S: Source,
+    K: Sink,
+    D: Disk + Send + Sync,
+    G: Gate + Sync + Drop,
+    P: Pause + Sync + Drop,
+>(
+    rt: &R,
     alloc: Global,
     words: Vec<String>,
     mut source: S,
     mut sink: K,
     disk: D,
+    gate: G,
+    pause: P,
 ) -> Ended<S, K, D>
     ensures ran { Ran S.left D.seen (map (λ w. string_bytes w) words.items) source result.source disk result.disk (K.held sink) (K.held result.sink) result.status }
     ensures read_fault { result.status ≡ 3 → HasRisen (S.faults source) (S.faults result.source) }
@@ -126,7 +157,16 @@ pub fn bureau<R, S: Source, K: Sink, D: Disk>(
     ensures disk_fault { result.status ≡ 5 → HasRisen (D.seen disk).count (D.seen result.disk).count }
     ensures complete { Completes D.seen (map (λ w. string_bytes w) words.items) (S.left source) disk result.disk (K.held sink) (K.held result.sink) (HasRisen (S.faults source) (S.faults result.source)) (HasRisen (K.faults sink) (K.faults result.sink)) result.status }
 {
-    let (status, disk) = answer_words(alloc, words.as_slice(), &mut source, &mut sink, disk);
+    let (status, disk) = answer_words(
+        rt,
+        alloc,
+        words.as_slice(),
+        &mut source,
+        &mut sink,
+        disk,
+        &gate,
+        &pause,
+    );
     Ended {
         status,
         source,

@@ -94,10 +94,10 @@ returns-then-is_err-clause-no_read_fault g c = λ three. omega (arith, three)
 -- ---- the batches
 
 pub run_batches-status-requires-clause-empty : goal.run_batches-status-requires-clause-empty
-run_batches-status-requires-clause-empty g c = at_ok c.print_begun.result (c.print_begun.new.buffer.items ≡ []) (sym c.is_err.ensures.value ∙ c.if-is_err.false) c.print_begun.ensures.emptied
+run_batches-status-requires-clause-empty g c = λ κs outlives. at_ok c.print_begun.result (c.print_begun.new.buffer.items ≡ []) (sym c.is_err.ensures.value ∙ c.if-is_err.false) c.print_begun.ensures.emptied
 
 pub run_batches-status-requires-clause-spare : goal.run_batches-status-requires-clause-spare
-run_batches-status-requires-clause-spare g c = c.print_begun.ensures.room
+run_batches-status-requires-clause-spare g c = λ κs outlives. c.print_begun.ensures.room
 
 pub returns-clause-wrote : goal.returns-clause-wrote
 returns-clause-wrote g c =

@@ -27,27 +27,27 @@ loop-batch-init g c = record {
 pub add-requires : goal.add-requires
 add-requires g c =
     let now = c.loop-batch.desk in
-    let ran = c.serve_batch-end.ensures in
+    let ran = c.run_batch-end.ensures in
     let place : length c.history-from.result.now ≡ length now.history = ap (λ (l : List Entry). length l) (c.history-from.ensures.entries ∙ c.book.ensures.history) in
-    let after : length c.history.result.now ≡ length c.serve_batch-end.result.desk.history = ap (λ (l : List Entry). length l) (c.history.ensures.entries ∙ c.book-in-loop-batch.ensures.history) in
+    let after : length c.history.result.now ≡ length c.run_batch-end.result.desk.history = ap (λ (l : List Entry). length l) (c.history.ensures.entries ∙ c.book-in-loop-batch.ensures.history) in
     omega (arith, place, after, ap (λ (l : List Entry). length l) ran.history, length-append now.history ran.added)
 
 pub print_served-requires-clause-from : goal.print_served-requires-clause-from
 print_served-requires-clause-from g c =
     let now = c.loop-batch.desk in
-    let ran = c.serve_batch-end.ensures in
+    let ran = c.run_batch-end.ensures in
     let place : length c.history-from.result.now ≡ length now.history = ap (λ (l : List Entry). length l) (c.history-from.ensures.entries ∙ c.book.ensures.history) in
     omega (arith, place, ap (λ (l : List Entry). length l) ran.history, length-append now.history ran.added)
 
 pub print_served-requires-clause-rounds : goal.print_served-requires-clause-rounds
 print_served-requires-clause-rounds g c =
     let place : length c.history-from.result.now ≡ length c.loop-batch.desk.history = ap (λ (l : List Entry). length l) (c.history-from.ensures.entries ∙ c.book.ensures.history) in
-    c.serve_batch-end.ensures.rounds ∙ sym (ap (λ (n : ℕ). cuts_after n c.serve_batch-end.result.desk.history) place)
+    c.run_batch-end.ensures.rounds ∙ sym (ap (λ (n : ℕ). cuts_after n c.run_batch-end.result.desk.history) place)
 
 pub print_served-requires-clause-unasked : goal.print_served-requires-clause-unasked
 print_served-requires-clause-unasked g c =
     let place : length c.history-from.result.now ≡ length c.loop-batch.desk.history = ap (λ (l : List Entry). length l) (c.history-from.ensures.entries ∙ c.book.ensures.history) in
-    λ none. unasked_adds g.D.Disk.seen c.loop-batch.desk c.serve_batch-end.result.desk c.batch-item.result c.serve_batch-end.result.answers (length c.history-from.result.now) c.serve_batch-end.ensures place none
+    λ none. unasked_adds g.D.Disk.seen c.loop-batch.desk c.run_batch-end.result.desk c.batch-item.result c.run_batch-end.result.answers (length c.history-from.result.now) c.run_batch-end.ensures place none
 
 pub print_served-requires-clause-empty : goal.print_served-requires-clause-empty
 print_served-requires-clause-empty g c = c.loop-batch.invariant.empty
@@ -62,8 +62,8 @@ returns-then-is_err-clause-ran g c =
     let bs = c.args.batches.now in
     let i = c.loop-batch.batch-index in
     let batch = c.batch-item.result in
-    let new = c.serve_batch-end.result.desk in
-    let answers = c.serve_batch-end.result.answers in
+    let new = c.run_batch-end.result.desk in
+    let answers = c.run_batch-end.result.answers in
     let n = length c.history-from.result.now in
     let y = g.K.Sink.held c.loop-batch.sink in
     let z = g.K.Sink.held c.print_served.new.sink in
@@ -71,7 +71,7 @@ returns-then-is_err-clause-ran g c =
     let said : List ℕ = printed_of (take n new.history) (drop n new.history) (answers_of c.requests-requests.result.now answers) in
     let part : AppendsPart y z said = at_err c.print_served.result (AppendsPart y z said) (sym c.is_err.ensures.value ∙ c.if-is_err.true) c.print_served.ensures.part in
     let item : take (i + 1) bs ≡ take i bs ++ batch ∷ [] = take_more bs i batch c.loop-batch-test.true ∙ ap (λ (b : List Request). take i bs ++ b ∷ []) (sym c.batch-item.is) in
-    breaks g.D.Disk.seen c.args.desk (g.K.Sink.held c.args.sink.now) c.loop-batch.desk new (take i bs) y z c.loop-batch.tally batch answers c.loop-batch.invariant.so_far c.serve_batch-end.ensures bs (drop (i + 1) bs)
+    breaks g.D.Disk.seen c.args.desk (g.K.Sink.held c.args.sink.now) c.loop-batch.desk new (take i bs) y z c.loop-batch.tally batch answers c.loop-batch.invariant.so_far c.run_batch-end.ensures bs (drop (i + 1) bs)
     (sym (take-append-drop (i + 1) bs) ∙ ap (λ (l : List (List Request)). l ++ drop (i + 1) bs) item)
     (subst (AppendsPart y z) (printed_from n (length c.loop-batch.desk.history) new.history c.requests-requests.result.now batch answers place c.requests-requests.ensures.requests) part)
 
@@ -95,8 +95,8 @@ loop-batch-preserved g c =
     let batch = c.batch-item.result in
     let requests = c.requests-requests.result.now in
     let same : requests ≡ batch = c.requests-requests.ensures.requests in
-    let new = c.serve_batch-end.result.desk in
-    let answers = c.serve_batch-end.result.answers in
+    let new = c.run_batch-end.result.desk in
+    let answers = c.run_batch-end.result.answers in
     let tally = c.loop-batch.tally in
     let n = length c.history-from.result.now in
     let first = c.args.desk in
@@ -110,7 +110,7 @@ loop-batch-preserved g c =
     let item : take (i + 1) bs ≡ take i bs ++ batch ∷ [] = take_more bs i batch c.loop-batch-test.true ∙ ap (λ (b : List Request). take i bs ++ b ∷ []) (sym c.batch-item.is) in
     record {
       so_far = subst (λ (l : List (List Request)). SoFar g.D.Disk.seen first x new l z c.add.new.self) (sym item)
-          (more g.D.Disk.seen first x c.loop-batch.desk new (take i bs) y z tally batch answers c.loop-batch.invariant.so_far c.serve_batch-end.ensures c.add.new.self
+          (more g.D.Disk.seen first x c.loop-batch.desk new (take i bs) y z tally batch answers c.loop-batch.invariant.so_far c.run_batch-end.ensures c.add.new.self
           (c.add.ensures.memory ∙ ap (λ (rs : List Request). tally.memory || has_end is_memory (answers_of rs answers)) same)
           (c.add.ensures.device ∙ ap (λ (l : List Entry). tally.device || list_any (λ e. is_of_device e.reply) (drop n l)) after ∙ ap (λ (k : ℕ). tally.device || list_any (λ e. is_of_device e.reply) (drop k new.history)) place)
           (c.add.ensures.full ∙ ap (λ (rs : List Request). tally.full || has_end is_full (answers_of rs answers)) same)
