@@ -1,3 +1,7 @@
 pub mod Longer
 pub mod InTurn
 pub mod Each
+mod Lanes
+mod Costs
+mod Uses
+pub mod Bound
