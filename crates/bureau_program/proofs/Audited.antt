@@ -9,7 +9,7 @@ use Rattle.bureau_desk.specs.declared.desk_refused.DeskCause.{DeskCause}
 use Rattle.bureau_desk.specs.declared.desk_refused.DeskCause.TheVariants.{Memory, Device, BadHeader, BadRecord, BadAct, Overfull}
 use Rattle.bureau_desk.specs.Opening.{HasDeskCause, HasViewCause}
 use Rattle.desk_text.specs.Texts.{IsTellable, opening_status, unsound_status}
-use Rattle.bureau_program.proofs.Rising.{risen_within}
+use Rattle.batch_runs.proofs.Rising.{risen_within}
 
 -- a refusal has no amount
 refusal_fits : (got : Reply) → is_no_refusal got ≡ false → IsReplyInRange got

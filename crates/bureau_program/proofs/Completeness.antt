@@ -26,7 +26,7 @@ use Rattle.served_lines.specs.Ends.{is_memory, is_full}
 use Rattle.desk_text.specs.Texts.{opening_status, opening_text, sound_text, unsound_status, unsound_text}
 use Rattle.printed_text.specs.Texts.{verdict_text, verdict_status}
 use Rattle.printed_text.specs.Writing.{IsWritten, whole, broken}
-use Rattle.bureau_program.specs.Runs.{some_device, some_end, status_by}
+use Rattle.batch_runs.specs.Runs.{some_device, some_end, status_by}
 use Rattle.bureau_program.specs.Headline.{IsHeadline}
 use Rattle.bureau_program.specs.Due.{AreRun, AreCheck, AreAudit, IsAuditDue, IsBadLineDue, IsBatchesDue, IsCheckDue, IsDue, IsReadDue, IsRunDue, Ran, no_output_memory, not_opened, served, no_line_memory, bad_line, no_request_memory, not_read, batches_read, no_statement_memory, bad_statement, judged, no_audit_memory, sound, unsound, no_input_memory, read_fault, too_long, input_read, bad_words, run_words, check_words, audit_words}
 use Rattle.bureau_program.specs.Completeness.{Completes, HoldsSound, IsAudited, IsComplete, IsJudged, IsWholeInput, all_written, some_full, no_memory, line_written, no_verdict_memory, sound_written}

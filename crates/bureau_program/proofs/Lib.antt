@@ -1,10 +1,6 @@
-pub mod Rising
 pub mod Audited
 pub mod Written
-pub mod Printed
 pub mod Reading
 pub mod Commands
-pub mod Unasked
-pub mod Batches
 pub mod Served
 pub mod Completeness

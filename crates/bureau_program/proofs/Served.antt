@@ -1,6 +1,6 @@
 -- A run over a desk.
 use Rattle.std.specs.Prelude.{Option, IsTrue, drop, take, if◌then◌else◌}
-use Rattle.std.proofs.Common.{◌≡◌, ◌∙◌, ⊎_elim, inr, ℕ, ◌≤◌, Bool, true, false, List, [], ◌∷◌, ◌++◌, length, refl, sym, ap, subst, arith}
+use Rattle.std.proofs.Common.{◌≡◌, ◌∙◌, ⊎_elim, inr, ℕ, ◌≤◌, Bool, true, false, List, [], ◌∷◌, ◌++◌, length, refl, sym, ap, subst, arith, length-append}
 use Rattle.std.proofs.lemmas.List.{append-nil}
 use Rattle.std.proofs.lemmas.List.Elements.{All-weaker}
 use Rattle.std.proofs.Math.Seq.{take-append_seam}
@@ -26,13 +26,13 @@ use Rattle.bureau_desk.specs.Opening.{IsDeskOpen}
 use Rattle.served_lines.specs.Ends.{is_memory, is_full}
 use Rattle.printed_text.specs.Printing.{added_text, printed_of}
 use Rattle.printed_text.specs.Writing.{Wrote, broken}
-use Rattle.bureau_program.specs.Runs.{Done, AreOf, AreServed, all_added, some_device, some_end}
+use Rattle.batch_runs.specs.Runs.{Done, AreOf, AreServed, all_added, some_device, some_end}
 use Rattle.bureau_program.specs.Headline.{IsHeadline, LeavesDisk, SurvivesCrashes, run_text}
-use Rattle.bureau_program.specs.Serving.{HasRunBatches, HasSameOpening}
+use Rattle.batch_runs.specs.Serving.{HasRunBatches, HasSameOpening}
 use Rattle.bureau_program.specs.Due.{IsBatchesDue}
 use Rattle.bureau_program.specs.Due.{served as served_due}
-use Rattle.bureau_program.proofs.Printed.{five_by, no_three_by}
-use Rattle.bureau_program.proofs.Rising.{device_rose}
+use Rattle.batch_runs.proofs.Printed.{five_by, no_three_by}
+use Rattle.batch_runs.proofs.Rising.{device_rose}
 use Rattle.bureau_program.proofs.Written.{told_status, written_after, wrote_line}
 
 -- ---- an opened history
@@ -48,9 +48,15 @@ begun_parts opened begun is = ⊎_elim
     ))
     is
 
--- a desk that was opened has published nothing since the records
-pub none_begun : {D : Type 0} (seen : D → Seen) (old : D) (d : DeskView D) → IsDeskOpen seen old d → cuts_after d.opened_with d.history ≡ []
-none_begun seen old d opening = ap (λ (n : ℕ). cuts_after n d.history) opening.opened_with ∙ (begun_parts (history_of opening.records) d.history opening.history).2
+-- A desk that was opened has the entries of the records, and has published nothing since.
+pub begun_few : {D : Type 0} (seen : D → Seen) (old : D) (d : DeskView D) → IsDeskOpen seen old d → d.opened_with ≤ length d.history
+begun_few seen old d opening =
+    let parts = begun_parts (history_of opening.records) d.history opening.history in
+    omega (arith, opening.opened_with, ap (λ (l : List Entry). length l) parts.1, length-append (history_of opening.records) parts.0)
+
+pub none_begun : {D : Type 0} (seen : D → Seen) (old : D) (d : DeskView D) → IsDeskOpen seen old d → d.rounds ≡ cuts_after d.opened_with d.history
+none_begun seen old d opening =
+    opening.rounds ∙ sym (ap (λ (n : ℕ). cuts_after n d.history) opening.opened_with ∙ (begun_parts (history_of opening.records) d.history opening.history).2)
 
 -- what the last of the six numbers tells
 abbrev bit : Bool → ℕ

@@ -16,7 +16,7 @@ use Rattle.bureau_desk.specs.Opening.{HasDeskOpened, HasDeskTurned, SparesUnsoun
 use Rattle.recorded_book.specs.Devices.{AreBetween}
 use Rattle.recorded_book.specs.Moments.{HasMoments}
 use Rattle.printed_text.specs.Printing.{added_text}
-use Rattle.bureau_program.specs.Runs.{Done, AreOf, AreServed, all_added, text_of}
+use Rattle.batch_runs.specs.Runs.{Done, AreOf, AreServed, all_added, text_of}
 
 -- The history: that of the records that the disk held, with the abandonment where they leave a round open, and then what the
 -- batches added.

@@ -22,13 +22,11 @@ mod journal_tests;
 #[cfg(test)]
 mod lane_tests;
 mod run;
-mod serving;
-mod tally;
 #[cfg(test)]
 mod tests;
 mod top;
-mod unhindered;
 
+use batch_runs::Unhindered;
 use bureau_edge::{StandardIn, StandardOut};
 use disk_model::FileDisk;
 use std::alloc::AllocError;
@@ -36,7 +34,6 @@ use std::env;
 use std::io::ErrorKind;
 use std::process::ExitCode;
 pub use top::{Ended, bureau, without_words};
-use unhindered::Unhindered;
 
 // The words after the program's name. Where one of them is no text, there are none, and no list of the program's words is that.
 // The only error is that memory is missing.

@@ -1,49 +1,23 @@
 //! The words `run`: from the bytes of an input to the entries of a desk and their text.
-ghost use Rattle.std.specs.Prelude.{◌≡◌, ◌≢◌, ◌≤◌, [], take, drop, OnOk, OnErr, vec_capacity};
-ghost use Rattle.std.specs.Io.KnownBytes.{Appends};
-ghost use Rattle.fault_count.specs.Counts.{HasRisen, IsCounted};
-ghost use Rattle.claim_history.specs.Rounds.{cuts_after};
-ghost use Rattle.bureau_edge.specs.Streams.{AppendsPart};
+ghost use Rattle.std.specs.Prelude.{◌≡◌, ◌≢◌, ◌≤◌, [], vec_capacity};
+ghost use Rattle.fault_count.specs.Counts.{HasRisen};
 ghost use Rattle.request_text.specs.Grammar.{IsFirstBadLine, IsNoRequestText};
 ghost use Rattle.desk_text.specs.Texts.{opening_status, opening_text, IsTellable};
-ghost use Rattle.printed_text.specs.Printing.{printed_of};
 ghost use Rattle.printed_text.specs.Writing.{IsWritten, Wrote};
 ghost use Rattle.bureau_program.specs.Due.{IsBadLineDue, IsBatchesDue, IsRunDue};
 
-use crate::serving::run_batches;
+use batch_runs::{print_added, run_batches};
 use bureau_desk::{Desk, DeskCause, DeskRefused};
-use bureau_edge::{Failed, Sink};
-use claim_history::limits_hold;
+use bureau_edge::Sink;
 use desk_text::{status_of_opening, write_opening_fault};
 use disk_model::Disk;
 use lane_runner::Gate;
-use printed_text::{end_with, output_buffer, print_batch, write_bad_line};
+use printed_text::{end_with, output_buffer, write_bad_line};
 use request_text::{Batch, LineCause, RequestError, read_requests};
 use shared_bureau::Pause;
 use std::alloc::Global;
 use std::sync::Wait;
 use std::thread::Threads;
-
-// Prints the abandonment of a desk that was opened, where there is one.
-#[tactic(none)]
-fn print_begun<K: Sink, D: Disk>(
-    sink: &mut K,
-    buffer: &mut Vec<u8>,
-    desk: &Desk<D>,
-) -> Result<(), Failed>
-    requires begun { cuts_after desk.now.opened_with desk.now.history ≡ [] }
-    requires empty { buffer.old.items ≡ [] }
-    requires spare { 65536 ≤ vec_capacity buffer.old }
-    ensures ok { OnOk result (Appends (K.held sink.old) (K.held sink.new) (printed_of (take desk.now.opened_with desk.now.history) (drop desk.now.opened_with desk.now.history) [])) }
-    ensures emptied { OnOk result (buffer.new.items ≡ []) }
-    ensures part { OnErr result (AppendsPart (K.held sink.old) (K.held sink.new) (printed_of (take desk.now.opened_with desk.now.history) (drop desk.now.opened_with desk.now.history) [])) }
-    ensures cause { IsCounted (K.faults sink.old) (K.faults sink.new) result }
-    ensures room { 65536 ≤ vec_capacity buffer.new }
-{
-    limits_hold();
-    let history = desk.book().history();
-    print_batch(sink, buffer, history, desk.opened_with() as usize, &[], &[])
-}
 
 // Tells why no desk was opened.
 #[tactic(none)]
@@ -58,7 +32,8 @@ fn tell_refused<K: Sink>(sink: &mut K, buffer: &mut Vec<u8>, cause: DeskCause) -
     end_with(sink, status_of_opening(cause), buffer.as_slice())
 }
 
-// Opens a desk on a disk, serves batches on it, and prints what came of them.
+// Opens a desk on a disk, prints the abandonment of a round that its journal left open, serves batches on it, and prints what came
+// of them.
 #[tactic(none)]
 fn open_and_run<
     R: Threads + Wait + Sync,
@@ -81,7 +56,8 @@ fn open_and_run<
             return (tell_refused(sink, &mut buffer, cause), disk);
         }
     };
-    if print_begun(sink, &mut buffer, &desk).is_err() {
+    let from = desk.opened_with() as usize;
+    if print_added(sink, &mut buffer, &desk, from, &[]).is_err() {
         return (4, desk.close());
     }
     let (status, desk) = run_batches(rt, alloc, batches, sink, &mut buffer, desk, gate, pause);

@@ -1,5 +1,5 @@
 use crate::top::{Ended, bureau, without_words};
-use crate::unhindered::Unhindered;
+use batch_runs::Unhindered;
 use bureau_edge::{BytesSink, BytesSource, Failed, Sink, Source, SureSource};
 use disk_model::{Disk, MemoryDisk};
 use std::alloc::{AllocError, Global};

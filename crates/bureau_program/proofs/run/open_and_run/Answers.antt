@@ -1,17 +1,18 @@
-use Rattle.std.specs.Prelude.{codes, drop, take}
+use Rattle.std.specs.Prelude.{OnErr, OnOk, codes, drop, take}
 use Rattle.std.specs.Io.KnownBytes.{Appends}
-use Rattle.std.proofs.Common.{◌≡◌, ◌∙◌, [], ℕ, List, refl, subst, sym, arith}
+use Rattle.std.proofs.Common.{◌≡◌, ◌∙◌, ◌≤◌, [], ℕ, List, length, ap, refl, subst, sym, arith}
 use Rattle.bureau_edge.specs.Streams.{AppendsPart}
 use Rattle.fault_count.specs.Counts.{HasRisen}
+use Rattle.claim_history.specs.Rounds.{cuts_after}
 use Rattle.desk_text.specs.Texts.{opening_status, opening_text}
 use Rattle.printed_text.specs.Printing.{printed_of}
 use Rattle.printed_text.specs.Writing.{Wrote}
 use Rattle.bureau_program.specs.Due.{IsBatchesDue, no_output_memory, not_opened}
 use Rattle.bureau_program.proofs.Audited.{refused_no_three, refused_rose, tellable}
-use Rattle.bureau_program.proofs.Batches.{same_opening}
-use Rattle.bureau_program.proofs.Printed.{at_err, at_ok}
-use Rattle.bureau_program.proofs.Rising.{risen_within}
-use Rattle.bureau_program.proofs.Served.{none_begun, ran_rose, wrote_all, wrote_begun}
+use Rattle.batch_runs.proofs.Batches.{same_opening}
+use Rattle.batch_runs.proofs.Printed.{at_err, at_ok, printed_same}
+use Rattle.batch_runs.proofs.Rising.{risen_within}
+use Rattle.bureau_program.proofs.Served.{begun_few, none_begun, ran_rose, wrote_all, wrote_begun}
 use Rattle.bureau_program.proofs.Written.{no_other, told_status, wrote_line}
 use Rattle.bureau_program.proofs.run.open_and_run.Goals as goal
 
@@ -64,26 +65,31 @@ returns-in-Err-clause-no_read_fault g c =
 
 -- ---- the abandonment's line
 
-pub print_begun-requires-clause-begun : goal.print_begun-requires-clause-begun
-print_begun-requires-clause-begun g c = none_begun g.D.Disk.seen c.args.disk c.in-Ok-open.desk c.in-Ok-open.ensures.ok
+pub print_added-requires-clause-from : goal.print_added-requires-clause-from
+print_added-requires-clause-from g c = subst (λ (n : ℕ). n ≤ length c.in-Ok-open.desk.history) (sym c.opened_with-from.ensures) (begun_few g.D.Disk.seen c.args.disk c.in-Ok-open.desk c.in-Ok-open.ensures.ok)
 
-pub print_begun-requires-clause-empty : goal.print_begun-requires-clause-empty
-print_begun-requires-clause-empty g c = c.in-Ok.ensures.empty
+pub print_added-requires-clause-rounds : goal.print_added-requires-clause-rounds
+print_added-requires-clause-rounds g c = none_begun g.D.Disk.seen c.args.disk c.in-Ok-open.desk c.in-Ok-open.ensures.ok ∙ sym (ap (λ (n : ℕ). cuts_after n c.in-Ok-open.desk.history) c.opened_with-from.ensures)
 
-pub print_begun-requires-clause-spare : goal.print_begun-requires-clause-spare
-print_begun-requires-clause-spare g c = c.in-Ok.ensures.room
+pub print_added-requires-clause-empty : goal.print_added-requires-clause-empty
+print_added-requires-clause-empty g c = c.in-Ok.ensures.empty
+
+pub print_added-requires-clause-spare : goal.print_added-requires-clause-spare
+print_added-requires-clause-spare g c = c.in-Ok.ensures.room
 
 pub returns-then-is_err-clause-wrote : goal.returns-then-is_err-clause-wrote
 returns-then-is_err-clause-wrote g c =
     let first = c.in-Ok-open.desk in
     let line : List ℕ = printed_of (take first.opened_with first.history) (drop first.opened_with first.history) [] in
-    let part : AppendsPart (g.K.Sink.held c.args.sink.now) (g.K.Sink.held c.print_begun.new.sink) line =
-    at_err c.print_begun.result (AppendsPart (g.K.Sink.held c.args.sink.now) (g.K.Sink.held c.print_begun.new.sink) line) (sym c.is_err.ensures.value ∙ c.if-is_err.true) c.print_begun.ensures.part in
-    subst (λ (d : g.row.D.Denot). Wrote (IsBatchesDue g.D.Disk.seen c.args.disk d c.args.batches.now) (g.K.Sink.held c.args.sink.now) (g.K.Sink.held c.print_begun.new.sink) 4) (sym c.close.ensures.disk)
+    let same = printed_same c.opened_with-from.result first.opened_with first.history [] c.opened_with-from.ensures in
+    let part : AppendsPart (g.K.Sink.held c.args.sink.now) (g.K.Sink.held c.print_added.new.sink) line =
+    at_err c.print_added.result (AppendsPart (g.K.Sink.held c.args.sink.now) (g.K.Sink.held c.print_added.new.sink) line) (sym c.is_err.ensures.value ∙ c.if-is_err.true)
+    (subst (λ (t : List ℕ). OnErr c.print_added.result (AppendsPart (g.K.Sink.held c.args.sink.now) (g.K.Sink.held c.print_added.new.sink) t)) same c.print_added.ensures.part) in
+    subst (λ (d : g.row.D.Denot). Wrote (IsBatchesDue g.D.Disk.seen c.args.disk d c.args.batches.now) (g.K.Sink.held c.args.sink.now) (g.K.Sink.held c.print_added.new.sink) 4) (sym c.close.ensures.disk)
     (wrote_begun g.D.Disk.seen c.args.disk first first c.in-Ok-open.ensures.ok c.close.ensures.keeps (same_opening g.D.Disk.seen first) _ _ c.args.batches.now refl part)
 
 pub returns-then-is_err-clause-write_fault : goal.returns-then-is_err-clause-write_fault
-returns-then-is_err-clause-write_fault g c = λ four. c.print_begun.ensures.cause.cause (sym c.is_err.ensures.value ∙ c.if-is_err.true)
+returns-then-is_err-clause-write_fault g c = λ four. c.print_added.ensures.cause.cause (sym c.is_err.ensures.value ∙ c.if-is_err.true)
 
 pub returns-then-is_err-clause-disk_fault : goal.returns-then-is_err-clause-disk_fault
 returns-then-is_err-clause-disk_fault g c = λ five. absurd (omega (arith, five))
@@ -94,25 +100,27 @@ returns-then-is_err-clause-no_read_fault g c = λ three. omega (arith, three)
 -- ---- the batches
 
 pub run_batches-status-requires-clause-empty : goal.run_batches-status-requires-clause-empty
-run_batches-status-requires-clause-empty g c = λ κs outlives. at_ok c.print_begun.result (c.print_begun.new.buffer.items ≡ []) (sym c.is_err.ensures.value ∙ c.if-is_err.false) c.print_begun.ensures.emptied
+run_batches-status-requires-clause-empty g c = λ κs outlives. at_ok c.print_added.result (c.print_added.new.buffer.items ≡ []) (sym c.is_err.ensures.value ∙ c.if-is_err.false) c.print_added.ensures.emptied
 
 pub run_batches-status-requires-clause-spare : goal.run_batches-status-requires-clause-spare
-run_batches-status-requires-clause-spare g c = λ κs outlives. c.print_begun.ensures.room
+run_batches-status-requires-clause-spare g c = λ κs outlives. c.print_added.ensures.room
 
 pub returns-clause-wrote : goal.returns-clause-wrote
 returns-clause-wrote g c =
     let first = c.in-Ok-open.desk in
     let last = c.run_batches-status.result.1 in
     let line : List ℕ = printed_of (take first.opened_with first.history) (drop first.opened_with first.history) [] in
-    let begun : Appends (g.K.Sink.held c.args.sink.now) (g.K.Sink.held c.print_begun.new.sink) line =
-    at_ok c.print_begun.result (Appends (g.K.Sink.held c.args.sink.now) (g.K.Sink.held c.print_begun.new.sink) line) (sym c.is_err.ensures.value ∙ c.if-is_err.false) c.print_begun.ensures.ok in
+    let same = printed_same c.opened_with-from.result first.opened_with first.history [] c.opened_with-from.ensures in
+    let begun : Appends (g.K.Sink.held c.args.sink.now) (g.K.Sink.held c.print_added.new.sink) line =
+    at_ok c.print_added.result (Appends (g.K.Sink.held c.args.sink.now) (g.K.Sink.held c.print_added.new.sink) line) (sym c.is_err.ensures.value ∙ c.if-is_err.false)
+    (subst (λ (t : List ℕ). OnOk c.print_added.result (Appends (g.K.Sink.held c.args.sink.now) (g.K.Sink.held c.print_added.new.sink) t)) same c.print_added.ensures.ok) in
     subst (λ (d : g.row.D.Denot). Wrote (IsBatchesDue g.D.Disk.seen c.args.disk d c.args.batches.now) (g.K.Sink.held c.args.sink.now) (g.K.Sink.held c.run_batches-status.new.sink) c.run_batches-status.result.0) (sym c.close-2.ensures.disk)
     (wrote_all g.D.Disk.seen c.args.disk first last c.in-Ok-open.ensures.ok c.close-2.ensures.keeps c.run_batches-status.ensures.ran.opening _ _ _ c.args.batches.now c.run_batches-status.result.0 begun c.run_batches-status.ensures.ran)
 
 pub returns-clause-write_fault : goal.returns-clause-write_fault
 returns-clause-write_fault g c =
-    λ four. risen_within (g.K.Sink.faults c.args.sink.now) (g.K.Sink.faults c.print_begun.new.sink) (g.K.Sink.faults c.run_batches-status.new.sink) (g.K.Sink.faults c.run_batches-status.new.sink)
-    c.print_begun.ensures.cause.later (omega arith) (c.run_batches-status.ensures.write_fault four)
+    λ four. risen_within (g.K.Sink.faults c.args.sink.now) (g.K.Sink.faults c.print_added.new.sink) (g.K.Sink.faults c.run_batches-status.new.sink) (g.K.Sink.faults c.run_batches-status.new.sink)
+    c.print_added.ensures.cause.later (omega arith) (c.run_batches-status.ensures.write_fault four)
 
 pub returns-clause-disk_fault : goal.returns-clause-disk_fault
 returns-clause-disk_fault g c =

@@ -3,8 +3,8 @@ ghost use Rattle.std.specs.Prelude.{◌≡◌, ◌≤◌, ◌||◌, [], length, 
 ghost use Rattle.std.specs.List.{list_any};
 ghost use Rattle.claim_history.specs.Needs.{is_of_device};
 ghost use Rattle.served_lines.specs.Ends.{is_memory, is_full, has_end};
-ghost use Rattle.bureau_program.specs.Runs.{status_by};
-ghost use Rattle.bureau_program.specs.Serving.{IsTally, answers_of};
+ghost use Rattle.batch_runs.specs.Runs.{status_by};
+ghost use Rattle.batch_runs.specs.Serving.{IsTally, answers_of};
 
 use claim_history::{Entry, Reply, Why};
 use lane_runner::Answers;

@@ -21,10 +21,10 @@ use Rattle.served_lines.specs.Served.{IsServed}
 use Rattle.lane_runner.specs.Batches.{HasRunBatch, base_cleared}
 use Rattle.printed_text.specs.Printing.{printed_of, unanswered}
 use Rattle.printed_text.specs.Writing.{IsWritten, broken, whole}
-use Rattle.bureau_program.specs.declared.tally.Tally.{Tally}
-use Rattle.bureau_program.specs.Runs.{Done, AreServed, all_added, end_status, some_device, some_end, status_by, text_of}
-use Rattle.bureau_program.specs.Serving.{HasRunBatches, HasSameOpening, IsTally, answers_of}
-use Rattle.bureau_program.proofs.Unasked.{unanswered_served}
+use Rattle.batch_runs.specs.declared.tally.Tally.{Tally}
+use Rattle.batch_runs.specs.Runs.{Done, AreServed, all_added, end_status, some_device, some_end, status_by, text_of}
+use Rattle.batch_runs.specs.Serving.{HasRunBatches, HasSameOpening, IsTally, answers_of}
+use Rattle.batch_runs.proofs.Unasked.{unanswered_served}
 
 -- ---- the opening
 

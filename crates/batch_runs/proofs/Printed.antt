@@ -5,20 +5,18 @@ use Rattle.claim_history.specs.declared.entry.Entry.{Entry}
 use Rattle.request_text.specs.declared.request.Request.{Request}
 use Rattle.served_lines.specs.declared.answer.Answer.{Answer}
 use Rattle.printed_text.specs.Printing.{ends_text, printed_of, unanswered}
-use Rattle.bureau_program.specs.Runs.{status_by}
-use Rattle.bureau_program.specs.Serving.{answers_of}
+use Rattle.batch_runs.specs.Runs.{status_by}
+use Rattle.batch_runs.specs.Serving.{answers_of}
 
--- from the same place of the same history
-pub printed_same : (n m : ℕ) (h l : List Entry) (answers : List Answer) → n ≡ m → h ≡ l → printed_of (take n h) (drop n h) answers ≡ printed_of (take m l) (drop m l) answers
-printed_same n m h l answers place is =
-    ap (λ (k : ℕ). printed_of (take k h) (drop k h) answers) place ∙ ap (λ (x : List Entry). printed_of (take m x) (drop m x) answers) is
+-- from the same place
+pub printed_same : (n m : ℕ) (history : List Entry) (answers : List Answer) → n ≡ m → printed_of (take n history) (drop n history) answers ≡ printed_of (take m history) (drop m history) answers
+printed_same n m history answers place = ap (λ (k : ℕ). printed_of (take k history) (drop k history) answers) place
 
 -- of a batch whose lines were asked, and of one whose lines were not
-pub printed_asked : (from : ℕ) (said history : List Entry) (requests : List Request) (told list : List Answer) (answers : Option (List Answer)) → said ≡ history → told ≡ list → answers ≡ Some list
-    → printed_of (take from said) (drop from said) told ≡ printed_of (take from history) (drop from history) (answers_of requests answers)
-printed_asked from said history requests told list answers is same some =
-    ap (λ (l : List Entry). printed_of (take from l) (drop from l) told) is
-    ∙ ap (λ (a : List Answer). printed_of (take from history) (drop from history) a) (same ∙ sym (ap (answers_of requests) some))
+pub printed_asked : (from : ℕ) (history : List Entry) (requests : List Request) (told list : List Answer) (answers : Option (List Answer)) → told ≡ list → answers ≡ Some list
+    → printed_of (take from history) (drop from history) told ≡ printed_of (take from history) (drop from history) (answers_of requests answers)
+printed_asked from history requests told list answers same some =
+    ap (λ (a : List Answer). printed_of (take from history) (drop from history) a) (same ∙ sym (ap (answers_of requests) some))
 
 pub printed_unasked : (from : ℕ) (history : List Entry) (requests : List Request) (answers : Option (List Answer)) → answers ≡ None → drop from history ≡ []
     → ends_text (unanswered requests) ≡ printed_of (take from history) (drop from history) (answers_of requests answers)

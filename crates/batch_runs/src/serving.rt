@@ -5,14 +5,14 @@ ghost use Rattle.fault_count.specs.Counts.{HasRisen, IsCounted};
 ghost use Rattle.claim_history.specs.Rounds.{cuts_after};
 ghost use Rattle.bureau_edge.specs.Streams.{AppendsPart};
 ghost use Rattle.printed_text.specs.Printing.{printed_of};
-ghost use Rattle.bureau_program.specs.Serving.{HasRunBatches, answers_of};
+ghost use Rattle.batch_runs.specs.Serving.{HasRunBatches, answers_of};
 
 use crate::tally::Tally;
 use bureau_desk::Desk;
 use bureau_edge::{Failed, Sink};
 use claim_history::limits_hold;
 use disk_model::Disk;
-use lane_runner::{Answers, Gate, run_batch};
+use lane_runner::{Answer, Answers, Gate, run_batch};
 use level_solver::LevelSolver;
 use printed_text::{print_batch, print_unanswered};
 use request_text::{Batch, Request};
@@ -20,6 +20,33 @@ use shared_bureau::Pause;
 use std::alloc::Global;
 use std::sync::Wait;
 use std::thread::Threads;
+
+/// Prints the entries of a desk from a place on, each publication followed at once by its statement, and then a line for each of
+/// these lines of a batch that was full or had no memory. The rounds of the desk are those published from there on.
+///
+/// The buffer is empty and has room for 65,536 bytes. After a failure the sink has some first bytes of the text.
+#[tactic(none)]
+pub fn print_added<K: Sink, D: Disk>(
+    sink: &mut K,
+    buffer: &mut Vec<u8>,
+    desk: &Desk<D>,
+    from: usize,
+    answers: &[Answer],
+) -> Result<(), Failed>
+    requires from { from ≤ length desk.now.history }
+    requires rounds { desk.now.rounds ≡ cuts_after from desk.now.history }
+    requires empty { buffer.old.items ≡ [] }
+    requires spare { 65536 ≤ vec_capacity buffer.old }
+    ensures ok { OnOk result (Appends (K.held sink.old) (K.held sink.new) (printed_of (take from desk.now.history) (drop from desk.now.history) answers.now)) }
+    ensures emptied { OnOk result (buffer.new.items ≡ []) }
+    ensures part { OnErr result (AppendsPart (K.held sink.old) (K.held sink.new) (printed_of (take from desk.now.history) (drop from desk.now.history) answers.now)) }
+    ensures cause { IsCounted (K.faults sink.old) (K.faults sink.new) result }
+    ensures room { 65536 ≤ vec_capacity buffer.new }
+{
+    limits_hold();
+    let history = desk.book().history();
+    print_batch(sink, buffer, history, from, desk.rounds(), answers)
+}
 
 // Prints what a batch added to a desk, whose entries from a place on are those of the batch.
 #[tactic(none)]
@@ -42,10 +69,8 @@ fn print_served<K: Sink, D: Disk>(
     ensures cause { IsCounted (K.faults sink.old) (K.faults sink.new) result }
     ensures room { 65536 ≤ vec_capacity buffer.new }
 {
-    limits_hold();
-    let history = desk.book().history();
     match answers {
-        Some(answers) => print_batch(sink, buffer, history, from, desk.rounds(), answers.list()),
+        Some(answers) => print_added(sink, buffer, desk, from, answers.list()),
         None => print_unanswered(sink, buffer, requests),
     }
 }

@@ -10,8 +10,8 @@ use Rattle.served_lines.specs.Served.{IsServed}
 use Rattle.served_lines.specs.Ends.{is_memory, is_full}
 use Rattle.printed_text.specs.Printing.{unanswered}
 use Rattle.printed_text.specs.Writing.{IsWritten}
-use Rattle.bureau_program.specs.declared.tally.Tally.{Tally}
-use Rattle.bureau_program.specs.Runs.{Done, AreOf, AreServed, all_added, text_of, some_device, some_end}
+use Rattle.batch_runs.specs.declared.tally.Tally.{Tally}
+use Rattle.batch_runs.specs.Runs.{Done, AreOf, AreServed, all_added, text_of, some_device, some_end}
 
 -- of the six numbers of a desk, those of its opening are as they were
 pub record HasSameOpening {D : Type 0} (seen : D → Seen) (old new : DeskView D) : Type 0 where

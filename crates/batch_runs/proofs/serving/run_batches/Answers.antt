@@ -10,11 +10,11 @@ use Rattle.claim_history.specs.Rounds.{cuts_after}
 use Rattle.request_text.specs.declared.request.Request.{Request}
 use Rattle.served_lines.specs.Ends.{is_memory, is_full, has_end}
 use Rattle.printed_text.specs.Printing.{printed_of}
-use Rattle.bureau_program.specs.Serving.{answers_of}
-use Rattle.bureau_program.proofs.Batches.{SoFar, begins, breaks, ends, more, unasked_adds}
-use Rattle.bureau_program.proofs.Printed.{at_err, at_ok, no_four_by, no_three_by, printed_from}
-use Rattle.bureau_program.proofs.Rising.{risen_within}
-use Rattle.bureau_program.proofs.serving.run_batches.Goals as goal
+use Rattle.batch_runs.specs.Serving.{answers_of}
+use Rattle.batch_runs.proofs.Batches.{SoFar, begins, breaks, ends, more, unasked_adds}
+use Rattle.batch_runs.proofs.Printed.{at_err, at_ok, no_four_by, no_three_by, printed_from}
+use Rattle.batch_runs.proofs.Rising.{risen_within}
+use Rattle.batch_runs.proofs.serving.run_batches.Goals as goal
 
 pub loop-batch-init : goal.loop-batch-init
 loop-batch-init g c = record {

@@ -1,6 +1,6 @@
 use Rattle.std.proofs.Common.{◌≡◌, ◌≤◌, [], take, vec_capacity}
-use Rattle.bureau_program.proofs.Batches.{SoFar}
-use Rattle.bureau_program.proofs.serving.run_batches.Given as goal
+use Rattle.batch_runs.proofs.Batches.{SoFar}
+use Rattle.batch_runs.proofs.serving.run_batches.Given as goal
 
 abbrev pub invariant-loop-batch : goal.invariant-loop-batch
 invariant-loop-batch g l = record {

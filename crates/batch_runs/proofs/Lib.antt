@@ -1,0 +1,4 @@
+pub mod Rising
+pub mod Printed
+pub mod Unasked
+pub mod Batches
