@@ -1,0 +1,194 @@
+-- A command and its words.
+use Rattle.std.proofs.Common.{true≢false, ◌≡◌, ◌∙◌, ◌==◌, ◌+◌, ◌<◌, ◌≤◌, ◌^◌, ℕ, zero, suc, true, false, List, [], ◌∷◌, map, Option, Some, None, refl, ap, ap₂, sym, subst, codes, decimal, get_or, arith}
+use Rattle.std.specs.List.{list_any}
+use Rattle.std.specs.Int.Digits.{digits_of}
+use Rattle.std.proofs.lemmas.Fmt.{decimal-digits_of, decimal_digit, decimal_injective}
+use Rattle.clap.specs.Walk.{Row, Text, first_of}
+use Rattle.clap.specs.Simple.{Shape, subcommand_of}
+use Rattle.clap.specs.Faults.{fault_of}
+use Rattle.claim_history.specs.Days.{DayTextsLaw, day_text}
+use Rattle.command_words.specs.declared.command.Command.{Command}
+use Rattle.command_words.specs.declared.command.Command.TheVariants as commands
+use Rattle.command_words.specs.Program.{program}
+use Rattle.command_words.specs.Words.{AreNoWords, AreWordsOf, IsCommand, OneCommandLaw, name_of, values_of, words_of}
+use Rattle.command_words.specs.Reading.{IsFoundIn, IsGiven, is_option}
+use Rattle.command_words.proofs.Walks.{IsEntered, IsPlain, audit_entered, check_entered, first_is, found_is, import_entered, import_rest, import_taken, import_values, known_name, name_and, name_and_three, no_words, notices_entered, notices_rest, notices_taken, notices_values, or_false, plain_of, plain_rest, plain_taken, positions_entered, run_entered, sub_is, trial_entered, trial_rest, trial_taken, trial_values}
+
+-- ---- texts of values
+
+digit_plain : (n : ℕ) → ((48 + n) == 45) ≡ false
+digit_plain n = grind arith
+
+digits_plain : (ds : List ℕ) → is_option (map (λ d. 48 + d) ds) ≡ false
+digits_plain [] = refl
+digits_plain (d ∷ ds) = digit_plain d
+
+decimal_plain : (n : ℕ) → n < 2 ^ 64 → is_option (decimal n) ≡ false
+decimal_plain zero small = ap is_option (decimal_digit 0 (omega arith))
+decimal_plain (suc n) small = ap is_option (decimal-digits_of (suc n) (omega arith) small) ∙ digits_plain (digits_of 10 (suc n))
+
+day_plain : (d : ℕ) → is_option (day_text d) ≡ false
+day_plain d = digit_plain _
+
+-- no number of a range has the text of one outside of it
+pub no_number : (text : List ℕ) (number : ℕ) → number < 2 ^ 64 → text ≡ decimal number → (least most : ℕ) → most < 2 ^ 32 → (least ≤ number → number ≤ most → ⊥)
+    → (n : ℕ) → least ≤ n → n ≤ most → text ≡ decimal n → ⊥
+no_number text number small is least most fits outside n low high e =
+    let same : number ≡ n = decimal_injective number n small (omega (arith, high, fits)) (sym is ∙ e) in
+    outside (omega (arith, same, low)) (omega (arith, same, high))
+
+-- ---- two commands with the same words
+
+same_name : (c d : Command) → words_of c ≡ words_of d → name_of c ≡ name_of d
+same_name c d e = ap (λ (ws : List Text). get_or ws 0 []) e
+
+same_value : (c d : Command) (place : ℕ) → words_of c ≡ words_of d → get_or (words_of c) place [] ≡ get_or (words_of d) place []
+same_value c d place e = ap (λ (ws : List Text). get_or ws place []) e
+
+same_number : (a b : ℕ) → a < 2 ^ 64 → b < 2 ^ 64 → decimal a ≡ decimal b → a ≡ b
+same_number a b la lb e = decimal_injective a b la lb e
+
+-- a command with the words of another
+of_words : DayTextsLaw → (c d : Command) → IsCommand c → IsCommand d → words_of c ≡ words_of d → c ≡ d
+of_words days commands.Run d p q e = grind (arith, same_name commands.Run d e)
+of_words days commands.Check d p q e = grind (arith, same_name commands.Check d e)
+of_words days commands.Audit d p q e = grind (arith, same_name commands.Audit d e)
+of_words days commands.Positions d p q e = grind (arith, same_name commands.Positions d e)
+of_words days (commands.Notices x) (commands.Notices y) p q e = ap commands.Notices (days x y p q (same_value (commands.Notices x) (commands.Notices y) 1 e))
+of_words days (commands.Notices x) d p q e = grind (arith, same_name (commands.Notices x) d e)
+of_words days (commands.Import x) (commands.Import y) p q e = ap commands.Import (same_number x y (omega (arith, p.1)) (omega (arith, q.1)) (same_value (commands.Import x) (commands.Import y) 1 e))
+of_words days (commands.Import x) d p q e = grind (arith, same_name (commands.Import x) d e)
+of_words days (commands.Trial x y z) (commands.Trial u v w) p q e =
+    let a = same_number x u (omega (arith, p.1)) (omega (arith, q.1)) (same_value (commands.Trial x y z) (commands.Trial u v w) 1 e) in
+    let b = same_number y v (omega (arith, p.3)) (omega (arith, q.3)) (same_value (commands.Trial x y z) (commands.Trial u v w) 2 e) in
+    let c = same_number z w (omega (arith, p.4)) (omega (arith, q.4)) (same_value (commands.Trial x y z) (commands.Trial u v w) 3 e) in
+    rw (a, b, c) refl
+of_words days (commands.Trial x y z) d p q e = grind (arith, same_name (commands.Trial x y z) d e)
+
+pub one_command : DayTextsLaw → OneCommandLaw
+one_command days words c d p q = of_words days c d p.0 q.0 (sym p.1 ∙ q.1)
+
+-- ---- the words of a command
+
+-- no word of a command begins with a hyphen
+pub words_plain : (c : Command) → IsCommand c → list_any is_option (words_of c) ≡ false
+words_plain commands.Run p = refl
+words_plain commands.Check p = refl
+words_plain commands.Audit p = refl
+words_plain commands.Positions p = refl
+words_plain (commands.Notices d) p = rw (day_plain d) refl
+words_plain (commands.Import n) p = rw (decimal_plain n (omega (arith, p.1))) refl
+words_plain (commands.Trial x y z) p = rw (decimal_plain x (omega (arith, p.1)), decimal_plain y (omega (arith, p.3)), decimal_plain z (omega (arith, p.4))) refl
+
+-- `clap` takes the words of a command
+pub words_taken : (c : Command) → IsCommand c → fault_of program (words_of c) ≡ []
+words_taken commands.Run p = plain_taken _ run_entered
+words_taken commands.Check p = plain_taken _ check_entered
+words_taken commands.Audit p = plain_taken _ audit_entered
+words_taken commands.Positions p = plain_taken _ positions_entered
+words_taken (commands.Notices d) p = notices_taken _ (plain_of _ (day_plain d))
+words_taken (commands.Import n) p = import_taken _ (plain_of _ (decimal_plain n (omega (arith, p.1))))
+words_taken (commands.Trial x y z) p = trial_taken _ _ _ (plain_of _ (decimal_plain x (omega (arith, p.1)))) (plain_of _ (decimal_plain y (omega (arith, p.3)))) (plain_of _ (decimal_plain z (omega (arith, p.4))))
+
+-- ---- what is found of the words of a command
+
+day_word : (d : ℕ) → IsPlain (day_text d)
+day_word d = plain_of _ (day_plain d)
+
+number_word : (n : ℕ) → n < 2 ^ 64 → IsPlain (decimal n)
+number_word n small = plain_of _ (decimal_plain n small)
+
+words_name : (c : Command) → IsCommand c → (found : Text) (rows : List Row) → subcommand_of program (words_of c) ≡ Some (found, rows) → IsGiven c found (λ id. first_of id rows)
+words_name commands.Run p found rows e = known_name _ _ run_entered refl [] found rows e
+words_name commands.Check p found rows e = known_name _ _ check_entered refl [] found rows e
+words_name commands.Audit p found rows e = known_name _ _ audit_entered refl [] found rows e
+words_name commands.Positions p found rows e = known_name _ _ positions_entered refl [] found rows e
+words_name (commands.Notices d) p found rows e =
+    let is = found_is (name_and (codes "DATE")) (words_of (commands.Notices d)) _ (notices_values (day_text d) (day_word d)) found rows e in
+    (ap (λ (q : Text × Option Text). q.0) is, ap (λ (q : Text × Option Text). q.1) is)
+words_name (commands.Import n) p found rows e =
+    let is = found_is (name_and (codes "LANE")) (words_of (commands.Import n)) _ (import_values (decimal n) (number_word n (omega (arith, p.1)))) found rows e in
+    (ap (λ (q : Text × Option Text). q.0) is, ap (λ (q : Text × Option Text). q.1) is)
+words_name (commands.Trial x y z) p found rows e =
+    let is = found_is name_and_three (words_of (commands.Trial x y z)) _ (trial_values (decimal x) (decimal y) (decimal z) (number_word x (omega (arith, p.1))) (number_word y (omega (arith, p.3))) (number_word z (omega (arith, p.4)))) found rows e in (
+      ap (λ (q : Text × Option Text × Option Text × Option Text). q.0) is,
+      ap (λ (q : Text × Option Text × Option Text × Option Text). q.1) is,
+      ap (λ (q : Text × Option Text × Option Text × Option Text). q.2) is,
+      ap (λ (q : Text × Option Text × Option Text × Option Text). q.3) is,
+    )
+
+not_found : (name : Text) (s : Shape) → IsEntered name s → (rest : List Text) → subcommand_of program (name ∷ rest) ≡ None → ⊥
+not_found name s entered rest e = absurd (cc (sym (sub_is name s entered rest) ∙ e))
+
+words_named : (c : Command) → subcommand_of program (words_of c) ≡ None → ⊥
+words_named commands.Run e = not_found _ _ run_entered [] e
+words_named commands.Check e = not_found _ _ check_entered [] e
+words_named commands.Audit e = not_found _ _ audit_entered [] e
+words_named commands.Positions e = not_found _ _ positions_entered [] e
+words_named (commands.Notices d) e = not_found _ _ notices_entered (day_text d ∷ []) e
+words_named (commands.Import n) e = not_found _ _ import_entered (decimal n ∷ []) e
+words_named (commands.Trial x y z) e = not_found _ _ trial_entered (decimal x ∷ decimal y ∷ decimal z ∷ []) e
+
+-- the name and the values that are found of the words of a command are the command's
+pub words_found : (c : Command) → IsCommand c → IsFoundIn c (subcommand_of program (words_of c))
+words_found c p = go (subcommand_of program (words_of c)) refl
+  where
+    go : (o : Option (Text × List Row)) → subcommand_of program (words_of c) ≡ o → IsFoundIn c o
+    go None e = absurd (words_named c e)
+    go (Some found) e = words_name c p found.0 found.1 e
+
+-- ---- the words that were taken
+
+-- the words after a command's name are its values
+after_name : (c : Command) (found : Text) (rows : List Row) → IsGiven c found (λ id. first_of id rows) → (rest : List Text) → list_any is_option rest ≡ false
+    → fault_of program (name_of c ∷ rest) ≡ [] → subcommand_of program (name_of c ∷ rest) ≡ Some (found, rows) → rest ≡ values_of c
+after_name commands.Run found rows given rest plain none is = plain_rest _ run_entered rest plain none
+after_name commands.Check found rows given rest plain none is = plain_rest _ check_entered rest plain none
+after_name commands.Audit found rows given rest plain none is = plain_rest _ audit_entered rest plain none
+after_name commands.Positions found rows given rest plain none is = plain_rest _ positions_entered rest plain none
+after_name (commands.Notices d) found rows given rest plain none is = notices_rest rest plain none found rows is _ given.1
+after_name (commands.Import n) found rows given rest plain none is = import_rest rest plain none found rows is _ given.1
+after_name (commands.Trial x y z) found rows given rest plain none is = trial_rest rest plain none found rows is _ _ _ given.1 given.2 given.3
+
+given_name : (c : Command) (found : Text) (value : Text → Option Text) → IsGiven c found value → found ≡ name_of c
+given_name commands.Run found value given = given
+given_name commands.Check found value given = given
+given_name commands.Audit found value given = given
+given_name commands.Positions found value given = given
+given_name (commands.Notices d) found value given = given.0
+given_name (commands.Import n) found value given = given.0
+given_name (commands.Trial x y z) found value given = given.0
+
+from_name : (words : List Text) → list_any is_option words ≡ false → fault_of program words ≡ [] → (found : Text) (rows : List Row) → subcommand_of program words ≡ Some (found, rows)
+    → (c : Command) → IsGiven c found (λ id. first_of id rows) → words ≡ words_of c
+from_name [] plain none found rows is c given = no_words none
+from_name (w ∷ rest) plain none found rows is c given =
+    let parts = or_false (is_option w) (list_any is_option rest) plain in
+    let same : w ≡ name_of c = sym (first_is w parts.0 rest none found rows is) ∙ given_name c found _ given in
+    let taken : fault_of program (name_of c ∷ rest) ≡ [] = subst (λ (word : Text). fault_of program (word ∷ rest) ≡ []) same none in
+    let at : subcommand_of program (name_of c ∷ rest) ≡ Some (found, rows) = subst (λ (word : Text). subcommand_of program (word ∷ rest) ≡ Some (found, rows)) same is in
+    ap₂ (λ (word : Text) (ws : List Text). word ∷ ws) same (after_name c found rows given rest parts.1 taken at)
+
+-- words that `clap` takes are those of the command that was found
+pub words_read : (words : List Text) → list_any is_option words ≡ false → fault_of program words ≡ [] → (c : Command) → IsFoundIn c (subcommand_of program words) → words ≡ words_of c
+words_read words plain none c h = go (subcommand_of program words) refl h
+  where
+    go : (o : Option (Text × List Row)) → subcommand_of program words ≡ o → IsFoundIn c o → words ≡ words_of c
+    go None e found = absurd found
+    go (Some found) e given = from_name words plain none found.0 found.1 e c given
+
+pub words_known : (words : List Text) → list_any is_option words ≡ false → fault_of program words ≡ [] → (found : Option (Text × List Row)) → found ≡ subcommand_of program words
+    → (c : Command) → IsCommand c × IsFoundIn c found → AreWordsOf c words
+words_known words plain none found is c h = (h.0, words_read words plain none c (subst (λ (o : Option (Text × List Row)). IsFoundIn c o) is h.1))
+
+-- ---- words that are no command's
+
+pub option_refused : (words : List Text) → list_any is_option words ≡ true → AreNoWords words
+option_refused words option c are = true≢false (sym option ∙ ap (list_any is_option) are.1 ∙ words_plain c are.0)
+
+pub fault_refused : (words : List Text) → (fault_of program words ≡ [] → ⊥) → AreNoWords words
+fault_refused words fault c are = fault (ap (fault_of program) are.1 ∙ words_taken c are.0)
+
+pub values_refused : (words : List Text) (found : Option (Text × List Row)) → found ≡ subcommand_of program words → ((c : Command) → IsCommand c → IsFoundIn c found → ⊥) → AreNoWords words
+values_refused words found is none c are =
+    none c are.0 (subst (λ (o : Option (Text × List Row)). IsFoundIn c o) (sym (is ∙ ap (subcommand_of program) are.1)) (words_found c are.0))

@@ -1,0 +1,47 @@
+-- The words of the program's command line.
+use Rattle.std.specs.Prelude.{◌≡◌, ◌≤◌, ◌<◌, ◌^◌, ℕ, List, [], ◌∷◌, codes, decimal}
+use Rattle.setoff_model.specs.Limits.{most_firms, most_claims}
+use Rattle.claim_history.specs.Days.{day_text, last_day}
+use Rattle.request_text.specs.Lanes.{IsLane}
+use Rattle.command_words.specs.declared.command.Command.{Command}
+use Rattle.command_words.specs.declared.command.Command.TheVariants as commands
+
+-- the values of a command are in their ranges
+abbrev pub IsCommand : Command → Type 0
+IsCommand (commands.Notices today) = today ≤ last_day
+IsCommand (commands.Import lane) = IsLane lane
+IsCommand (commands.Trial firms claims seed) = (2 ≤ firms) × (firms ≤ most_firms) × (1 ≤ claims) × (claims ≤ most_claims) × (seed < 2 ^ 32)
+IsCommand _ = Unit {0}
+
+-- the first word of a command
+abbrev pub name_of : Command → List ℕ
+name_of commands.Run = codes "run"
+name_of commands.Check = codes "check"
+name_of commands.Audit = codes "audit"
+name_of commands.Positions = codes "positions"
+name_of (commands.Notices today) = codes "notices"
+name_of (commands.Import lane) = codes "import"
+name_of (commands.Trial firms claims seed) = codes "trial"
+
+-- the values of a command, as they are spelled
+abbrev pub values_of : Command → List (List ℕ)
+values_of (commands.Notices today) = day_text today ∷ []
+values_of (commands.Import lane) = decimal lane ∷ []
+values_of (commands.Trial firms claims seed) = decimal firms ∷ decimal claims ∷ decimal seed ∷ []
+values_of _ = []
+
+-- the words of a command
+abbrev pub words_of : Command → List (List ℕ)
+words_of command = name_of command ∷ values_of command
+
+-- the words are those of the command
+abbrev pub AreWordsOf : Command → List (List ℕ) → Type 0
+AreWordsOf command words = IsCommand command × (words ≡ words_of command)
+
+-- no command has these words
+abbrev pub AreNoWords : List (List ℕ) → Type 0
+AreNoWords words = (command : Command) → AreWordsOf command words → ⊥
+
+-- two commands with the same words are one
+abbrev pub OneCommandLaw : Type 0
+OneCommandLaw = (words : List (List ℕ)) (command other : Command) → AreWordsOf command words → AreWordsOf other words → command ≡ other

@@ -1,0 +1,47 @@
+//! The program as `clap` sees it: one level of subcommands with positional words.
+ghost use Rattle.std.specs.Prelude.{◌≡◌, IfOk, false};
+ghost use Rattle.clap.specs.Words.{app_of, with_rule};
+ghost use Rattle.clap.specs.declared.builder.command.Command.TheViews.{out-Command};
+ghost use Rattle.command_words.specs.Program.{plain, program as whole, value};
+
+use clap::{Arg, Command};
+use std::alloc::{AllocError, Global};
+
+// The command with one more value, which it asks for.
+fn taking<'a>(alloc: Global, command: Command<'a>, id: &'a str) -> Result<Command<'a>, AllocError>
+    ensures shape { IfOk result (λ c. app_of c ≡ with_rule (app_of command.entry) (value id.entry.now)) }
+    ensures globals { (out-Command command.entry).has_globals ≡ false → IfOk result (λ c. (out-Command c).has_globals ≡ false) }
+{
+    command.arg(Arg::new(alloc, id).required(true))
+}
+
+// The commands that take values, added to the program.
+fn with_values<'a>(alloc: Global, program: Command<'a>) -> Result<Command<'a>, AllocError>
+    ensures shape { app_of program.entry ≡ plain → IfOk result (λ c. app_of c ≡ whole) }
+{
+    let notices = taking(alloc, Command::new(alloc, "notices"), "DATE")?;
+    let import = taking(alloc, Command::new(alloc, "import"), "LANE")?;
+    let trial = taking(alloc, Command::new(alloc, "trial"), "FIRMS")?;
+    let trial = taking(alloc, trial, "CLAIMS")?;
+    let trial = taking(alloc, trial, "SEED")?;
+    program
+        .subcommand(notices)?
+        .subcommand(import)?
+        .subcommand(trial)
+}
+
+/// The program with its commands. The only error is that memory is missing.
+pub(crate) fn program<'a>(alloc: Global) -> Result<Command<'a>, AllocError>
+    ensures shape { IfOk result (λ c. app_of c ≡ whole) }
+{
+    let program = Command::new(alloc, "bureau")
+        .no_binary_name(true)
+        .disable_help_flag(true)
+        .disable_help_subcommand(true)
+        .subcommand_required(true)
+        .subcommand(Command::new(alloc, "run"))?
+        .subcommand(Command::new(alloc, "check"))?
+        .subcommand(Command::new(alloc, "audit"))?
+        .subcommand(Command::new(alloc, "positions"))?;
+    with_values(alloc, program)
+}

@@ -1,0 +1,144 @@
+//! The words, as a command.
+ghost use Rattle.std.specs.Prelude.{◌≡◌, ◌≤◌, ℕ, codes, [], map, string_bytes, decimal, IfOk, IfErr, IfSome, IfNone, Some};
+ghost use Rattle.std.specs.List.{list_any};
+ghost use Rattle.claim_history.specs.Days.{day_text, last_day};
+ghost use Rattle.clap.specs.Words.{first_value, found_of, subcommand_of, subcommand_rows_of, fault_of};
+ghost use Rattle.clap.specs.Values.{kind_of};
+ghost use Rattle.clap.specs.declared.error.kind.ErrorKind.TheVariants.{OutOfMemory};
+ghost use Rattle.command_words.specs.declared.command.Command.{Command as CommandOf};
+ghost use Rattle.command_words.specs.Program.{program};
+ghost use Rattle.command_words.specs.Words.{AreWordsOf, AreNoWords, IsCommand};
+ghost use Rattle.command_words.specs.Reading.{IsFoundIn, IsGiven, is_option};
+
+use crate::command::Command;
+use crate::error::WordsError;
+use crate::program::program;
+use claim_history::Day;
+use clap::error::ErrorKind;
+use clap::{ArgMatches, Error};
+use setoff_model::limits::{MOST_CLAIMS, MOST_FIRMS};
+use setoff_model::read_number;
+use std::alloc::Global;
+
+fn is_option(word: &str) -> bool
+    ensures { result ≡ is_option word.now }
+{
+    matches!(word.as_bytes(), [b'-', ..])
+}
+
+// Whether some word begins with a hyphen.
+fn has_option(words: &[String]) -> bool
+    ensures { result ≡ list_any (λ w. is_option (string_bytes w)) words.now }
+{
+    words.iter().any(|word| is_option(word.as_str()))
+}
+
+// The day that is the value of this name.
+fn day_at(values: &ArgMatches, id: &str) -> Option<Day>
+    ensures found { IfSome result (λ d. (d ≤ last_day) × (first_value (found_of values.now) id.now ≡ Some (day_text d))) }
+    ensures none { IfNone result ((d : ℕ) → d ≤ last_day → first_value (found_of values.now) id.now ≡ Some (day_text d) → ⊥) }
+{
+    Day::read(values.get_str(id)?.as_bytes())
+}
+
+// The number from `least` to `most` that a text is.
+fn read_number_in(text: &[u8], least: u32, most: u32) -> Option<u32>
+    ensures found { IfSome result (λ n. (least ≤ n) × (n ≤ most) × (text.now ≡ decimal n)) }
+    ensures none { IfNone result ((n : ℕ) → least ≤ n → n ≤ most → text.now ≡ decimal n → ⊥) }
+{
+    match read_number(text) {
+        Some(number) if u64::from(least) <= number && number <= u64::from(most) => {
+            Some(number as u32)
+        }
+        _ => None,
+    }
+}
+
+// The number from `least` to `most` that is the value of this name.
+fn number_at(values: &ArgMatches, id: &str, least: u32, most: u32) -> Option<u32>
+    ensures found { IfSome result (λ n. (least ≤ n) × (n ≤ most) × (first_value (found_of values.now) id.now ≡ Some (decimal n))) }
+    ensures none { IfNone result ((n : ℕ) → least ≤ n → n ≤ most → first_value (found_of values.now) id.now ≡ Some (decimal n) → ⊥) }
+{
+    read_number_in(values.get_str(id)?.as_bytes(), least, most)
+}
+
+// The command `trial` with its values.
+fn trial_at(values: &ArgMatches) -> Option<Command>
+    ensures found { IfSome result (λ c. IsCommand c × IsGiven c (codes "trial") (first_value (found_of values.now))) }
+    ensures none { IfNone result ((c : CommandOf) → IsCommand c → IsGiven c (codes "trial") (first_value (found_of values.now)) → ⊥) }
+{
+    Some(Command::Trial {
+        firms: number_at(values, "FIRMS", 2, MOST_FIRMS as u32)?,
+        claims: number_at(values, "CLAIMS", 1, MOST_CLAIMS as u32)?,
+        seed: number_at(values, "SEED", 0, u32::MAX)?,
+    })
+}
+
+// The command of a first word and of values.
+fn given(name: &str, values: &ArgMatches) -> Option<Command>
+    ensures found { IfSome result (λ c. IsCommand c × IsGiven c name.now (first_value (found_of values.now))) }
+    ensures none { IfNone result ((c : CommandOf) → IsCommand c → IsGiven c name.now (first_value (found_of values.now)) → ⊥) }
+{
+    match name {
+        "run" => Some(Command::Run),
+        "check" => Some(Command::Check),
+        "audit" => Some(Command::Audit),
+        "positions" => Some(Command::Positions),
+        "notices" => Some(Command::Notices {
+            today: day_at(values, "DATE")?,
+        }),
+        "import" => Some(Command::Import {
+            lane: number_at(values, "LANE", 1, 16)?,
+        }),
+        "trial" => trial_at(values),
+        _ => None,
+    }
+}
+
+// What is told of an error of the parse.
+fn cause_of(error: &Error) -> WordsError
+    ensures { result ≡ WordsError.Unknown → kind_of error.now ≡ OutOfMemory → ⊥ }
+{
+    match error.kind() {
+        ErrorKind::OutOfMemory => WordsError::Memory,
+        _ => WordsError::Unknown,
+    }
+}
+
+// What `clap` makes of the words.
+fn parsed<'a>(alloc: Global, words: &'a [String]) -> Result<ArgMatches<'a>, WordsError>
+    ensures taken { IfOk result (λ _. fault_of program (map (λ w. string_bytes w) words.entry.now) ≡ []) }
+    ensures found { IfOk result (λ m. subcommand_rows_of m ≡ subcommand_of program (map (λ w. string_bytes w) words.entry.now)) }
+    ensures unknown { IfErr result (λ e. e ≡ WordsError.Unknown → AreNoWords (map (λ w. string_bytes w) words.entry.now)) }
+{
+    match program(alloc)?.try_get_matches_from(words) {
+        Ok(matches) => Ok(matches),
+        Err(error) => Err(cause_of(&error)),
+    }
+}
+
+// The command that `clap` found.
+fn found_in(matches: &ArgMatches) -> Option<Command>
+    ensures found { IfSome result (λ c. IsCommand c × IsFoundIn c (subcommand_rows_of matches.now)) }
+    ensures none { IfNone result ((c : CommandOf) → IsCommand c → IsFoundIn c (subcommand_rows_of matches.now) → ⊥) }
+{
+    let (name, values) = matches.subcommand()?;
+    given(name, values)
+}
+
+/// The command that the words are.
+///
+/// `Unknown` comes exactly where they are no command's, `Memory` only where there is no memory.
+pub fn command_of(alloc: Global, words: &[String]) -> Result<Command, WordsError>
+    ensures found { IfOk result (λ c. AreWordsOf c (map (λ w. string_bytes w) words.now)) }
+    ensures unknown { IfErr result (λ e. e ≡ WordsError.Unknown → AreNoWords (map (λ w. string_bytes w) words.now)) }
+{
+    if has_option(words) {
+        return Err(WordsError::Unknown);
+    }
+    let matches = parsed(alloc, words)?;
+    match found_in(&matches) {
+        Some(command) => Ok(command),
+        None => Err(WordsError::Unknown),
+    }
+}

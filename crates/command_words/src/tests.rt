@@ -1,0 +1,141 @@
+use crate::{Command, USAGE, WordsError, command_of};
+use claim_history::Day;
+use std::alloc::Global;
+
+// What is told of these words.
+fn told(alloc: Global, texts: &[&str]) -> Result<Command, WordsError> {
+    let mut words = Vec::new(alloc);
+    for text in texts {
+        let word = String::from_str(alloc, text)?;
+        if words.push(word).is_err() {
+            return Err(WordsError::Memory);
+        }
+    }
+    command_of(alloc, words.as_slice())
+}
+
+#[test]
+fn each_list_of_words_is_its_command(rt: HostRuntime) {
+    let today = Day::read(b"2025-03-31").expect(&rt, "a day");
+    let lists: [(&[&str], Command); 12] = [
+        (&["run"], Command::Run),
+        (&["check"], Command::Check),
+        (&["audit"], Command::Audit),
+        (&["positions"], Command::Positions),
+        (&["notices", "2025-03-31"], Command::Notices { today }),
+        (&["import", "1"], Command::Import { lane: 1 }),
+        (&["import", "16"], Command::Import { lane: 16 }),
+        (
+            &["trial", "2", "1", "0"],
+            Command::Trial {
+                firms: 2,
+                claims: 1,
+                seed: 0,
+            },
+        ),
+        (
+            &["trial", "60", "400", "7"],
+            Command::Trial {
+                firms: 60,
+                claims: 400,
+                seed: 7,
+            },
+        ),
+        (
+            &["trial", "16384", "1", "0"],
+            Command::Trial {
+                firms: 16_384,
+                claims: 1,
+                seed: 0,
+            },
+        ),
+        (
+            &["trial", "2", "262144", "0"],
+            Command::Trial {
+                firms: 2,
+                claims: 262_144,
+                seed: 0,
+            },
+        ),
+        (
+            &["trial", "2", "1", "4294967295"],
+            Command::Trial {
+                firms: 2,
+                claims: 1,
+                seed: 4_294_967_295,
+            },
+        ),
+    ];
+    for (words, command) in lists {
+        assert_eq!(rt; told(rt.alloc(), words), Ok(command));
+    }
+}
+
+#[test]
+fn other_words_are_refused(rt: HostRuntime) {
+    let lists: [&[&str]; 43] = [
+        &[],
+        &[""],
+        &["runs"],
+        &["ru"],
+        &["RUN"],
+        &["run "],
+        &["bureau", "run"],
+        &["run", "check"],
+        &["run", ""],
+        &["help"],
+        &["help", "run"],
+        &["-h"],
+        &["--help"],
+        &["run", "--help"],
+        &["-V"],
+        &["-"],
+        &["--"],
+        &["--", "run"],
+        &["run", "--"],
+        &["notices"],
+        &["notices", ""],
+        &["notices", "2025-02-29"],
+        &["notices", "2025-3-31"],
+        &["notices", "--", "2025-03-31"],
+        &["notices", "2025-03-31", "2025-03-31"],
+        &["import"],
+        &["import", "0"],
+        &["import", "17"],
+        &["import", "007"],
+        &["import", "+4"],
+        &["import", "-1"],
+        &["import", "4", "4"],
+        &["import", "LANE"],
+        &["trial"],
+        &["trial", "60", "400"],
+        &["trial", "60", "400", "7", "7"],
+        &["trial", "1", "400", "7"],
+        &["trial", "16385", "400", "7"],
+        &["trial", "60", "0", "7"],
+        &["trial", "60", "262145", "7"],
+        &["trial", "60", "400", "4294967296"],
+        &["trial", "60", "400", "07"],
+        &["trial", "60", "400", "18446744073709551623"],
+    ];
+    for words in lists {
+        assert_eq!(rt; told(rt.alloc(), words), Err(WordsError::Unknown));
+    }
+}
+
+#[test]
+fn each_command_is_told_on_a_line(rt: HostRuntime) {
+    let names = [
+        "run ",
+        "check ",
+        "audit ",
+        "positions ",
+        "notices DATE ",
+        "import LANE ",
+        "trial FIRMS CLAIMS SEED ",
+    ];
+    assert_eq!(rt; USAGE.lines().count(), names.len());
+    for (line, name) in USAGE.lines().zip(names) {
+        assert!(rt; line.starts_with(name), "{name}");
+    }
+}

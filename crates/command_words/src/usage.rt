@@ -1,0 +1,12 @@
+//! What is told to who gave no command.
+
+/// The commands, each on a line with what it does, for the error stream where the words are none of them.
+pub const USAGE: &str = "\
+run                       serves the requests of the input, and keeps them in the journal
+check                     judges the statement of the input
+audit                     replays the journal, and tells whether it is sound
+positions                 prints the position of every firm as CSV
+notices DATE              prints the open claims as CSV, with the days that they are overdue on DATE
+import LANE               turns the invoices of the input into FILE requests
+trial FIRMS CLAIMS SEED   makes a large input from a number, and serves it
+";
