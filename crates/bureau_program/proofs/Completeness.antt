@@ -16,7 +16,7 @@ use Rattle.request_text.specs.Grammar.{IsRequestText}
 use Rattle.request_text.proofs.ReadBack.{read_back_law}
 use Rattle.statement_text.specs.Statements.{IsStatement}
 use Rattle.statement_text.proofs.OneReading.{one_reading_law}
-use Rattle.round_journal.specs.Opened.{AreFound}
+use Rattle.round_journal.specs.Opened.{AreFound, OneRecords}
 use Rattle.bureau_desk.specs.declared.desk_refused.DeskCause.{DeskCause}
 use Rattle.bureau_desk.specs.declared.desk_refused.DeskCause.TheVariants.{Memory, Device, BadHeader, BadRecord, BadAct, Overfull}
 use Rattle.bureau_desk.specs.Laws.{IsFault}
@@ -32,6 +32,7 @@ use Rattle.bureau_program.specs.Due.{AreRun, AreCheck, AreAudit, IsAuditDue, IsB
 use Rattle.bureau_program.specs.Completeness.{Completes, HoldsSound, IsAudited, IsComplete, IsJudged, IsWholeInput, all_written, some_full, no_memory, line_written, no_verdict_memory, sound_written}
 use Rattle.bureau_program.specs.Completeness.{no_line_memory as no_audited_memory}
 use Rattle.bureau_program.proofs.Audited.{viewed}
+use Rattle.bureau_program.proofs.Bound.{input_asked, none_full_by}
 
 -- the status and the text that are due: a failure, want of memory, or what is done
 abbrev Ends : (ℕ → Type 0) → (ℕ → List ℕ → Type 0) → ℕ → List ℕ → Type 0
@@ -131,11 +132,11 @@ too_many : (input taken : List ℕ) (left_new : Option (List ℕ)) → Consumes 
 too_many input taken None h long within = h
 too_many input taken (Some rest) h long within = omega (arith, ap (λ (t : List ℕ). length t) h, length-append taken rest, long, within)
 
-all_taken : (input taken : List ℕ) (left_new : Option (List ℕ)) → Consumes (Some input) left_new taken → IsAtEnd left_new → taken ≡ input
+pub all_taken : (input taken : List ℕ) (left_new : Option (List ℕ)) → Consumes (Some input) left_new taken → IsAtEnd left_new → taken ≡ input
 all_taken input taken None h e = absurd h
 all_taken input taken (Some rest) h e = sym (h ∙ ap (λ (t : List ℕ). taken ++ t) e ∙ append-nil taken)
 
-read_ends : (IsInputDue : List ℕ → ℕ → List ℕ → Type 0) (Untouched : Type 0) (Failed : ℕ → Type 0) (Complete : ℕ → List ℕ → Type 0) (input : List ℕ) → length input ≤ most_input_bytes → Failed 3
+pub read_ends : (IsInputDue : List ℕ → ℕ → List ℕ → Type 0) (Untouched : Type 0) (Failed : ℕ → Type 0) (Complete : ℕ → List ℕ → Type 0) (input : List ℕ) → length input ≤ most_input_bytes → Failed 3
     → ((status : ℕ) (text : List ℕ) → IsInputDue input status text → Ends Failed Complete status text)
     → (left_new : Option (List ℕ)) (status : ℕ) (text : List ℕ) → IsReadDue IsInputDue Untouched (Some input) left_new status text → Ends Failed Complete status text
 read_ends IsInputDue Untouched Failed Complete input within three ends left_new status text (no_input_memory same) = no_room Failed Complete text
@@ -151,15 +152,15 @@ first_code [] = 0
 first_code ([] ∷ words) = 0
 first_code ((code ∷ codes) ∷ words) = code
 
-run_not_check : (words : List (List ℕ)) → AreRun words → AreCheck words → ⊥
+pub run_not_check : (words : List (List ℕ)) → AreRun words → AreCheck words → ⊥
 unfolding first_code
 run_not_check words run check = let same : 114 ≡ 99 = ap first_code (sym run ∙ check) in omega (arith, same)
 
-run_not_audit : (words : List (List ℕ)) → AreRun words → AreAudit words → ⊥
+pub run_not_audit : (words : List (List ℕ)) → AreRun words → AreAudit words → ⊥
 unfolding first_code
 run_not_audit words run audit = let same : 114 ≡ 97 = ap first_code (sym run ∙ audit) in omega (arith, same)
 
-check_not_audit : (words : List (List ℕ)) → AreCheck words → AreAudit words → ⊥
+pub check_not_audit : (words : List (List ℕ)) → AreCheck words → AreAudit words → ⊥
 unfolding first_code
 check_not_audit words check audit = let same : 99 ≡ 97 = ap first_code (sym check ∙ audit) in omega (arith, same)
 
@@ -205,6 +206,16 @@ all_served seen old new batches x y due text done taken = ⊎_elim
     (λ is. subst (IsComplete seen old new batches x y) (sym is) (some_full text (subst (λ (s : ℕ). IsHeadline seen old new batches s text) is done.1) taken))
     done.0
 
+-- full lines are told by a headline alone
+seven_told : {D : Type 0} (seen : D → Seen) (old new : D) (batches : List (List Request)) (x y : Option (List ℕ)) (due : ℕ) (text : List ℕ) (status : ℕ) → IsWritten x y due text status → Ends RunFailed (Served seen old new batches) due text → status ≡ 7
+    → IsHeadline seen old new batches 7 text
+seven_told seen old new batches x y due text status (whole taken) (inl (inl e)) seven = absurd (omega (arith, e, seven))
+seven_told seen old new batches x y due text status (whole taken) (inl (inr (inl e))) seven = absurd (omega (arith, e, seven))
+seven_told seen old new batches x y due text status (whole taken) (inl (inr (inr e))) seven = absurd (omega (arith, e, seven))
+seven_told seen old new batches x y due text status (whole taken) (inr (inl e)) seven = absurd (omega (arith, e, seven))
+seven_told seen old new batches x y due text status (whole taken) (inr (inr done)) seven = subst (λ (s : ℕ). IsHeadline seen old new batches s text) seven done.1
+seven_told seen old new batches x y due text status (broken part) e seven = let n : 4 ≡ 7 = seven in absurd (omega (arith, n))
+
 line_told : (cut : CutView) (outcome : OutcomeView) (x y : Option (List ℕ)) (due : ℕ) (text : List ℕ) → Judged cut outcome due text → Appends x y text → IsJudged cut outcome x y due
 line_told cut outcome x y due text done taken =
     subst (IsJudged cut outcome x y) (sym done.2) (line_written done.0 done.1 (subst (λ (t : List ℕ). Appends x y t) done.3 taken))
@@ -213,14 +224,17 @@ audit_told : (tells : Bool) (bytes : List ℕ) (x y : Option (List ℕ)) (due : 
 audit_told tells bytes x y due text done taken =
     subst (IsAudited tells bytes x y) (sym done.2) (sound_written done.0 done.1 (subst (λ (t : List ℕ). Appends x y t) done.3 taken))
 
-pub completes : {S D : Type 0} (left : S → Option (List ℕ)) (seen : D → Seen) (words told : List (List ℕ)) (source source' : S) (disk disk' : D) (x y : Option (List ℕ)) (ReadFault WriteFault : Type 0) (status : ℕ)
+pub completes : {S D : Type 0} → OneRecords → (left : S → Option (List ℕ)) (seen : D → Seen) (words told : List (List ℕ)) (source source' : S) (disk disk' : D) (x y : Option (List ℕ)) (ReadFault WriteFault : Type 0) (status : ℕ)
     → Ran left seen told source source' disk disk' x y status → told ≡ words → (status ≡ 3 → ReadFault) → (status ≡ 4 → WriteFault) → (status ≡ 5 → HasRisen (seen disk).count (seen disk').count)
     → Completes seen words (left source) disk disk' x y ReadFault WriteFault status
-completes left seen words told source source' disk disk' x y ReadFault WriteFault status ran same read write risen = record {
+completes one_records left seen words told source source' disk disk' x y ReadFault WriteFault status ran same read write risen = record {
   of_run = λ run batches input has no_read no_write no_rise.
       written_ends RunFailed (Served seen disk disk' batches) (IsComplete seen disk disk' batches x y) x y ran.due ran.text status ran.is_written
       (run_due_ends left seen told source source' disk disk' batches (same ∙ run) input has ran.due ran.text ran.is_due) no_memory (all_served seen disk disk' batches x y ran.due ran.text)
       (λ failed. ⊎_elim (λ e. no_read (read e)) (λ other. ⊎_elim (λ e. no_write (write e)) (λ e. no_rise (risen e)) other) failed) (λ e. no_write (write e));
+  none_full = λ run batches input has room seven.
+      none_full_by one_records seen disk disk' batches has ran.text (input_asked input.input batches input.holds) room
+      (seven_told seen disk disk' batches x y ran.due ran.text status ran.is_written (run_due_ends left seen told source source' disk disk' batches (same ∙ run) input has ran.due ran.text ran.is_due) seven);
   of_check = λ check cut outcome input no_read no_write.
       written_ends ReadFailed (Judged cut outcome) (IsJudged cut outcome x y) x y ran.due ran.text status ran.is_written
       (check_due_ends left seen told source source' disk disk' cut outcome (same ∙ check) input ran.due ran.text ran.is_due) no_verdict_memory (line_told cut outcome x y ran.due ran.text) (λ e. no_read (read e)) (λ e. no_write (write e));

@@ -3,4 +3,6 @@ pub mod Written
 pub mod Reading
 pub mod Commands
 pub mod Served
+pub mod Bound
 pub mod Completeness
+pub mod Causes

@@ -135,6 +135,7 @@ module _ {D : Type 0} (seen : D → Seen) (old : D) (first last : DeskView D) (o
     text_is = refl;
     on_disk = λ told. keeps.reads_left (tells_so told);
     legal = keeps.legal;
+    valid = keeps.valid;
     between = between;
     served = served;
     greatest = λ before later e total is published. greatest_law before later e total (subst IsLegal is keeps.legal) published;

@@ -3,7 +3,7 @@ use Rattle.std.specs.Prelude.{◌≡◌, ℕ, Bool, List, [], ◌∷◌, ◌++�
 use Rattle.disk_model.specs.Calls.{Seen, IsPresent}
 use Rattle.claim_history.specs.declared.entry.Entry.{Entry}
 use Rattle.claim_history.specs.declared.entry.Reply.TheVariants as reply
-use Rattle.claim_history.specs.History.{IsLegal}
+use Rattle.claim_history.specs.History.{AreValid, IsLegal}
 use Rattle.claim_history.specs.Callers.{accepted_calls}
 use Rattle.claim_history.specs.Laws.{IsGreatestPublication}
 use Rattle.request_text.specs.declared.request.Request.{Request}
@@ -56,8 +56,8 @@ pub record SurvivesCrashes {D : Type 0} (seen : D → Seen) (old new : D) (opene
 
 -- A run that served batches, and the status and the text that are due. Its parts: the history; what is written; what the disk
 -- reads at the end, which stands for the accepted calls, perhaps followed by one whose write failed; that the history is legal,
--- and the counts of its devices lie between those of the disk; the calls of each lane; the rounds; crashes; and what a run
--- leaves that failed to write the abandonment's line.
+-- its acts are valid, and the counts of its devices lie between those of the disk; the calls of each lane; the rounds; crashes;
+-- and what a run leaves that failed to write the abandonment's line.
 pub record IsHeadline {D : Type 0} (seen : D → Seen) (old new : D) (batches : List (List Request)) (status : ℕ) (text : List ℕ) : Type 0 where
   pub opened : List Entry
   pub begun : List Entry
@@ -68,6 +68,7 @@ pub record IsHeadline {D : Type 0} (seen : D → Seen) (old new : D) (batches : 
   pub text_is : text ≡ run_text opened begun done
   pub on_disk : IsTrue (seen old).tells → StandsForLeft history (seen new).reads
   pub legal : IsLegal history
+  pub valid : AreValid history
   pub between : AreBetween (seen old).count (seen new).count history
   pub served : AreServed begun done
   pub greatest : RoundsAreGreatest history

@@ -3,6 +3,7 @@ ghost use Rattle.std.specs.Prelude.{◌≡◌, ◌≢◌, map, string_bytes};
 ghost use Rattle.bureau_edge.specs.declared.whole.ReadEnd.TheVariants as ends;
 ghost use Rattle.fault_count.specs.Counts.{HasRisen};
 ghost use Rattle.printed_text.specs.Writing.{Wrote};
+ghost use Rattle.bureau_program.specs.Causes.{ComesOnly, ComesWhere};
 ghost use Rattle.bureau_program.specs.Completeness.{Completes};
 ghost use Rattle.bureau_program.specs.Due.{IsCheckDue, IsMemoryDue, IsReadDue, IsRunDue, IsToldUnread, Ran};
 
@@ -14,6 +15,7 @@ use bureau_edge::{ReadEnd, Sink, Source, read_whole};
 use disk_model::Disk;
 use lane_runner::Gate;
 use printed_text::end_with;
+use round_journal::bytes_hold_one_list;
 use setoff_model::limits::MOST_INPUT_BYTES;
 use shared_bureau::Pause;
 use std::alloc::Global;
@@ -120,19 +122,22 @@ fn answer_words<
 /// came of each; `gate` is called round each line, and `pause` while a round is open and no turn is held; `check` judges the statement of
 /// the source; `audit` replays the journal without writing to it. No command calls a source or a disk that it does not need.
 /// Where none of them counts a fault, the input is in the grammar and the journal is sound, all of the text is written, or memory
-/// was missing. The status is
+/// was missing. No line of `run` is full where there is room behind the journal for all requests of the input. The status is
 ///
 /// - 0 where none of the others comes;
-/// - 1 where `check` read a statement and its verdict is not that the set-off is greatest, or `audit` found an act that is refused
-///   or full;
+/// - 1 exactly where `check` read a statement whose prices do not prove its discharges, or `audit` found an act that is refused or
+///   full;
 /// - 2 exactly where the words are none of the lists; neither source nor disk is then called;
 /// - 3 only where the source counted a fault;
 /// - 4 only where the sink counted a fault; it has then taken some first bytes of what was due;
 /// - 5 only where the disk counted a fault;
 /// - 6 exactly where the input is not in the grammar, with the first bad line; the disk is then not called;
-/// - 7 where the source had more than 2^26 bytes, or a line of `run` was full;
-/// - 8 only where the disk has more than nine bytes that stand for no sound records;
+/// - 7 exactly where the source had more than 2^26 bytes, or a line of `run` was full;
+/// - 8 exactly where the disk has more than nine bytes that stand for no sound records, of `audit` where they stand for no records;
 /// - 9 for want of memory, always where a line was not replied to for want of it and the sink did not fail.
+///
+/// Where the cause of one of these is, 4 or 9 may come in its place, or the status of a step before it: the words, the reading of
+/// the source, the grammar, the disk, and then the lines, of which 9 comes before 5, and 5 before 7.
 #[tactic(none)]
 pub fn bureau<
     R: Threads + Wait + Sync,
@@ -155,8 +160,11 @@ pub fn bureau<
     ensures read_fault { result.status ≡ 3 → HasRisen (S.faults source) (S.faults result.source) }
     ensures write_fault { result.status ≡ 4 → HasRisen (K.faults sink) (K.faults result.sink) }
     ensures disk_fault { result.status ≡ 5 → HasRisen (D.seen disk).count (D.seen result.disk).count }
+    ensures comes { ComesWhere (map (λ w. string_bytes w) words.items) (S.left source) (D.seen disk) result.status }
+    ensures only { ComesOnly D.seen (map (λ w. string_bytes w) words.items) (S.left source) disk result.disk result.status }
     ensures complete { Completes D.seen (map (λ w. string_bytes w) words.items) (S.left source) disk result.disk (K.held sink) (K.held result.sink) (HasRisen (S.faults source) (S.faults result.source)) (HasRisen (K.faults sink) (K.faults result.sink)) result.status }
 {
+    bytes_hold_one_list();
     let (status, disk) = answer_words(
         rt,
         alloc,

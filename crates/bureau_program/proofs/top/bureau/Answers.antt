@@ -1,5 +1,6 @@
 use Rattle.std.proofs.Common.{ℕ, List, subst}
 use Rattle.bureau_program.specs.Due.{Ran}
+use Rattle.bureau_program.proofs.Causes.{comes_only, comes_where}
 use Rattle.bureau_program.proofs.Commands.{bytes_of, same_bytes}
 use Rattle.bureau_program.proofs.Completeness.{completes}
 use Rattle.bureau_program.proofs.top.bureau.Goals as goal
@@ -18,7 +19,17 @@ returns-clause-write_fault g c = c.answer_words-status.ensures.write_fault
 pub returns-clause-disk_fault : goal.returns-clause-disk_fault
 returns-clause-disk_fault g c = c.answer_words-status.ensures.disk_fault
 
+pub returns-clause-comes : goal.returns-clause-comes
+returns-clause-comes g c =
+    comes_where g.S.Source.left g.D.Disk.seen (bytes_of c.args.words.items) (bytes_of c.as_slice.result.now) c.args.source c.answer_words-status.new.source c.args.disk c.answer_words-status.result.1 _ _ c.answer_words-status.result.0
+    c.answer_words-status.ensures.ran (same_bytes c.as_slice.result.now c.args.words.items c.as_slice.ensures.value)
+
+pub returns-clause-only : goal.returns-clause-only
+returns-clause-only g c =
+    comes_only g.S.Source.left g.D.Disk.seen (bytes_of c.args.words.items) (bytes_of c.as_slice.result.now) c.args.source c.answer_words-status.new.source c.args.disk c.answer_words-status.result.1 _ _ c.answer_words-status.result.0
+    c.answer_words-status.ensures.ran (same_bytes c.as_slice.result.now c.args.words.items c.as_slice.ensures.value)
+
 pub returns-clause-complete : goal.returns-clause-complete
 returns-clause-complete g c =
-    completes g.S.Source.left g.D.Disk.seen (bytes_of c.args.words.items) (bytes_of c.as_slice.result.now) c.args.source c.answer_words-status.new.source c.args.disk c.answer_words-status.result.1 _ _ _ _ c.answer_words-status.result.0
+    completes c.bytes_hold_one_list.ensures.records g.S.Source.left g.D.Disk.seen (bytes_of c.args.words.items) (bytes_of c.as_slice.result.now) c.args.source c.answer_words-status.new.source c.args.disk c.answer_words-status.result.1 _ _ _ _ c.answer_words-status.result.0
     c.answer_words-status.ensures.ran (same_bytes c.as_slice.result.now c.args.words.items c.as_slice.ensures.value) c.answer_words-status.ensures.read_fault c.answer_words-status.ensures.write_fault c.answer_words-status.ensures.disk_fault
