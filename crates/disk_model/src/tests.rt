@@ -1,5 +1,3 @@
-ghost use Rattle.std.specs.Prelude.{◌<◌, ◌^◌, length};
-
 use crate::{Disk, DiskFailed, FileDisk, MemoryDisk, runs_compose, torn_writes};
 use std::alloc::{AllocError, Global};
 use std::fs;
@@ -13,12 +11,10 @@ fn wrote(disk: &mut MemoryDisk, at: u64, piece: &[u8]) -> bool {
         && disk.write_at(at, piece).is_ok()
 }
 
-// Writes a piece past the end of any disk.
-fn append<D: Disk>(disk: &mut D, piece: &[u8]) -> Result<(), DiskFailed>
-    requires { length piece.now < 2 ^ 16 }
-{
+// Writes a piece behind the last byte of any disk, both of less than 100 bytes.
+fn append<D: Disk>(disk: &mut D, piece: &[u8]) -> Result<(), DiskFailed> {
     let end = disk.len()?;
-    if end >= 1 << 60 {
+    if end >= 100 || piece.len() >= 100 {
         return Err(DiskFailed);
     }
     disk.write_at(end, piece)
@@ -170,60 +166,101 @@ fn a_place_above_63_never_stands(rt: HostRuntime) -> Result<(), Fail> {
     Ok(())
 }
 
+// The file of this path.
+fn file<'a>(rt: &'a HostRuntime, path: &str) -> Result<FileDisk<'a, HostRuntime>, AllocError> {
+    Ok(FileDisk::new(rt, String::from_str(rt.alloc(), path)?))
+}
+
+// Whether a file is neither synced nor written. Its folder is missing.
+fn is_homeless(disk: &mut FileDisk<'_, HostRuntime>) -> bool {
+    disk.sync().is_err() && disk.write_at(0, b"a").is_err() && disk.faults() == 2
+}
+
+// Whether a sync leaves a missing file missing, which has no bytes.
+fn is_missing(rt: &HostRuntime, path: &str) -> Result<bool, Fail> {
+    let mut disk = file(rt, path)?;
+    let synced = disk.sync().is_ok();
+    let empty = disk.len() == Ok(0);
+    Ok(synced && empty && !fs::exists(rt, path)?)
+}
+
+// Writes seven bytes to a new file, two of them over others, with a sync before and after these.
+fn write_whole(disk: &mut FileDisk<'_, HostRuntime>) -> Result<bool, DiskFailed> {
+    append(disk, b"abcd")?;
+    disk.sync()?;
+    let written = last::<_, 3>(disk)? == *b"bcd";
+    append(disk, b"efg")?;
+    disk.write_at(2, b"XY")?;
+    disk.sync()?;
+    Ok(written && disk.len()? == 7 && disk.faults() == 0)
+}
+
+// Whether these bytes are read by another, and none past the end.
+fn is_read(disk: &mut FileDisk<'_, HostRuntime>) -> Result<bool, DiskFailed> {
+    let whole = last::<_, 7>(disk)? == *b"abXYefg";
+    let mut into = [0; 4];
+    disk.read_at(3, &mut into)?;
+    let near = disk.read_at(4, &mut into) == Err(DiskFailed);
+    let far = disk.read_at(u64::MAX, &mut into) == Err(DiskFailed);
+    Ok(whole && near && far && disk.faults() == 2)
+}
+
 #[test]
 fn a_file_is_written_synced_and_opened_again(rt: HostRuntime) -> Result<(), Fail> {
     let name = "disk_model_test";
     let _ = fs::remove_dir_all(&rt, name);
     let path = "disk_model_test/file";
-    let mut homeless = FileDisk::new(&rt, String::from_str(rt.alloc(), path)?);
-    assert!(rt;
-        homeless.sync().is_err() && homeless.write_at(0, b"a").is_err() && homeless.faults() == 2
-    );
+    assert!(rt; is_homeless(&mut file(&rt, path)?));
     fs::create_dir(&rt, name)?;
-    {
-        let mut disk = FileDisk::new(&rt, String::from_str(rt.alloc(), path)?);
-        disk.sync()?;
-        assert!(rt; disk.len() == Ok(0) && !fs::exists(&rt, path)?);
-        append(&mut disk, b"abcd")?;
-        disk.sync()?;
-        assert_eq!(rt; last::<_, 3>(&mut disk)?, *b"bcd");
-        append(&mut disk, b"efg")?;
-        disk.write_at(2, b"XY")?;
-        disk.sync()?;
-        assert!(rt; disk.len() == Ok(7) && disk.faults() == 0);
-    }
-    let mut again = FileDisk::new(&rt, String::from_str(rt.alloc(), path)?);
-    assert_eq!(rt; last::<_, 7>(&mut again)?, *b"abXYefg");
-    let mut into = [0; 4];
-    again.read_at(3, &mut into)?;
-    for place in [4, u64::MAX] {
-        assert_eq!(rt; again.read_at(place, &mut into), Err(DiskFailed));
-    }
-    assert_eq!(rt; again.faults(), 2);
+    assert!(rt; is_missing(&rt, path)?);
+    assert!(rt; write_whole(&mut file(&rt, path)?)?);
+    assert!(rt; is_read(&mut file(&rt, path)?)?);
     fs::remove_dir_all(&rt, name)?;
     Ok(())
 }
 
-// Those that read share the file, and one that writes has it alone.
+// Whether the writer has the file alone, also before one that found it missing.
+fn has_it_alone(
+    writer: &mut FileDisk<'_, HostRuntime>,
+    reader: &mut FileDisk<'_, HostRuntime>,
+    early: &mut FileDisk<'_, HostRuntime>,
+) -> Result<bool, DiskFailed> {
+    append(writer, b"ab")?;
+    let locked = reader.len().is_err() && reader.sync().is_err() && reader.faults() == 2;
+    let late = early.len() == Ok(0) && early.write_at(0, b"xy").is_err();
+    Ok(locked && late && writer.len()? == 2 && writer.faults() == 0)
+}
+
+// Whether two that read share the file, until one of them has it alone.
+fn is_shared(
+    first: &mut FileDisk<'_, HostRuntime>,
+    second: &mut FileDisk<'_, HostRuntime>,
+) -> Result<bool, DiskFailed> {
+    let shared = first.len()? == 2 && second.len()? == 2 && second.sync().is_err();
+    let alone = first.sync().is_ok() && second.len().is_err();
+    append(first, b"c")?;
+    Ok(shared && alone && last::<_, 3>(first)? == *b"abc")
+}
+
+// Whether those that read a file share it, and one that writes has it alone. The file is missing at first.
+fn is_locked(
+    rt: &HostRuntime,
+    path: &str,
+    early: &mut FileDisk<'_, HostRuntime>,
+    reader: &mut FileDisk<'_, HostRuntime>,
+) -> Result<bool, Fail> {
+    let missing = early.len() == Ok(0);
+    let alone = has_it_alone(&mut file(rt, path)?, reader, early)?;
+    let shared = is_shared(reader, &mut file(rt, path)?)?;
+    Ok(missing && alone && shared)
+}
+
 #[test]
 fn a_file_is_locked(rt: HostRuntime) -> Result<(), Fail> {
     let path = "disk_model_locked";
     let _ = fs::remove_file(&rt, path);
-    let mut early = FileDisk::new(&rt, String::from_str(rt.alloc(), path)?);
-    assert!(rt; early.len() == Ok(0));
-    let mut reader = FileDisk::new(&rt, String::from_str(rt.alloc(), path)?);
-    {
-        let mut writer = FileDisk::new(&rt, String::from_str(rt.alloc(), path)?);
-        append(&mut writer, b"ab")?;
-        assert!(rt; reader.len().is_err() && reader.sync().is_err() && reader.faults() == 2);
-        assert!(rt; early.len() == Ok(0) && early.write_at(0, b"xy").is_err());
-        assert!(rt; writer.len() == Ok(2) && writer.faults() == 0);
-    }
-    let mut second = FileDisk::new(&rt, String::from_str(rt.alloc(), path)?);
-    assert!(rt; reader.len() == Ok(2) && second.len() == Ok(2) && second.sync().is_err());
-    assert!(rt; reader.sync().is_ok() && second.len().is_err());
-    append(&mut reader, b"c")?;
-    assert_eq!(rt; last::<_, 3>(&mut reader)?, *b"abc");
+    let mut early = file(&rt, path)?;
+    assert!(rt; is_locked(&rt, path, &mut early, &mut file(&rt, path)?)?);
     fs::remove_file(&rt, path)?;
     Ok(())
 }
