@@ -73,6 +73,28 @@ fn bad_line(alloc: Global, text: &[u8]) -> Option<(u64, StatementCause)> {
     }
 }
 
+// Whether a text is read, or has a bad line. None where memory is missing.
+fn is_read(alloc: Global, text: &[u8]) -> Option<bool> {
+    match read_statement(alloc, text) {
+        Ok(_) => Some(true),
+        Err(StatementError::BadLine { .. }) => Some(false),
+        Err(StatementError::Memory) => None,
+    }
+}
+
+// Of the texts that the triangle's begins with, only the whole one and the one without its last line feed are read.
+#[test]
+fn a_text_cut_short(rt: HostRuntime) {
+    for end in 0..TRIANGLE.len() {
+        let text = &TRIANGLE[..end];
+        let missing = TRIANGLE.len() - end;
+        assert!(rt; is_read(rt.alloc(), text) == Some(missing == 1), "at {end}");
+        if missing == b"END\n".len() {
+            assert!(rt; bad_line(rt.alloc(), text) == Some((8, NoEnd)));
+        }
+    }
+}
+
 #[test]
 fn other_line_ends(rt: HostRuntime) {
     let texts: [&[u8]; 3] = [
