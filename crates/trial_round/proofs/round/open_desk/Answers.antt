@@ -1,0 +1,9 @@
+use Rattle.std.proofs.Common.{◌∙◌, ap, refl}
+use Rattle.disk_model.specs.Memory.{MemoryState}
+use Rattle.disk_model.specs.MemoryState.{seen_of}
+use Rattle.trial_round.proofs.Opened.{opened_empty}
+use Rattle.trial_round.proofs.round.open_desk.Goals as goal
+
+pub returns-in-Ok : goal.returns-in-Ok
+returns-in-Ok c =
+    opened_empty seen_of c.new-disk.result c.in-Ok.desk c.in-Ok.ensures.ok refl (ap (λ (s : MemoryState). s.bytes) c.new-disk.ensures ∙ c.new.ensures.items) c.book-book.ensures.keeps.legal

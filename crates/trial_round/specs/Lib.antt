@@ -1,0 +1,4 @@
+pub mod Draws
+pub mod Input
+pub mod Trial
+pub mod Round

@@ -1,0 +1,45 @@
+//! The line of a trial.
+ghost use Rattle.std.specs.Prelude.{◌≡◌, ◌+◌, ◌≤◌, ◌++◌, decimal, length, IfOk, vec_len, vec_capacity};
+ghost use Rattle.trial_round.specs.Trial.{trial_line};
+
+use crate::round::Sums;
+use crate::whole::write_whole;
+use setoff_model::{put, write_cents};
+use std::alloc::{AllocError, Global};
+
+/// The bytes of room for the line.
+const LINE_BYTES: usize = 400;
+
+// Writes words and a number.
+fn write_count(buffer: &mut Vec<u8>, words: &[u8], number: u32)
+    requires short { length words.now ≤ 20 }
+    requires spare { vec_len buffer.old + 80 ≤ vec_capacity buffer.old }
+    ensures text { buffer.new.items ≡ buffer.old.items ++ words.now ++ decimal number }
+    ensures len { vec_len buffer.new ≤ vec_len buffer.old + 40 }
+    ensures room { vec_capacity buffer.old ≤ vec_capacity buffer.new }
+{
+    put(buffer, words);
+    write_whole(buffer, number);
+}
+
+/// The line that tells of a trial, with its end. The one error is want of memory.
+pub fn trial_line(
+    alloc: Global,
+    firms: u32,
+    claims: u32,
+    seed: u32,
+    sums: Sums,
+) -> Result<Vec<u8>, AllocError>
+    ensures { IfOk result (λ text. text.items ≡ trial_line firms claims seed sums.claims sums.parties sums.total) }
+{
+    let mut text = Vec::with_capacity(alloc, LINE_BYTES)?;
+    write_count(&mut text, b"trial firms ", firms);
+    write_count(&mut text, b" claims ", claims);
+    write_count(&mut text, b" seed ", seed);
+    write_count(&mut text, b" cut ", sums.claims);
+    write_count(&mut text, b" parties ", sums.parties);
+    put(&mut text, b" total ");
+    write_cents(&mut text, u128::from(sums.total));
+    put(&mut text, b" yes\n");
+    Ok(text)
+}

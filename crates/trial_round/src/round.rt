@@ -1,0 +1,174 @@
+//! The round of a trial: its input is served, and what was published is judged.
+ghost use Rattle.std.specs.Prelude.{◌≡◌, [], IfOk};
+ghost use Rattle.std.specs.List.{list_any};
+ghost use Rattle.setoff_model.specs.CutView.{WellFormed, obligations};
+ghost use Rattle.setoff_model.specs.Setoff.{Proves};
+ghost use Rattle.claim_history.specs.History.{AreValid, IsLegal};
+ghost use Rattle.claim_history.specs.Needs.{is_of_device};
+ghost use Rattle.claim_history.specs.Rounds.{cuts_after};
+ghost use Rattle.served_lines.specs.Served.{IsServed};
+ghost use Rattle.trial_round.specs.Trial.{AreSums, IsTrialSize, trial_batch, trial_cut};
+ghost use Rattle.trial_round.specs.Round.{EndsWith, HasRound};
+
+use crate::input::trial_batch;
+use crate::unhindered::Unhindered;
+use bureau_desk::Desk;
+use claim_history::{Act, Entry, Reply, Why, publications_are_greatest};
+use disk_model::MemoryDisk;
+use lane_runner::run_batch;
+use level_solver::LevelSolver;
+use round_cut::cut_of_a_history_is_of_its_facts;
+use served_lines::{Answer, no_line_is_full_within_the_bound, some_memory};
+use setoff_checker::{Checker, Verdict};
+use setoff_model::{Cut, Outcome, weak_duality};
+use std::alloc::{AllocError, Global};
+use std::sync::Wait;
+use std::thread::Threads;
+
+/// What a round came to: the claims and the parties of its cut, and its total in cents.
+#[derive(Clone, Copy)]
+pub struct Sums {
+    pub claims: u32,
+    pub parties: u32,
+    pub total: u64,
+}
+
+fn tells_of_device(reply: &Reply) -> bool
+    ensures { result ≡ is_of_device reply.now }
+{
+    matches!(reply, Reply::Refused(Why::Device { .. }))
+}
+
+fn some_device(entries: &[Entry]) -> bool
+    ensures { result ≡ list_any (λ e. is_of_device e.reply) entries.now }
+{
+    entries.iter().any(|entry| tells_of_device(&entry.reply))
+}
+
+// The outcome of the publication that a history ends with.
+fn last_outcome(history: &[Entry]) -> &Outcome
+    requires { (outcome : _) × EndsWith history.now outcome }
+    ensures { EndsWith history.now result.now }
+{
+    match history {
+        [
+            ..,
+            Entry {
+                act: Act::Publish { outcome, .. },
+                ..
+            },
+        ] => outcome,
+        _ => unreachable!(),
+    }
+}
+
+// What the round of a cut came to, with an outcome that is proved for it. The one error is want of memory.
+fn sums_of(alloc: Global, cut: &Cut, outcome: &Outcome) -> Result<Sums, AllocError>
+    requires formed { WellFormed cut.now }
+    requires proved { Proves (obligations cut.now) outcome.now.discharges outcome.now.prices }
+    ensures { IfOk result (λ sums. AreSums cut.now sums.claims sums.parties sums.total) }
+{
+    weak_duality();
+    let mut checker = Checker::for_cut(alloc, cut)?;
+    match checker.verdict(cut, outcome) {
+        Verdict::Greatest { total } => Ok(Sums {
+            claims: cut.claims().len() as u32,
+            parties: cut.parties().len() as u32,
+            total,
+        }),
+        _ => unreachable!(),
+    }
+}
+
+// A desk on an empty disk, whose faults are refused growths. So the one error is want of memory.
+fn open_desk(alloc: Global) -> Result<Desk<MemoryDisk>, AllocError>
+    ensures { IfOk result (λ desk. desk.history ≡ []) }
+{
+    let disk = MemoryDisk::new(alloc, Vec::new(alloc), Vec::new(alloc));
+    match Desk::open(alloc, disk) {
+        Ok(desk) => {
+            let _book = desk.book();
+            Ok(desk)
+        }
+        Err(_) => Err(AllocError),
+    }
+}
+
+// What the round of a trial came to, which its history ends with. The one error is want of memory.
+fn sums_of_round(
+    alloc: Global,
+    firms: u32,
+    claims: u32,
+    seed: u32,
+    history: &[Entry],
+    rounds: &[Cut],
+) -> Result<Sums, AllocError>
+    requires { HasRound (trial_cut firms claims seed) history.now rounds.now }
+    ensures { IfOk result (λ sums. AreSums (trial_cut firms claims seed) sums.claims sums.parties sums.total) }
+{
+    sums_of(alloc, &rounds[0], last_outcome(history))
+}
+
+// What the round of a trial came to whose lines were served. The one error is want of memory: a line was answered so, or an entry
+// tells of the disk, whose faults are refused growths. No line is full, since a trial is within the bound.
+fn judge(
+    alloc: Global,
+    firms: u32,
+    claims: u32,
+    seed: u32,
+    answers: &[Answer],
+    history: &[Entry],
+    rounds: &[Cut],
+) -> Result<Sums, AllocError>
+    requires size { IsTrialSize firms claims }
+    requires served { IsServed (trial_batch firms claims seed) answers.now [] history.now }
+    requires legal { IsLegal history.now }
+    requires valid { AreValid history.now }
+    requires rounds { rounds.now ≡ cuts_after 0 history.now }
+    ensures { IfOk result (λ sums. AreSums (trial_cut firms claims seed) sums.claims sums.parties sums.total) }
+{
+    publications_are_greatest();
+    cut_of_a_history_is_of_its_facts();
+    no_line_is_full_within_the_bound();
+    if some_memory(answers) || some_device(history) {
+        return Err(AllocError);
+    }
+    sums_of_round(alloc, firms, claims, seed, history, rounds)
+}
+
+/// Draws the input of a trial, serves it on a desk on a disk in memory, and judges its round. The one error is want of memory.
+pub fn serve_trial<R: Threads + Wait + Sync>(
+    rt: &R,
+    alloc: Global,
+    firms: u32,
+    claims: u32,
+    seed: u32,
+) -> Result<Sums, AllocError>
+    requires { IsTrialSize firms claims }
+    ensures { IfOk result (λ sums. AreSums (trial_cut firms claims seed) sums.claims sums.parties sums.total) }
+{
+    let batch = trial_batch(alloc, firms, claims, seed)?;
+    let desk = open_desk(alloc)?;
+    let end = run_batch(
+        rt,
+        alloc,
+        desk,
+        &batch,
+        &LevelSolver::new(),
+        &Unhindered,
+        &Unhindered,
+    );
+    let Some(answers) = &end.answers else {
+        return Err(AllocError);
+    };
+    let history = end.desk.book().history();
+    judge(
+        alloc,
+        firms,
+        claims,
+        seed,
+        answers.list(),
+        history,
+        end.desk.rounds(),
+    )
+}
