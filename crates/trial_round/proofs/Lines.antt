@@ -89,6 +89,19 @@ module _ (whole : List Entry) where
   one_entry request a front lane asks other (inl one) = (one.call, one.is, one_call request a one.call lane asks one.asks)
   one_entry request a front lane asks other (inr round) = absurd (cc (sym other ∙ ap is_close (sym asks) ∙ round.closes.closes))
 
+  -- one act more at the start
+  one_more : (a : Act) (acts : List Act) (front later entries : List Entry) (call : Entry) → entries ≡ front ++ later → front ≡ call ∷ [] → call_of call ≡ call_by_one a → AreParts whole acts later → AreParts whole (a ∷ acts) entries
+  one_more a acts front later entries call is one by rest = record {
+    before = call ∷ rest.before;
+    last = rest.last;
+    parts = is ∙ ap (λ (l : List Entry). l ++ later) one ∙ ap (λ (l : List Entry). call ∷ l) rest.parts;
+    calls = ap (λ (c : Call). c ∷ map call_of rest.before) by ∙ ap (λ (l : List Call). call_by_one a ∷ l) rest.calls;
+    request = rest.request;
+    lane = rest.lane;
+    closes = rest.closes;
+    ends = rest.ends;
+  }
+
   abbrev Adds : ℕ → List Entry → ℕ → List Act → List Answer → List Entry → Type 0
   Adds opened done number acts answers entries = LinesAdd whole opened done (lines_of (numbered number (map by_lane_one (acts ++ close_act ∷ []))) answers) entries
 
@@ -118,16 +131,7 @@ module _ (whole : List Entry) where
       let is : answer.end ≡ ends.Replied = replied answer.end no_memory.0 no_full.0 in
       let one = one_entry request a adds.0 refl refl (All-head (λ x. is_close x ≡ false) a acts other) (subst (λ (end : LineEnd). LineAdds whole opened done request end adds.0) is adds.3) in
       let rest = parts_of opened (number + 1) (done ++ adds.0) acts answers adds.1 (All-tail (λ x. is_close x ≡ false) a acts other) (cc answered) no_memory.1 no_full.1 adds.4 in
-      record {
-        before = one.0 ∷ rest.before;
-        last = rest.last;
-        parts = adds.2 ∙ ap₂ (λ (l m : List Entry). l ++ m) one.1 rest.parts;
-        calls = ap (λ (c : Call). c ∷ map call_of rest.before) one.2 ∙ ap (λ (l : List Call). call_by_one a ∷ l) rest.calls;
-        request = rest.request;
-        lane = rest.lane;
-        closes = rest.closes;
-        ends = rest.ends;
-      }
+      one_more a acts adds.0 adds.1 entries one.0 adds.2 one.1 one.2 rest
 
 -- what the lines of a trial add, where each was replied to
 pub trial_parts : (acts : List Act) (answers : List Answer) (added : List Entry) → All (λ a. is_close a ≡ false) acts

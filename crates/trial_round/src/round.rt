@@ -9,10 +9,11 @@ ghost use Rattle.claim_history.specs.Rounds.{cuts_after};
 ghost use Rattle.served_lines.specs.Served.{IsServed};
 ghost use Rattle.trial_round.specs.Trial.{AreSums, IsTrialSize, trial_batch, trial_cut};
 ghost use Rattle.trial_round.specs.Round.{EndsWith, HasRound};
+ghost use Rattle.trial_round.specs.Opening.{IsWant};
 
 use crate::input::trial_batch;
 use crate::unhindered::Unhindered;
-use bureau_desk::Desk;
+use bureau_desk::{Desk, DeskCause, DeskRefused};
 use claim_history::{Act, Entry, Reply, Why, publications_are_greatest};
 use disk_model::MemoryDisk;
 use lane_runner::run_batch;
@@ -80,7 +81,20 @@ fn sums_of(alloc: Global, cut: &Cut, outcome: &Outcome) -> Result<Sums, AllocErr
     }
 }
 
-// A desk on an empty disk, whose faults are refused growths. So the one error is want of memory.
+// The error of an opening on an empty disk in memory, whose faults are refused growths.
+fn opening_error(cause: DeskCause) -> AllocError
+    requires { IsWant cause }
+{
+    match cause {
+        DeskCause::Memory | DeskCause::Device { .. } => AllocError,
+        DeskCause::BadHeader => unreachable!(),
+        DeskCause::BadRecord { .. } => unreachable!(),
+        DeskCause::BadAct { .. } => unreachable!(),
+        DeskCause::Overfull { .. } => unreachable!(),
+    }
+}
+
+// A desk on an empty disk in memory. The one error is want of memory.
 fn open_desk(alloc: Global) -> Result<Desk<MemoryDisk>, AllocError>
     ensures { IfOk result (λ desk. desk.history ≡ []) }
 {
@@ -90,7 +104,7 @@ fn open_desk(alloc: Global) -> Result<Desk<MemoryDisk>, AllocError>
             let _book = desk.book();
             Ok(desk)
         }
-        Err(_) => Err(AllocError),
+        Err(DeskRefused { disk: _, cause }) => Err(opening_error(cause)),
     }
 }
 

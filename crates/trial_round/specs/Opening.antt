@@ -1,0 +1,9 @@
+-- Why no desk is opened for a trial.
+use Rattle.bureau_desk.specs.declared.desk_refused.DeskCause.{DeskCause}
+use Rattle.bureau_desk.specs.declared.desk_refused.DeskCause.TheVariants as causes
+
+-- there was no memory, or the disk failed
+abbrev pub IsWant : DeskCause → Type 0
+IsWant causes.Memory = Unit {0}
+IsWant (causes.Device before after) = Unit {0}
+IsWant _ = ⊥
