@@ -3,7 +3,10 @@ ghost use Rattle.turn_lock.specs.Seats.{lock_of, number, seen, own, registry, ma
 ghost use Rattle.shared_bureau.specs.Owned.{OwnsRound};
 ghost use Rattle.shared_bureau.specs.Adding.{IsReady};
 
-use crate::{CloseEnd, Pause, Shared};
+mod many;
+mod steps;
+
+use crate::{CloseEnd, Shared};
 use bureau_desk::{CutReply, Desk, PublishReply};
 use claim_history::{Act, Day, Reply, Why};
 use disk_model::MemoryDisk;
@@ -12,6 +15,8 @@ use price_certificate::certified;
 use setoff_model::{Cut, Key, Kind, Name};
 use std::alloc::Global;
 use std::sync::Wait;
+use std::thread;
+use steps::{Steps, UntilAnswered};
 use turn_lock::{Registrar, Seat};
 
 type MemoryDesk = Desk<MemoryDisk>;
@@ -115,6 +120,16 @@ fn has_amounts(cut: &Cut, amounts: &[u64]) -> bool {
             .iter()
             .zip(amounts)
             .all(|(claim, amount)| claim.amount == *amount)
+}
+
+// Whether its parties are A, B and C.
+fn has_three_parties(cut: &Cut) -> bool {
+    cut.parties().len() == 3
+        && cut
+            .parties()
+            .iter()
+            .enumerate()
+            .all(|(place, party)| firm(place as u32) == Some(party.firm))
 }
 
 // ---- a round is its owner's
@@ -237,73 +252,179 @@ fn opened(alloc: Global) -> Option<(Shared<MemoryDisk>, Registrar<MemoryDesk>)>
     }
 }
 
-// The first seat closes a round, which it alone may continue, with the same kind. The second finds it frozen and not its own, and
-// files one more claim. The first publishes, and then the second closes and publishes a round of its own.
-fn rounds_of_two<R: Wait>(
+// The first seat closes a round, which it alone may continue, with the same kind. It publishes the round once the second seat was
+// answered.
+fn first_round<R: Wait>(
     rt: &R,
     alloc: Global,
     shared: &Shared<MemoryDisk>,
-    first: &mut Seat<MemoryDesk>,
-    second: &mut Seat<MemoryDesk>,
-) -> Option<(u64, u64)>
-    requires first { IsReady shared.now.turn first.old }
-    requires second { IsReady shared.now.turn second.old }
-    ensures first { IsReady shared.now.turn first.new }
-    ensures second { IsReady shared.now.turn second.new }
+    seat: &mut Seat<MemoryDesk>,
+    steps: &Steps,
+) -> Option<u64>
+    requires { IsReady shared.now.turn seat.old }
+    ensures { IsReady shared.now.turn seat.new }
 {
-    let cut = frozen(rt, shared, first)?;
-    finds_open(rt, shared, first, Kind::Funded)?;
-    let again = frozen(rt, shared, first)?;
+    let cut = frozen(rt, shared, seat)?;
+    finds_open(rt, shared, seat, Kind::Funded)?;
+    let again = frozen(rt, shared, seat)?;
+    steps.step(rt);
+    steps.wait_for(rt, 2);
     let amounts = [1_000, 700, 1_200];
     if !has_amounts(&cut, &amounts) || !has_amounts(&again, &amounts) {
         return None;
     }
-    other_acts(rt, shared, second)?;
-    finds_open(rt, shared, second, Kind::Plain)?;
-    let one = published(rt, alloc, shared, first, again)?;
-    let cut = frozen(rt, shared, second)?;
-    if cut.round() != 2 || !has_amounts(&cut, &[300, 500, 200]) {
+    let total = published(rt, alloc, shared, seat, again)?;
+    steps.step(rt);
+    Some(total)
+}
+
+// The second seat finds the round of the first frozen and not its own, and files more claims. Once that round is published, it
+// closes and publishes one of its own.
+fn second_round<R: Wait>(
+    rt: &R,
+    alloc: Global,
+    shared: &Shared<MemoryDisk>,
+    seat: &mut Seat<MemoryDesk>,
+    steps: &Steps,
+) -> Option<u64>
+    requires { IsReady shared.now.turn seat.old }
+    ensures { IsReady shared.now.turn seat.new }
+{
+    steps.wait_for(rt, 1);
+    other_acts(rt, shared, seat)?;
+    finds_open(rt, shared, seat, Kind::Plain)?;
+    steps.step(rt);
+    steps.wait_for(rt, 3);
+    let cut = frozen(rt, shared, seat)?;
+    if cut.round() != 2 || !has_amounts(&cut, &[300, 500, 200]) || !has_three_parties(&cut) {
         return None;
     }
-    let other = published(rt, alloc, shared, second, cut)?;
-    Some((one, other))
+    published(rt, alloc, shared, seat, cut)
+}
+
+fn with_first_round<R: Wait>(
+    rt: &R,
+    alloc: Global,
+    shared: &Shared<MemoryDisk>,
+    seat: Seat<MemoryDesk>,
+    steps: &Steps,
+) -> (Seat<MemoryDesk>, Option<u64>)
+    requires { IsReady shared.now.turn seat }
+    ensures { IsReady shared.now.turn result.0 }
+{
+    let mut seat = seat;
+    let total = first_round(rt, alloc, shared, &mut seat, steps);
+    (seat, total)
+}
+
+fn with_second_round<R: Wait>(
+    rt: &R,
+    alloc: Global,
+    shared: &Shared<MemoryDisk>,
+    seat: Seat<MemoryDesk>,
+    steps: &Steps,
+) -> (Seat<MemoryDesk>, Option<u64>)
+    requires { IsReady shared.now.turn seat }
+    ensures { IsReady shared.now.turn result.0 }
+{
+    let mut seat = seat;
+    let total = second_round(rt, alloc, shared, &mut seat, steps);
+    (seat, total)
 }
 
 #[test]
 fn a_round_stays_its_owners(rt: HostRuntime) {
     let alloc = rt.alloc();
     let two = two_seats(&rt, alloc).expect(&rt, "a shared desk");
-    let (shared, registrar, mut first, mut second) = two;
-    let totals = rounds_of_two(&rt, alloc, &shared, &mut first, &mut second);
-    assert!(rt; totals == Some((2_100, 0)));
+    let (shared, registrar, first, second) = two;
+    let steps = Steps::new();
+    let ((first, one), (second, other)) = thread::join(
+        &rt,
+        || with_first_round(&rt, alloc, &shared, first, &steps),
+        || with_second_round(&rt, alloc, &shared, second, &steps),
+    );
+    assert!(rt; !steps.was_late(&rt));
+    assert!(rt; one == Some(2_100));
+    assert!(rt; other == Some(0));
     let seats = vec![in alloc; first, second].ok().expect(&rt, "memory");
     let desk = shared.finish(registrar, seats);
     assert!(rt; desk.rounds().len() == 2);
 }
 
-// ---- a round that is closed in one call
+// ---- the turn while a round is solved
 
-// It does nothing.
-struct NoPause;
+// The first seat closes a round. It is solved once the second seat was answered.
+fn closed<R: Wait>(
+    rt: &R,
+    alloc: Global,
+    shared: &Shared<MemoryDisk>,
+    seat: Seat<MemoryDesk>,
+    steps: &Steps,
+) -> (Seat<MemoryDesk>, Option<u64>)
+    requires { IsReady shared.now.turn seat }
+    ensures { IsReady shared.now.turn result.0 }
+{
+    let mut seat = seat;
+    let total = close(rt, alloc, shared, &mut seat, steps);
+    (seat, total)
+}
 
-impl Pause for NoPause {
-    fn pause<R: Wait>(&self, _rt: &R, _round: u32) {}
+// The total of the first round, where it is published.
+fn close<R: Wait>(
+    rt: &R,
+    alloc: Global,
+    shared: &Shared<MemoryDisk>,
+    seat: &mut Seat<MemoryDesk>,
+    steps: &Steps,
+) -> Option<u64>
+    requires { IsReady shared.now.turn seat.old }
+    ensures { IsReady shared.now.turn seat.new }
+{
+    let day = horizon()?;
+    let solver = PlainSolver::new();
+    let pause = UntilAnswered(steps);
+    match shared.close_round(rt, alloc, seat, &solver, &pause, Kind::Plain, day) {
+        CloseEnd::Published { round: 1, total } => Some(total),
+        _ => None,
+    }
+}
+
+// The second seat asks once the cut of the round is made.
+fn answered<R: Wait>(
+    rt: &R,
+    shared: &Shared<MemoryDisk>,
+    seat: Seat<MemoryDesk>,
+    steps: &Steps,
+) -> (Seat<MemoryDesk>, Option<()>)
+    requires { IsReady shared.now.turn seat }
+    ensures { IsReady shared.now.turn result.0 }
+{
+    let mut seat = seat;
+    steps.wait_for(rt, 1);
+    let done = other_acts(rt, shared, &mut seat);
+    steps.step(rt);
+    (seat, done)
 }
 
 #[test]
-fn a_round_is_closed_and_published(rt: HostRuntime) {
+fn others_are_answered_while_a_round_is_solved(rt: HostRuntime) {
     let alloc = rt.alloc();
     let two = two_seats(&rt, alloc).expect(&rt, "a shared desk");
-    let (shared, registrar, mut first, second) = two;
-    let day = horizon().expect(&rt, "a day");
-    let solver = PlainSolver::new();
-    let end = shared.close_round(&rt, alloc, &mut first, &solver, &NoPause, Kind::Plain, day);
+    let (shared, registrar, first, second) = two;
+    let steps = Steps::new();
+    let ((first, one), (second, done)) = thread::join(
+        &rt,
+        || closed(&rt, alloc, &shared, first, &steps),
+        || answered(&rt, &shared, second, &steps),
+    );
+    assert!(rt; !steps.was_late(&rt));
+    assert!(rt; done == Some(()));
     let total = 2_100;
-    assert!(rt; end == CloseEnd::Published { round: 1, total });
+    assert!(rt; one == Some(total));
     let seats = vec![in alloc; first, second].ok().expect(&rt, "memory");
     let desk = shared.finish(registrar, seats);
     let history = desk.book().history();
-    assert!(rt; history.len() == 11);
+    assert!(rt; history.len() == 19);
     assert!(rt; history[9].reply == Reply::Opened { round: 1 });
-    assert!(rt; history[10].reply == Reply::Published { total });
+    assert!(rt; history[18].reply == Reply::Published { total });
 }
