@@ -1,6 +1,7 @@
-use crate::{CutReply, Desk, PublishReply, a_frozen_cut_may_be_published};
+use crate::{CutReply, Desk, DeskCause, PublishReply, a_frozen_cut_may_be_published};
 use claim_history::{Act, Day, Reply, Why};
 use disk_model::MemoryDisk;
+use round_journal::RecordWhy;
 use setoff_checker::Checker;
 use setoff_model::{Key, Kind, Name, Outcome};
 use std::alloc::{AllocError, Global};
@@ -189,4 +190,68 @@ fn a_round_is_published(rt: HostRuntime) {
     let desk = desk_on(alloc, disk.bytes(), 0).expect(&rt, "memory");
     let desk = desk.expect(&rt, "a journal");
     assert!(rt; desk.opened_with() == 2 && desk.book().history().len() == 2);
+}
+
+// The header, and the record of FIRM A by caller 1.
+const ONE_FIRM: &[u8] = b"BUREAUJ1\x01\x00\x00\x00\x07\x00\x00\x00\x01\x01\x01A\x00";
+
+// The same with a tag that no act has.
+const NO_ACT: &[u8] = b"BUREAUJ1\x01\x00\x00\x00\x07\x00\x00\x00\x01\x63\x01A\x00";
+
+// The record twice, of which the second is refused.
+const FIRM_TWICE: &[u8] =
+    b"BUREAUJ1\x01\x00\x00\x00\x07\x00\x00\x00\x01\x01\x01A\x01\x00\x00\x00\x07\x00\x00\x00\x01\x01\x01A\x00";
+
+// A Close, whose round the opening abandons.
+const OPEN_ROUND: &[u8] =
+    b"BUREAUJ1\x01\x00\x00\x00\x0a\x00\x00\x00\x01\x0c\x00\x00\x00\x4f\xe5\x00";
+
+// Why no desk is opened on a disk with these bytes, of whose calls one fails; None where one is.
+fn refused_for(alloc: Global, bytes: &[u8], fails: u64) -> Result<Option<DeskCause>, AllocError> {
+    match Desk::open(alloc, disk_of(alloc, bytes, fails)?) {
+        Ok(_) => Ok(None),
+        Err(refused) => Ok(Some(refused.cause)),
+    }
+}
+
+// An opening makes three calls of a disk with a journal, and an abandonment four more.
+#[test]
+fn an_opening_is_refused(rt: HostRuntime) {
+    let short = RecordWhy::Short;
+    let body = RecordWhy::Body;
+    let reply = Reply::Refused(Why::FirmExists);
+    let device = DeskCause::Device {
+        before: 0,
+        after: 1,
+    };
+    let cases: [(&[u8], u64, Option<DeskCause>); 10] = [
+        (b"0123456789", 0, Some(DeskCause::BadHeader)),
+        (
+            &ONE_FIRM[..20],
+            0,
+            Some(DeskCause::BadRecord {
+                offset: 8,
+                why: short,
+            }),
+        ),
+        (
+            NO_ACT,
+            0,
+            Some(DeskCause::BadRecord {
+                offset: 8,
+                why: body,
+            }),
+        ),
+        (FIRM_TWICE, 0, Some(DeskCause::BadAct { offset: 20, reply })),
+        (ONE_FIRM, 1, Some(device)),
+        (ONE_FIRM, 3, Some(device)),
+        (ONE_FIRM, 4, None),
+        (OPEN_ROUND, 4, Some(device)),
+        (OPEN_ROUND, 7, Some(device)),
+        (OPEN_ROUND, 8, None),
+    ];
+    for (bytes, fails, cause) in cases {
+        let found = refused_for(rt.alloc(), bytes, fails).expect(&rt, "memory");
+        assert!(rt; found == cause);
+    }
 }
