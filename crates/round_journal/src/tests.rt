@@ -1,6 +1,7 @@
 use crate::{Device, Journal, JournalCause, Record, RecordWhy, read_records};
 use claim_history::Act;
 use disk_model::MemoryDisk;
+use std::alloc::Global;
 use std::process::Abort;
 use std::test::Fail;
 
@@ -41,15 +42,20 @@ fn is_firm_a(records: &[Record]) -> bool {
     record.offset == 8 && record.caller == 1 && firm.bytes() == b"A".as_slice()
 }
 
-// The number of records at an opening, or its cause, and the number of bytes after it.
-fn opened(
-    rt: &impl AllocGlobal,
-    bytes: &[u8],
-) -> Result<(Result<usize, JournalCause>, usize), Fail> {
-    let disk = disk_of(rt, bytes, 0)?;
+// How many records are there, or why they are not read.
+type Found = Result<usize, JournalCause>;
+
+fn read(alloc: Global, disk: &mut MemoryDisk) -> Found {
+    Ok(read_records(alloc, disk)?.len())
+}
+
+// What is read, what is found at an opening, and the number of bytes after it.
+fn opened(rt: &impl AllocGlobal, bytes: &[u8]) -> Result<(Found, Found, usize), Fail> {
+    let mut disk = disk_of(rt, bytes, 0)?;
+    let before = read(rt.alloc(), &mut disk);
     match Journal::open(rt.alloc(), disk) {
-        Ok((journal, records)) => Ok((Ok(records.len()), journal.close().bytes().len())),
-        Err(refused) => Ok((Err(refused.cause), refused.disk.bytes().len())),
+        Ok((journal, records)) => { Ok((before, Ok(records.len()), journal.close().bytes().len())) }
+        Err(refused) => Ok((before, Err(refused.cause), refused.disk.bytes().len())),
     }
 }
 
@@ -73,14 +79,14 @@ fn an_empty_disk_becomes_a_journal(rt: HostRuntime) -> Result<(), Fail> {
 #[test]
 fn a_record_is_read_whole_or_not_at_all(rt: HostRuntime) -> Result<(), Fail> {
     for n in 0..=9 {
-        assert_eq!(rt; opened(&rt, &ONE[..n])?, (Ok(0), 9));
+        assert_eq!(rt; opened(&rt, &ONE[..n])?, (Ok(0), Ok(0), 9));
     }
     for n in 10..21 {
         let short = JournalCause::BadRecord {
             offset: 8,
             why: RecordWhy::Short,
         };
-        assert_eq!(rt; opened(&rt, &ONE[..n])?, (Err(short), n));
+        assert_eq!(rt; opened(&rt, &ONE[..n])?, (Err(short), Err(short), n));
     }
     let mut disk = disk_of(&rt, &ONE, 0)?;
     let records = read_records(rt.alloc(), &mut disk)
@@ -95,7 +101,7 @@ fn a_record_is_read_whole_or_not_at_all(rt: HostRuntime) -> Result<(), Fail> {
 }
 
 #[test]
-fn a_changed_byte_is_found(rt: HostRuntime) -> Result<(), Fail> {
+fn damage_is_found(rt: HostRuntime) -> Result<(), Fail> {
     let short = JournalCause::BadRecord {
         offset: 8,
         why: RecordWhy::Short,
@@ -108,24 +114,45 @@ fn a_changed_byte_is_found(rt: HostRuntime) -> Result<(), Fail> {
         offset: 20,
         why: RecordWhy::Short,
     };
-    let table = [
-        (0, b'b', Err(JournalCause::BadHeader)),
-        (8, 0, Ok(0)),
-        (8, 2, Ok(0)),
-        (9, 255, Err(short)),
-        (12, 8, Err(short)),
-        (12, 6, Err(body)),
-        (17, 0, Err(body)),
-        (20, 2, Ok(1)),
-        (20, 1, Err(last)),
+    let table: [(usize, &[u8], Found); 10] = [
+        (0, b"b", Err(JournalCause::BadHeader)),
+        (8, &[0], Ok(0)),
+        (8, &[2], Ok(0)),
+        (9, &[255, 255, 255, 255], Err(short)),
+        (12, &[8], Err(short)),
+        (12, &[6], Err(body)),
+        (17, &[0], Err(body)),
+        (17, &[0x63], Err(body)),
+        (20, &[2], Ok(1)),
+        (20, &[1], Err(last)),
     ];
-    for (at, byte, answer) in table {
+    for (at, piece, answer) in table {
         let mut bytes = ONE;
-        assert!(rt; at < 21);
-        bytes[at] = byte;
-        assert_eq!(rt; opened(&rt, &bytes)?, (answer, 21));
+        assert!(rt; at < 21 && piece.len() <= 21 - at);
+        bytes[at..at + piece.len()].copy_from_slice(piece);
+        assert_eq!(rt; opened(&rt, &bytes)?, (answer, answer, 21));
     }
     Ok(())
+}
+
+// A journal on an empty disk, of whose calls one fails.
+fn journal_of(rt: &impl AllocGlobal, fails: u64) -> Result<Journal<MemoryDisk>, Fail> {
+    let disk = disk_of(rt, b"", fails)?;
+    match Journal::open(rt.alloc(), disk) {
+        Ok((journal, _)) => Ok(journal),
+        Err(_) => Err("a journal".into()),
+    }
+}
+
+// Whether a first append fails, and a second one puts its record in the place.
+fn goes_on(rt: &impl Abort, journal: &mut Journal<MemoryDisk>) -> bool {
+    let failed = append(rt, journal, &FIRM_A)
+        == Err(Device {
+            before: 0,
+            after: 1,
+        });
+    let kept = append(rt, journal, &ABANDON).is_ok();
+    failed && kept && journal.gate() == 18
 }
 
 // Call 8 is the last sync of the first append, and the calls before it are those of an opening and an append. An append
@@ -133,17 +160,8 @@ fn a_changed_byte_is_found(rt: HostRuntime) -> Result<(), Fail> {
 #[test]
 fn a_failed_append_is_settled(rt: HostRuntime) -> Result<(), Fail> {
     for (fails, moment) in [(5, 18), (6, 20), (7, 26), (8, 28)] {
-        let disk = disk_of(&rt, b"", fails)?;
-        let (mut journal, _) = Journal::open(rt.alloc(), disk).ok().expect(&rt, "no fault");
-        assert_eq!(rt;
-            append(&rt, &mut journal, &FIRM_A),
-            Err(Device {
-                before: 0,
-                after: 1
-            })
-        );
-        assert!(rt; append(&rt, &mut journal, &ABANDON).is_ok());
-        assert_eq!(rt; journal.gate(), 18);
+        let mut journal = journal_of(&rt, fails)?;
+        assert!(rt; goes_on(&rt, &mut journal));
         let disk = journal.close();
         assert_eq!(rt; disk.moment(), moment);
         let bytes = disk.bytes();
@@ -159,15 +177,14 @@ fn a_failed_append_is_settled(rt: HostRuntime) -> Result<(), Fail> {
 // After an append whose last sync failed a crash leaves the record or leaves it out, and an opening tells which.
 #[test]
 fn a_crash_leaves_the_last_record_or_not(rt: HostRuntime) -> Result<(), Fail> {
-    let disk = disk_of(&rt, b"", 8)?;
-    let (mut journal, _) = Journal::open(rt.alloc(), disk).ok().expect(&rt, "no fault");
+    let mut journal = journal_of(&rt, 8)?;
     assert!(rt; append(&rt, &mut journal, &FIRM_A).is_err());
     let disk = journal.close();
     assert_eq!(rt; disk.moment(), 16);
     let without = disk.image(rt.alloc(), 16, 0)?;
     let with_it = disk.image(rt.alloc(), 16, 1)?;
-    assert_eq!(rt; opened(&rt, &without)?, (Ok(0), 21));
-    assert_eq!(rt; opened(&rt, &with_it)?, (Ok(1), 21));
+    assert_eq!(rt; opened(&rt, &without)?, (Ok(0), Ok(0), 21));
+    assert_eq!(rt; opened(&rt, &with_it)?, (Ok(1), Ok(1), 21));
     Ok(())
 }
 
