@@ -22,17 +22,24 @@ use Rattle.bureau_desk.specs.declared.desk_refused.DeskCause.TheVariants.{Memory
 use Rattle.bureau_desk.specs.Laws.{IsFault}
 use Rattle.bureau_desk.specs.Opening.{HasDeskCause}
 use Rattle.bureau_desk.proofs.Faults.{fault_law, one_fault_law}
+use Rattle.firm_notices.specs.Notices.{notices_text}
+use Rattle.firm_notices.specs.Positions.{positions_text}
 use Rattle.served_lines.specs.Ends.{is_memory, is_full}
 use Rattle.desk_text.specs.Texts.{opening_status, opening_text, unsound_status}
 use Rattle.printed_text.specs.Texts.{verdict_status}
+use Rattle.claim_history.specs.Facts.{Ledger}
+use Rattle.command_words.specs.declared.command.Command.{Command}
+use Rattle.command_words.specs.declared.command.Command.TheVariants as commands
+use Rattle.command_words.specs.Words.{AreNoWords, AreWordsOf, OneCommandLaw}
+use Rattle.bureau_reports.specs.Reports.{IsAuditDue, IsCheckDue, IsImportDue, IsNoInvoiceText, IsTableDue, bad_row, bad_statement, imported, judged, no_audit_memory, no_book, no_import_memory, no_statement_memory, no_table_memory, sound, table, unsound}
+use Rattle.bureau_reports.proofs.Viewed.{viewed as as_opening}
+use Rattle.bureau_reports.proofs.Written.{told_status}
 use Rattle.batch_runs.specs.Runs.{some_device, some_end, status_by}
 use Rattle.bureau_program.specs.Headline.{IsHeadline}
-use Rattle.bureau_program.specs.Due.{AreRun, AreCheck, AreAudit, AreNoWords, IsAuditDue, IsBatchesDue, IsCheckDue, IsDue, IsReadDue, IsRunDue, Ran, no_output_memory, not_opened, served, no_line_memory, bad_line, no_request_memory, not_read, batches_read, no_statement_memory, bad_statement, judged, no_audit_memory, sound, unsound, no_input_memory, read_fault, too_long, input_read, bad_words, run_words, check_words, audit_words}
+use Rattle.bureau_program.specs.Due.{IsBatchesDue, IsCommandDue, IsDue, IsReadDue, IsRunDue, IsTrialDue, Ran, asked, bad_line, bad_words, batches_read, input_read, no_input_memory, no_line_memory, no_output_memory, no_request_memory, no_trial_memory, no_words_memory, not_opened, not_read, read_fault, served, too_long, tried}
 use Rattle.bureau_program.specs.Completeness.{IsWholeInput}
-use Rattle.bureau_program.specs.Causes.{ComesOnly, ComesWhere, HadFullLine, HasAuditFault, HoldsUnsound, IsNoStatementText, IsOneOf, IsTooLong, IsUnproved, OfTold}
-use Rattle.bureau_program.proofs.Audited.{viewed as as_opening}
-use Rattle.bureau_program.proofs.Completeness.{all_taken, check_not_audit, read_ends, run_not_audit, run_not_check}
-use Rattle.bureau_program.proofs.Written.{told_status}
+use Rattle.bureau_program.specs.Causes.{AskImport, AskInput, AskTable, ComesOnly, ComesWhere, HadFullLine, HasAuditFault, HoldsUnsound, IsNoStatementText, IsOneOf, IsTooLong, IsUnproved, OfTold}
+use Rattle.bureau_program.proofs.Completeness.{all_taken, read_ends}
 
 -- ---- one of some statuses
 
@@ -53,51 +60,28 @@ told_one dues due status one (inr four) = behind dues (4 ∷ []) status (inl fou
 -- ---- what is due for the words
 
 module _ {S D : Type 0} (left : S → Option (List ℕ)) (seen : D → Seen) (words : List (List ℕ)) (source source' : S) (disk disk' : D) where
-  abbrev Due : ℕ → List ℕ → Type 0
-  Due status text = IsDue left seen words source source' disk disk' status text
+  abbrev Asked : Command → ℕ → List ℕ → Type 0
+  Asked command status text = IsCommandDue left seen source source' disk disk' command status text
 
-  abbrev Run : ℕ → List ℕ → Type 0
-  Run status text = IsReadDue (IsRunDue seen disk disk') (disk' ≡ disk) (left source) (left source') status text
-
-  abbrev Check : ℕ → List ℕ → Type 0
-  Check status text = IsReadDue IsCheckDue (Unit {0}) (left source) (left source') status text
-
-  abbrev Audit : ℕ → List ℕ → Type 0
-  Audit status text = IsAuditDue (seen disk).tells (seen disk).reads (seen disk).count (seen disk').count status text
-
-  -- each of the four
+  -- no command, want of memory, or a command
   abbrev Each : ℕ → List ℕ → Type 0
-  Each status text = (AreNoWords words × (status ≡ 2)) ⊎ ((AreRun words × Run status text) ⊎ ((AreCheck words × Check status text) ⊎ (AreAudit words × Audit status text)))
+  Each status text = (AreNoWords words × (status ≡ 2)) ⊎ ((status ≡ 9) ⊎ ((command : Command) × AreWordsOf command words × Asked command status text))
 
-  each : (status : ℕ) (text : List ℕ) → Due status text → Each status text
+  each : (status : ℕ) (text : List ℕ) → IsDue left seen words source source' disk disk' status text → Each status text
   each status text (bad_words none same still) = inl (none, refl)
-  each status text (run_words run s t due) = inr (inl (run, due))
-  each status text (check_words check same s t due) = inr (inr (inl (check, due)))
-  each status text (audit_words audit same quiet s t due) = inr (inr (inr (audit, due)))
+  each status text (no_words_memory same still) = inr (inl refl)
+  each status text (asked command are s t due) = inr (inr (command, are, due))
 
-  none_due : AreNoWords words → (status : ℕ) (text : List ℕ) → Each status text → status ≡ 2
-  none_due none status text (inl h) = h.1
-  none_due none status text (inr (inl h)) = absurd (none.0 h.0)
-  none_due none status text (inr (inr (inl h))) = absurd (none.1 h.0)
-  none_due none status text (inr (inr (inr h))) = absurd (none.2 h.0)
+  none_one : AreNoWords words → (status : ℕ) (text : List ℕ) → Each status text → IsOneOf (2 ∷ 9 ∷ []) status
+  none_one none status text (inl h) = inl h.1
+  none_one none status text (inr (inl h)) = inr (inl h)
+  none_one none status text (inr (inr h)) = absurd (none h.0 h.1)
 
-  run_due : AreRun words → (status : ℕ) (text : List ℕ) → Each status text → Run status text
-  run_due run status text (inl h) = absurd (h.0.0 run)
-  run_due run status text (inr (inl h)) = h.1
-  run_due run status text (inr (inr (inl h))) = absurd (run_not_check words run h.0)
-  run_due run status text (inr (inr (inr h))) = absurd (run_not_audit words run h.0)
-
-  check_due : AreCheck words → (status : ℕ) (text : List ℕ) → Each status text → Check status text
-  check_due check status text (inl h) = absurd (h.0.1 check)
-  check_due check status text (inr (inl h)) = absurd (run_not_check words h.0 check)
-  check_due check status text (inr (inr (inl h))) = h.1
-  check_due check status text (inr (inr (inr h))) = absurd (check_not_audit words check h.0)
-
-  audit_due : AreAudit words → (status : ℕ) (text : List ℕ) → Each status text → Audit status text
-  audit_due audit status text (inl h) = absurd (h.0.2 audit)
-  audit_due audit status text (inr (inl h)) = absurd (run_not_audit words h.0 audit)
-  audit_due audit status text (inr (inr (inl h))) = absurd (check_not_audit words h.0 audit)
-  audit_due audit status text (inr (inr (inr h))) = h.1
+  -- words that ask for a command ask for no other
+  by_command : OneCommandLaw → (P : ℕ → Type 0) → P 9 → (command : Command) → AreWordsOf command words → (status : ℕ) (text : List ℕ) → (Asked command status text → P status) → Each status text → P status
+  by_command one P nine command are status text comes (inl h) = absurd (h.0 command are)
+  by_command one P nine command are status text comes (inr (inl h)) = subst P (sym h) nine
+  by_command one P nine command are status text comes (inr (inr h)) = comes (subst (λ (k : Command). Asked k status text) (one words h.0 command h.1 are) h.2)
 
 -- ---- an input
 
@@ -189,6 +173,29 @@ unproved_due input h status text (judged cut outcome is v found) =
     let verdict_is : IsVerdict h.cut h.outcome v = subst (λ (o : OutcomeView). IsVerdict h.cut o v) outcomes (subst (λ (k : CutView). IsVerdict k outcome v) cuts found) in
     inl (not_greatest v (λ greatest. h.unproved ((found_exactly (obligations h.cut) h.outcome.discharges h.outcome.prices v verdict_is).0 greatest)))
 
+-- ---- invoices
+
+no_invoices_due : (lane : ℕ) (input : List ℕ) → IsNoInvoiceText input → (status : ℕ) (text : List ℕ) → IsImportDue lane input status text → IsOneOf (6 ∷ 9 ∷ []) status
+no_invoices_due lane input none status text no_import_memory = inr (inl refl)
+no_invoices_due lane input none status text (bad_row row cause first is) = inl refl
+no_invoices_due lane input none status text (imported filings is) = absurd (none filings is)
+
+import_one : (lane : ℕ) (input : List ℕ) (status : ℕ) (text : List ℕ) → IsImportDue lane input status text → IsOneOf (0 ∷ 6 ∷ 9 ∷ []) status
+import_one lane input status text no_import_memory = inr (inr (inl refl))
+import_one lane input status text (bad_row row cause first is) = inr (inl refl)
+import_one lane input status text (imported filings is) = inl refl
+
+no_invoices_of : (lane : ℕ) (input : List ℕ) (status : ℕ) (text : List ℕ) → IsImportDue lane input status text → status ≡ 6 → IsNoInvoiceText input
+no_invoices_of lane input status text no_import_memory is = absurd (omega (arith, is))
+no_invoices_of lane input status text (bad_row row cause first none) is = none
+no_invoices_of lane input status text (imported filings spelled) is = absurd (omega (arith, is))
+
+-- ---- trials
+
+trial_one : (firms claims seed : ℕ) (status : ℕ) (text : List ℕ) → IsTrialDue firms claims seed status text → IsOneOf (0 ∷ 9 ∷ []) status
+trial_one firms claims seed status text no_trial_memory = inr (inl refl)
+trial_one firms claims seed status text (tried line is) = inl refl
+
 -- ---- journals
 
 -- a cause of an opening is want of memory, a failure of the disk, or a fault of its bytes
@@ -234,36 +241,62 @@ audit_one disk high due told h status text (sound history viewed) =
 audit_one disk high due told h status text (unsound cause has) =
     same_fault disk.reads cause due h (desk_cases disk.tells disk.reads disk.count high cause told (as_opening disk.tells disk.reads disk.count high cause has))
 
+unsound_table : (text_of : Ledger → List ℕ) (disk : Seen) (high : ℕ) → HoldsUnsound disk → (status : ℕ) (text : List ℕ) → IsTableDue text_of disk.tells disk.reads disk.count high status text → IsOneOf (8 ∷ 5 ∷ 9 ∷ []) status
+unsound_table text_of disk high un status text no_table_memory = inr (inr (inl refl))
+unsound_table text_of disk high un status text (table history is) = absurd (un.none is.records is.found is.sound)
+unsound_table text_of disk high un status text (no_book cause has) = opening_one cause
+
 -- ---- where each cause is
 
-pub comes_where : {S D : Type 0} (left : S → Option (List ℕ)) (seen : D → Seen) (words told : List (List ℕ)) (source source' : S) (disk disk' : D) (x y : Option (List ℕ)) (status : ℕ) → Ran left seen told source source' disk disk' x y status → told ≡ words
+pub comes_where : {S D : Type 0} → OneCommandLaw → (left : S → Option (List ℕ)) (seen : D → Seen) (words told : List (List ℕ)) (source source' : S) (disk disk' : D) (x y : Option (List ℕ)) (status : ℕ) → Ran left seen told source source' disk disk' x y status → told ≡ words
     → ComesWhere words (left source) (seen disk) status
-comes_where left seen words told source source' disk disk' x y status ran same =
+comes_where one left seen words told source source' disk disk' x y status ran same =
     let either : (status ≡ ran.due) ⊎ (status ≡ 4) = told_status x y ran.due ran.text status ran.is_written in
-    let parts : Each left seen told source source' disk disk' ran.due ran.text = each left seen told source source' disk disk' ran.due ran.text ran.is_due in
-    let running = λ (run : AreRun words). run_due left seen told source source' disk disk' (same ∙ run) ran.due ran.text parts in
-    let checking = λ (check : AreCheck words). check_due left seen told source source' disk disk' (same ∙ check) ran.due ran.text parts in
+    let parts : Each left seen words source source' disk disk' ran.due ran.text =
+    subst (λ (ws : List (List ℕ)). Each left seen ws source source' disk disk' ran.due ran.text) same (each left seen told source source' disk disk' ran.due ran.text ran.is_due) in
     let Batches = IsRunDue seen disk disk' in
+    let due : (P : ℕ → Type 0) → P 9 → (command : Command) → AreWordsOf command words → (IsCommandDue left seen source source' disk disk' command ran.due ran.text → P ran.due) → P ran.due =
+    λ P nine command are comes. by_command left seen words source source' disk disk' one P nine command are ran.due ran.text comes parts in
+    let long : (IsInputDue : List ℕ → ℕ → List ℕ → Type 0) (Untouched : Type 0) (input : List ℕ) → left source ≡ Some input → IsTooLong input → IsReadDue IsInputDue Untouched (left source) (left source') ran.due ran.text → IsOneOf (7 ∷ 3 ∷ 9 ∷ []) ran.due =
+    λ IsInputDue Untouched input is many read. long_due IsInputDue Untouched input (left source') many ran.due ran.text (subst (λ (l : Option (List ℕ)). IsReadDue IsInputDue Untouched l (left source') ran.due ran.text) is read) in
     record {
-      of_words = λ none. told_one (2 ∷ []) ran.due status (inl (none_due left seen told source source' disk disk' (subst AreNoWords (sym same) none) ran.due ran.text parts)) either;
-      of_length = λ which input is long.
+      of_words = λ none. told_one (2 ∷ 9 ∷ []) ran.due status (none_one left seen words source source' disk disk' none ran.due ran.text parts) either;
+      of_length = λ which input is many.
           told_one (7 ∷ 3 ∷ 9 ∷ []) ran.due status
           (⊎_elim
-          (λ run. long_due Batches (disk' ≡ disk) input (left source') long ran.due ran.text (subst (λ (l : Option (List ℕ)). IsReadDue Batches (disk' ≡ disk) l (left source') ran.due ran.text) is (running run)))
-          (λ check. long_due IsCheckDue (Unit {0}) input (left source') long ran.due ran.text (subst (λ (l : Option (List ℕ)). IsReadDue IsCheckDue (Unit {0}) l (left source') ran.due ran.text) is (checking check)))
+          (λ run. due (IsOneOf (7 ∷ 3 ∷ 9 ∷ [])) (inr (inr (inl refl))) commands.Run run (λ d. long Batches (disk' ≡ disk) input is many d))
+          (λ other. ⊎_elim
+          (λ check. due (IsOneOf (7 ∷ 3 ∷ 9 ∷ [])) (inr (inr (inl refl))) commands.Check check (λ d. long IsCheckDue (Unit {0}) input is many d.1))
+          (λ import. due (IsOneOf (7 ∷ 3 ∷ 9 ∷ [])) (inr (inr (inl refl))) (commands.Import import.0) import.1 (λ d. long (IsImportDue import.0) (Unit {0}) input is many d.1))
+          other)
           which)
           either;
       of_requests = λ run whole.
           told_one (6 ∷ 3 ∷ 9 ∷ []) ran.due status
-          (whole_one Batches (disk' ≡ disk) IsNoRequestText 6 [] (left source) (left source') whole (no_requests_due seen disk disk') ran.due ran.text (running run)) either;
+          (due (IsOneOf (6 ∷ 3 ∷ 9 ∷ [])) (inr (inr (inl refl))) commands.Run run (λ d. whole_one Batches (disk' ≡ disk) IsNoRequestText 6 [] (left source) (left source') whole (no_requests_due seen disk disk') ran.due ran.text d)) either;
       of_statement = λ check whole.
-          told_one (6 ∷ 3 ∷ 9 ∷ []) ran.due status (whole_one IsCheckDue (Unit {0}) IsNoStatementText 6 [] (left source) (left source') whole no_statement_due ran.due ran.text (checking check)) either;
-      of_proof = λ check whole. told_one (1 ∷ 3 ∷ 9 ∷ []) ran.due status (whole_one IsCheckDue (Unit {0}) IsUnproved 1 [] (left source) (left source') whole unproved_due ran.due ran.text (checking check)) either;
+          told_one (6 ∷ 3 ∷ 9 ∷ []) ran.due status
+          (due (IsOneOf (6 ∷ 3 ∷ 9 ∷ [])) (inr (inr (inl refl))) commands.Check check (λ d. whole_one IsCheckDue (Unit {0}) IsNoStatementText 6 [] (left source) (left source') whole no_statement_due ran.due ran.text d.1)) either;
+      of_invoices = λ lane import whole.
+          told_one (6 ∷ 3 ∷ 9 ∷ []) ran.due status
+          (due (IsOneOf (6 ∷ 3 ∷ 9 ∷ [])) (inr (inr (inl refl))) (commands.Import lane) import (λ d. whole_one (IsImportDue lane) (Unit {0}) IsNoInvoiceText 6 [] (left source) (left source') whole (no_invoices_due lane) ran.due ran.text d.1)) either;
+      of_proof = λ check whole.
+          told_one (1 ∷ 3 ∷ 9 ∷ []) ran.due status
+          (due (IsOneOf (1 ∷ 3 ∷ 9 ∷ [])) (inr (inr (inl refl))) commands.Check check (λ d. whole_one IsCheckDue (Unit {0}) IsUnproved 1 [] (left source) (left source') whole unproved_due ran.due ran.text d.1)) either;
       of_opening = λ run batches whole un.
           told_one (8 ∷ 3 ∷ 5 ∷ 9 ∷ []) ran.due status
-          (whole_one Batches (disk' ≡ disk) (λ input. IsRequestText input batches) 8 (5 ∷ []) (left source) (left source') whole (λ input spelled. unsound_due seen disk disk' batches input un spelled) ran.due ran.text (running run)) either;
-      of_audit = λ audit tells due h.
-          told_one (due ∷ 5 ∷ 9 ∷ []) ran.due status (audit_one (seen disk) (seen disk').count due tells h ran.due ran.text (audit_due left seen told source source' disk disk' (same ∙ audit) ran.due ran.text parts)) either;
+          (due (IsOneOf (8 ∷ 3 ∷ 5 ∷ 9 ∷ [])) (inr (inr (inr (inl refl)))) commands.Run run
+          (λ d. whole_one Batches (disk' ≡ disk) (λ input. IsRequestText input batches) 8 (5 ∷ []) (left source) (left source') whole (λ input spelled. unsound_due seen disk disk' batches input un spelled) ran.due ran.text d)) either;
+      of_table = λ which un.
+          told_one (8 ∷ 5 ∷ 9 ∷ []) ran.due status
+          (⊎_elim
+          (λ positions. due (IsOneOf (8 ∷ 5 ∷ 9 ∷ [])) (inr (inr (inl refl))) commands.Positions positions (λ d. unsound_table positions_text (seen disk) (seen disk').count un ran.due ran.text d.2))
+          (λ notices. due (IsOneOf (8 ∷ 5 ∷ 9 ∷ [])) (inr (inr (inl refl))) (commands.Notices notices.0) notices.1 (λ d. unsound_table (notices_text notices.0) (seen disk) (seen disk').count un ran.due ran.text d.2))
+          which)
+          either;
+      of_audit = λ audit tells n h.
+          told_one (n ∷ 5 ∷ 9 ∷ []) ran.due status
+          (due (IsOneOf (n ∷ 5 ∷ 9 ∷ [])) (inr (inr (inl refl))) commands.Audit audit (λ d. audit_one (seen disk) (seen disk').count n tells h ran.due ran.text d.2)) either;
     }
 
 -- ---- each status comes only where its cause is
@@ -289,22 +322,33 @@ headline_one seen old new batches status text h = ⊎_elim
     (λ four. behind (0 ∷ 5 ∷ 7 ∷ 9 ∷ []) (4 ∷ []) status (inl four))
     h.all.ended
 
+-- bytes that have a fault are more than nine and stand for no sound records
+unsound_cause : (disk : Seen) (low high : ℕ) (k : DeskCause) → HasDeskCause disk.tells disk.reads low high k → opening_status k ≡ 8 → IsTrue disk.tells → HoldsUnsound disk
+unsound_cause disk low high k has eight told = ⊎_elim
+    (λ either. absurd (other_than 8 (5 ∷ 9 ∷ []) (opening_status k) refl eight either.0))
+    (λ fault.
+    let law = fault_law disk.reads k fault.0 in
+    record { tells = told; long = law.0; none = λ records found sound. law.1 records (subst (λ (b : Bool). AreFound b disk.reads records) told found) sound })
+    (desk_cases disk.tells disk.reads low high k told has)
+
+table_one : (text_of : Ledger → List ℕ) (tells : Bool) (bytes : List ℕ) (low high status : ℕ) (text : List ℕ) → IsTableDue text_of tells bytes low high status text → IsOneOf (0 ∷ 8 ∷ 5 ∷ 9 ∷ []) status
+table_one text_of tells bytes low high status text no_table_memory = inr (inr (inr (inl refl)))
+table_one text_of tells bytes low high status text (table history is) = inl refl
+table_one text_of tells bytes low high status text (no_book cause has) = inr (opening_one cause)
+
+table_unsound : (text_of : Ledger → List ℕ) (disk : Seen) (high status : ℕ) (text : List ℕ) → IsTableDue text_of disk.tells disk.reads disk.count high status text → status ≡ 8 → IsTrue disk.tells → HoldsUnsound disk
+table_unsound text_of disk high status text no_table_memory is told = absurd (omega (arith, is))
+table_unsound text_of disk high status text (table history viewed) is told = absurd (omega (arith, is))
+table_unsound text_of disk high status text (no_book cause has) is told = unsound_cause disk disk.count high cause (as_opening disk.tells disk.reads disk.count high cause has) is told
+
 -- why no batch was served: memory was missing, the disk failed, or its bytes have a fault
 batches_cases : {D : Type 0} (seen : D → Seen) (old new : D) (batches : List (List Request)) (status : ℕ) (text : List ℕ) → IsBatchesDue seen old new batches status text
     → (IsOneOf (5 ∷ 9 ∷ []) status) ⊎ (((status ≡ 8) × (IsTrue (seen old).tells → HoldsUnsound (seen old))) ⊎ IsHeadline seen old new batches status text)
 batches_cases seen old new batches status text (no_output_memory same) = inl (inr (inl refl))
 batches_cases seen old new batches status text (not_opened cause refused) = refused_cases cause refused.has where
-  holds : (k : DeskCause) → HasDeskCause (seen old).tells (seen old).reads (seen old).count (seen new).count k → opening_status k ≡ 8 → IsTrue (seen old).tells → HoldsUnsound (seen old)
-  holds k has eight told = ⊎_elim
-      (λ either. absurd (other_than 8 (5 ∷ 9 ∷ []) (opening_status k) refl eight either.0))
-      (λ fault.
-      let law = fault_law (seen old).reads k fault.0 in
-      record { tells = told; long = law.0; none = λ records found sound. law.1 records (subst (λ (b : Bool). AreFound b (seen old).reads records) told found) sound })
-      (desk_cases (seen old).tells (seen old).reads (seen old).count (seen new).count k told has)
-
   refused_cases : (k : DeskCause) → HasDeskCause (seen old).tells (seen old).reads (seen old).count (seen new).count k
       → (IsOneOf (5 ∷ 9 ∷ []) (opening_status k)) ⊎ (((opening_status k ≡ 8) × (IsTrue (seen old).tells → HoldsUnsound (seen old))) ⊎ IsHeadline seen old new batches (opening_status k) (opening_text k))
-  refused_cases k has = ⊎_elim (λ eight. inr (inl (eight, holds k has eight))) (λ other. inl other) (opening_one k)
+  refused_cases k has = ⊎_elim (λ eight. inr (inl (eight, unsound_cause (seen old) (seen old).count (seen new).count k has eight))) (λ other. inl other) (opening_one k)
 batches_cases seen old new batches status text (served s t h) = inr (inr h)
 
 -- what an input of requests comes to: memory was missing, it is none, no desk was opened, or a run
@@ -411,6 +455,9 @@ module _ {S D : Type 0} (left : S → Option (List ℕ)) (seen : D → Seen) (wo
   abbrev CheckRead : Type 0
   CheckRead = ReadCases IsCheckDue (Unit {0}) (left source) (left source') status text
 
+  abbrev ImportRead : ℕ → Type 0
+  ImportRead lane = ReadCases (IsImportDue lane) (Unit {0}) (left source) (left source') status text
+
   run_any : RunRead → IsOneOf (3 ∷ 9 ∷ 7 ∷ 5 ∷ 9 ∷ 6 ∷ 8 ∷ 0 ∷ 5 ∷ 7 ∷ 9 ∷ 4 ∷ []) status
   run_any (inl h) = in_front (3 ∷ 9 ∷ []) (7 ∷ 5 ∷ 9 ∷ 6 ∷ 8 ∷ 0 ∷ 5 ∷ 7 ∷ 9 ∷ 4 ∷ []) status h
   run_any (inr (inl h)) = inr (inr (inl h.0))
@@ -421,17 +468,52 @@ module _ {S D : Type 0} (left : S → Option (List ℕ)) (seen : D → Seen) (wo
   check_any (inr (inl h)) = inr (inr (inl h.0))
   check_any (inr (inr w)) = behind (3 ∷ 9 ∷ 7 ∷ []) (0 ∷ 1 ∷ 6 ∷ 9 ∷ []) status (check_one w.taken status text w.due)
 
+  import_any : (lane : ℕ) → ImportRead lane → IsOneOf (3 ∷ 9 ∷ 7 ∷ 0 ∷ 6 ∷ 9 ∷ []) status
+  import_any lane (inl h) = in_front (3 ∷ 9 ∷ []) (7 ∷ 0 ∷ 6 ∷ 9 ∷ []) status h
+  import_any lane (inr (inl h)) = inr (inr (inl h.0))
+  import_any lane (inr (inr w)) = behind (3 ∷ 9 ∷ 7 ∷ []) (0 ∷ 6 ∷ 9 ∷ []) status (import_one lane w.taken status text w.due)
+
   abbrev Parts : Type 0
   Parts = Each left seen words source source' disk disk' status text
 
-  abbrev run_read : Run left seen words source source' disk disk' status text → RunRead
+  abbrev Of : Command → Type 0
+  Of command = IsCommandDue left seen source source' disk disk' command status text
+
+  abbrev run_read : Of commands.Run → RunRead
   run_read due = read_cases (IsRunDue seen disk disk') (disk' ≡ disk) (left source) (left source') status text due
 
-  abbrev check_read : Check left seen words source source' disk disk' status text → CheckRead
-  check_read due = read_cases IsCheckDue (Unit {0}) (left source) (left source') status text due
+  abbrev check_read : Of commands.Check → CheckRead
+  check_read due = read_cases IsCheckDue (Unit {0}) (left source) (left source') status text due.1
 
-  abbrev audit_is : Audit left seen words source source' disk disk' status text → IsOneOf (0 ∷ 1 ∷ 5 ∷ 8 ∷ 9 ∷ []) status
-  audit_is due = audit_any (seen disk).tells (seen disk).reads (seen disk).count (seen disk').count status text due
+  abbrev import_read : (lane : ℕ) → Of (commands.Import lane) → ImportRead lane
+  import_read lane due = read_cases (IsImportDue lane) (Unit {0}) (left source) (left source') status text due.1
+
+  abbrev audit_is : Of commands.Audit → IsOneOf (0 ∷ 1 ∷ 5 ∷ 8 ∷ 9 ∷ []) status
+  audit_is due = audit_any (seen disk).tells (seen disk).reads (seen disk).count (seen disk').count status text due.2
+
+  abbrev positions_is : Of commands.Positions → IsOneOf (0 ∷ 8 ∷ 5 ∷ 9 ∷ []) status
+  positions_is due = table_one positions_text (seen disk).tells (seen disk).reads (seen disk).count (seen disk').count status text due.2
+
+  abbrev notices_is : (today : ℕ) → Of (commands.Notices today) → IsOneOf (0 ∷ 8 ∷ 5 ∷ 9 ∷ []) status
+  notices_is today due = table_one (notices_text today) (seen disk).tells (seen disk).reads (seen disk).count (seen disk').count status text due.2
+
+  abbrev trial_is : (firms claims seed : ℕ) → Of (commands.Trial firms claims seed) → IsOneOf (0 ∷ 9 ∷ []) status
+  trial_is firms claims seed due = trial_one firms claims seed status text due.2
+
+  -- no command ends with status 2
+  no_two : (command : Command) → Of command → status ≡ 2 → ⊥
+  no_two commands.Run due is = other_than 2 (3 ∷ 9 ∷ 7 ∷ 5 ∷ 9 ∷ 6 ∷ 8 ∷ 0 ∷ 5 ∷ 7 ∷ 9 ∷ 4 ∷ []) status refl is (run_any (run_read due))
+  no_two commands.Check due is = other_than 2 (3 ∷ 9 ∷ 7 ∷ 0 ∷ 1 ∷ 6 ∷ 9 ∷ []) status refl is (check_any (check_read due))
+  no_two commands.Audit due is = other_than 2 (0 ∷ 1 ∷ 5 ∷ 8 ∷ 9 ∷ []) status refl is (audit_is due)
+  no_two commands.Positions due is = other_than 2 (0 ∷ 8 ∷ 5 ∷ 9 ∷ []) status refl is (positions_is due)
+  no_two (commands.Notices today) due is = other_than 2 (0 ∷ 8 ∷ 5 ∷ 9 ∷ []) status refl is (notices_is today due)
+  no_two (commands.Import lane) due is = other_than 2 (3 ∷ 9 ∷ 7 ∷ 0 ∷ 6 ∷ 9 ∷ []) status refl is (import_any lane (import_read lane due))
+  no_two (commands.Trial firms claims seed) due is = other_than 2 (0 ∷ 9 ∷ []) status refl is (trial_is firms claims seed due)
+
+  two_by : Parts → status ≡ 2 → AreNoWords words
+  two_by (inl h) is = h.0
+  two_by (inr (inl h)) is = absurd (omega (arith, h, is))
+  two_by (inr (inr h)) is = absurd (no_two h.0 h.2 is)
 
   -- a set-off that is not proved, or an act of the journal that is refused or full
   one_by_check : CheckRead → status ≡ 1 → OfTold IsUnproved (left source)
@@ -439,17 +521,22 @@ module _ {S D : Type 0} (left : S → Option (List ℕ)) (seen : D → Seen) (wo
   one_by_check (inr (inl h)) is = absurd (omega (arith, h.0, is))
   one_by_check (inr (inr w)) is = λ input told. unproved_of input status text (w.told input told) is
 
-  one_by : Parts → status ≡ 1 → (AreCheck words × OfTold IsUnproved (left source)) ⊎ (AreAudit words × (IsTrue (seen disk).tells → HasAuditFault (seen disk).reads 1))
-  one_by (inl h) is = absurd (omega (arith, h.1, is))
-  one_by (inr (inl h)) is = absurd (other_than 1 (3 ∷ 9 ∷ 7 ∷ 5 ∷ 9 ∷ 6 ∷ 8 ∷ 0 ∷ 5 ∷ 7 ∷ 9 ∷ 4 ∷ []) status refl is (run_any (run_read h.1)))
-  one_by (inr (inr (inl h))) is = inl (h.0, one_by_check (check_read h.1) is)
-  one_by (inr (inr (inr h))) is = inr (h.0, audit_fault_of 1 refl (seen disk) (seen disk').count status text h.1 is)
+  abbrev Ones : Type 0
+  Ones = (AreWordsOf commands.Check words × OfTold IsUnproved (left source)) ⊎ (AreWordsOf commands.Audit words × (IsTrue (seen disk).tells → HasAuditFault (seen disk).reads 1))
 
-  two_by : Parts → status ≡ 2 → AreNoWords words
-  two_by (inl h) is = h.0
-  two_by (inr (inl h)) is = absurd (other_than 2 (3 ∷ 9 ∷ 7 ∷ 5 ∷ 9 ∷ 6 ∷ 8 ∷ 0 ∷ 5 ∷ 7 ∷ 9 ∷ 4 ∷ []) status refl is (run_any (run_read h.1)))
-  two_by (inr (inr (inl h))) is = absurd (other_than 2 (3 ∷ 9 ∷ 7 ∷ 0 ∷ 1 ∷ 6 ∷ 9 ∷ []) status refl is (check_any (check_read h.1)))
-  two_by (inr (inr (inr h))) is = absurd (other_than 2 (0 ∷ 1 ∷ 5 ∷ 8 ∷ 9 ∷ []) status refl is (audit_is h.1))
+  one_of : (command : Command) → AreWordsOf command words → Of command → status ≡ 1 → Ones
+  one_of commands.Run are due is = absurd (other_than 1 (3 ∷ 9 ∷ 7 ∷ 5 ∷ 9 ∷ 6 ∷ 8 ∷ 0 ∷ 5 ∷ 7 ∷ 9 ∷ 4 ∷ []) status refl is (run_any (run_read due)))
+  one_of commands.Check are due is = inl (are, one_by_check (check_read due) is)
+  one_of commands.Audit are due is = inr (are, audit_fault_of 1 refl (seen disk) (seen disk').count status text due.2 is)
+  one_of commands.Positions are due is = absurd (other_than 1 (0 ∷ 8 ∷ 5 ∷ 9 ∷ []) status refl is (positions_is due))
+  one_of (commands.Notices today) are due is = absurd (other_than 1 (0 ∷ 8 ∷ 5 ∷ 9 ∷ []) status refl is (notices_is today due))
+  one_of (commands.Import lane) are due is = absurd (other_than 1 (3 ∷ 9 ∷ 7 ∷ 0 ∷ 6 ∷ 9 ∷ []) status refl is (import_any lane (import_read lane due)))
+  one_of (commands.Trial firms claims seed) are due is = absurd (other_than 1 (0 ∷ 9 ∷ []) status refl is (trial_is firms claims seed due))
+
+  one_by : Parts → status ≡ 1 → Ones
+  one_by (inl h) is = absurd (omega (arith, h.1, is))
+  one_by (inr (inl h)) is = absurd (omega (arith, h, is))
+  one_by (inr (inr h)) is = one_of h.0 h.1 h.2 is
 
   -- an input that is not in the grammar
   six_by_run : RunRead → status ≡ 6 → OfTold IsNoRequestText (left source)
@@ -462,31 +549,60 @@ module _ {S D : Type 0} (left : S → Option (List ℕ)) (seen : D → Seen) (wo
   six_by_check (inr (inl h)) is = absurd (omega (arith, h.0, is))
   six_by_check (inr (inr w)) is = λ input told. no_statement_of input status text (w.told input told) is
 
-  six_by : Parts → status ≡ 6 → (AreRun words × OfTold IsNoRequestText (left source)) ⊎ (AreCheck words × OfTold IsNoStatementText (left source))
+  six_by_import : (lane : ℕ) → ImportRead lane → status ≡ 6 → OfTold IsNoInvoiceText (left source)
+  six_by_import lane (inl h) is = absurd (other_than 6 (3 ∷ 9 ∷ []) status refl is h)
+  six_by_import lane (inr (inl h)) is = absurd (omega (arith, h.0, is))
+  six_by_import lane (inr (inr w)) is = λ input told. no_invoices_of lane input status text (w.told input told) is
+
+  abbrev Sixes : Type 0
+  Sixes = (AreWordsOf commands.Run words × OfTold IsNoRequestText (left source)) ⊎ ((AreWordsOf commands.Check words × OfTold IsNoStatementText (left source)) ⊎ (AskImport words × OfTold IsNoInvoiceText (left source)))
+
+  six_of : (command : Command) → AreWordsOf command words → Of command → status ≡ 6 → Sixes
+  six_of commands.Run are due is = inl (are, six_by_run (run_read due) is)
+  six_of commands.Check are due is = inr (inl (are, six_by_check (check_read due) is))
+  six_of commands.Audit are due is = absurd (other_than 6 (0 ∷ 1 ∷ 5 ∷ 8 ∷ 9 ∷ []) status refl is (audit_is due))
+  six_of commands.Positions are due is = absurd (other_than 6 (0 ∷ 8 ∷ 5 ∷ 9 ∷ []) status refl is (positions_is due))
+  six_of (commands.Notices today) are due is = absurd (other_than 6 (0 ∷ 8 ∷ 5 ∷ 9 ∷ []) status refl is (notices_is today due))
+  six_of (commands.Import lane) are due is = inr (inr ((lane, are), six_by_import lane (import_read lane due) is))
+  six_of (commands.Trial firms claims seed) are due is = absurd (other_than 6 (0 ∷ 9 ∷ []) status refl is (trial_is firms claims seed due))
+
+  six_by : Parts → status ≡ 6 → Sixes
   six_by (inl h) is = absurd (omega (arith, h.1, is))
-  six_by (inr (inl h)) is = inl (h.0, six_by_run (run_read h.1) is)
-  six_by (inr (inr (inl h))) is = inr (h.0, six_by_check (check_read h.1) is)
-  six_by (inr (inr (inr h))) is = absurd (other_than 6 (0 ∷ 1 ∷ 5 ∷ 8 ∷ 9 ∷ []) status refl is (audit_is h.1))
+  six_by (inr (inl h)) is = absurd (omega (arith, h, is))
+  six_by (inr (inr h)) is = six_of h.0 h.1 h.2 is
 
   -- one that is too long, or a full line
   abbrev Sevens : Type 0
-  Sevens = ((AreRun words ⊎ AreCheck words) × OfTold IsTooLong (left source)) ⊎ (AreRun words × OfTold (HadFullLine seen disk disk') (left source))
+  Sevens = (AskInput words × OfTold IsTooLong (left source)) ⊎ (AreWordsOf commands.Run words × OfTold (HadFullLine seen disk disk') (left source))
 
-  seven_by_run : AreRun words → RunRead → status ≡ 7 → Sevens
+  seven_by_run : AreWordsOf commands.Run words → RunRead → status ≡ 7 → Sevens
   seven_by_run run (inl h) is = absurd (other_than 7 (3 ∷ 9 ∷ []) status refl is h)
   seven_by_run run (inr (inl h)) is = inl (inl run, h.1)
   seven_by_run run (inr (inr w)) is = inr (run, λ input told. full_of seen disk disk' input status text (run_cases seen disk disk' input status text (w.told input told)) is)
 
-  seven_by_check : AreCheck words → CheckRead → status ≡ 7 → Sevens
+  seven_by_check : AreWordsOf commands.Check words → CheckRead → status ≡ 7 → Sevens
   seven_by_check check (inl h) is = absurd (other_than 7 (3 ∷ 9 ∷ []) status refl is h)
-  seven_by_check check (inr (inl h)) is = inl (inr check, h.1)
+  seven_by_check check (inr (inl h)) is = inl (inr (inl check), h.1)
   seven_by_check check (inr (inr w)) is = absurd (other_than 7 (0 ∷ 1 ∷ 6 ∷ 9 ∷ []) status refl is (check_one w.taken status text w.due))
+
+  seven_by_import : (lane : ℕ) → AreWordsOf (commands.Import lane) words → ImportRead lane → status ≡ 7 → Sevens
+  seven_by_import lane import (inl h) is = absurd (other_than 7 (3 ∷ 9 ∷ []) status refl is h)
+  seven_by_import lane import (inr (inl h)) is = inl (inr (inr (lane, import)), h.1)
+  seven_by_import lane import (inr (inr w)) is = absurd (other_than 7 (0 ∷ 6 ∷ 9 ∷ []) status refl is (import_one lane w.taken status text w.due))
+
+  seven_of : (command : Command) → AreWordsOf command words → Of command → status ≡ 7 → Sevens
+  seven_of commands.Run are due is = seven_by_run are (run_read due) is
+  seven_of commands.Check are due is = seven_by_check are (check_read due) is
+  seven_of commands.Audit are due is = absurd (other_than 7 (0 ∷ 1 ∷ 5 ∷ 8 ∷ 9 ∷ []) status refl is (audit_is due))
+  seven_of commands.Positions are due is = absurd (other_than 7 (0 ∷ 8 ∷ 5 ∷ 9 ∷ []) status refl is (positions_is due))
+  seven_of (commands.Notices today) are due is = absurd (other_than 7 (0 ∷ 8 ∷ 5 ∷ 9 ∷ []) status refl is (notices_is today due))
+  seven_of (commands.Import lane) are due is = seven_by_import lane are (import_read lane due) is
+  seven_of (commands.Trial firms claims seed) are due is = absurd (other_than 7 (0 ∷ 9 ∷ []) status refl is (trial_is firms claims seed due))
 
   seven_by : Parts → status ≡ 7 → Sevens
   seven_by (inl h) is = absurd (omega (arith, h.1, is))
-  seven_by (inr (inl h)) is = seven_by_run h.0 (run_read h.1) is
-  seven_by (inr (inr (inl h))) is = seven_by_check h.0 (check_read h.1) is
-  seven_by (inr (inr (inr h))) is = absurd (other_than 7 (0 ∷ 1 ∷ 5 ∷ 8 ∷ 9 ∷ []) status refl is (audit_is h.1))
+  seven_by (inr (inl h)) is = absurd (omega (arith, h, is))
+  seven_by (inr (inr h)) is = seven_of h.0 h.1 h.2 is
 
   -- a journal that is not sound
   eight_by_run : RunRead → status ≡ 8 → IsTrue (seen disk).tells → HoldsUnsound (seen disk)
@@ -494,11 +610,22 @@ module _ {S D : Type 0} (left : S → Option (List ℕ)) (seen : D → Seen) (wo
   eight_by_run (inr (inl h)) is = absurd (omega (arith, h.0, is))
   eight_by_run (inr (inr w)) is = unsound_of seen disk disk' w.taken status text (run_cases seen disk disk' w.taken status text w.due) is
 
-  eight_by : Parts → status ≡ 8 → (AreRun words × (IsTrue (seen disk).tells → HoldsUnsound (seen disk))) ⊎ (AreAudit words × (IsTrue (seen disk).tells → HasAuditFault (seen disk).reads 8))
+  abbrev Eights : Type 0
+  Eights = ((AreWordsOf commands.Run words ⊎ AskTable words) × (IsTrue (seen disk).tells → HoldsUnsound (seen disk))) ⊎ (AreWordsOf commands.Audit words × (IsTrue (seen disk).tells → HasAuditFault (seen disk).reads 8))
+
+  eight_of : (command : Command) → AreWordsOf command words → Of command → status ≡ 8 → Eights
+  eight_of commands.Run are due is = inl (inl are, eight_by_run (run_read due) is)
+  eight_of commands.Check are due is = absurd (other_than 8 (3 ∷ 9 ∷ 7 ∷ 0 ∷ 1 ∷ 6 ∷ 9 ∷ []) status refl is (check_any (check_read due)))
+  eight_of commands.Audit are due is = inr (are, audit_fault_of 8 refl (seen disk) (seen disk').count status text due.2 is)
+  eight_of commands.Positions are due is = inl (inr (inl are), table_unsound positions_text (seen disk) (seen disk').count status text due.2 is)
+  eight_of (commands.Notices today) are due is = inl (inr (inr (today, are)), table_unsound (notices_text today) (seen disk) (seen disk').count status text due.2 is)
+  eight_of (commands.Import lane) are due is = absurd (other_than 8 (3 ∷ 9 ∷ 7 ∷ 0 ∷ 6 ∷ 9 ∷ []) status refl is (import_any lane (import_read lane due)))
+  eight_of (commands.Trial firms claims seed) are due is = absurd (other_than 8 (0 ∷ 9 ∷ []) status refl is (trial_is firms claims seed due))
+
+  eight_by : Parts → status ≡ 8 → Eights
   eight_by (inl h) is = absurd (omega (arith, h.1, is))
-  eight_by (inr (inl h)) is = inl (h.0, eight_by_run (run_read h.1) is)
-  eight_by (inr (inr (inl h))) is = absurd (other_than 8 (3 ∷ 9 ∷ 7 ∷ 0 ∷ 1 ∷ 6 ∷ 9 ∷ []) status refl is (check_any (check_read h.1)))
-  eight_by (inr (inr (inr h))) is = inr (h.0, audit_fault_of 8 refl (seen disk) (seen disk').count status text h.1 is)
+  eight_by (inr (inl h)) is = absurd (omega (arith, h, is))
+  eight_by (inr (inr h)) is = eight_of h.0 h.1 h.2 is
 
 -- a status that is told and is no 4 was due
 due_is : (n due status : ℕ) → (4 ≡ n → ⊥) → (status ≡ due) ⊎ (status ≡ 4) → status ≡ n → due ≡ n

@@ -1,19 +1,14 @@
--- What the words ask for.
-use Rattle.std.specs.Prelude.{map, string_bytes}
-use Rattle.std.proofs.Common.{◌≡◌, ℕ, List, String, Global, ap, subst}
-use Rattle.bureau_program.specs.declared.command.Command.{Command}
-use Rattle.bureau_program.specs.declared.command.Command.TheVariants.{Run, Check, Audit}
-use Rattle.bureau_program.specs.Due.{AreRun, AreCheck, AreAudit}
-use Rattle.bureau_program.specs.Commands.{AreWordsOf}
+-- What a command comes to.
+use Rattle.std.specs.Prelude.{Option, map, string_bytes}
+use Rattle.std.proofs.Common.{◌≡◌, ℕ, List, String, Global, ap, subst, sym}
+use Rattle.disk_model.specs.Calls.{Seen}
+use Rattle.command_words.specs.declared.command.Command.{Command}
+use Rattle.bureau_program.specs.Due.{IsCommandDue}
 
-pub run_asked : (command : Command) (words : List (List ℕ)) → command ≡ Run → AreWordsOf command words → AreRun words
-run_asked command words is are = subst (λ (k : Command). AreWordsOf k words) is are
-
-pub check_asked : (command : Command) (words : List (List ℕ)) → command ≡ Check → AreWordsOf command words → AreCheck words
-check_asked command words is are = subst (λ (k : Command). AreWordsOf k words) is are
-
-pub audit_asked : (command : Command) (words : List (List ℕ)) → command ≡ Audit → AreWordsOf command words → AreAudit words
-audit_asked command words is are = subst (λ (k : Command). AreWordsOf k words) is are
+-- what is due for a command is due for the same one
+pub told_of : {S D : Type 0} (left : S → Option (List ℕ)) (seen : D → Seen) (source source' : S) (disk disk' : D) (command same : Command) → command ≡ same → (status : ℕ) (text : List ℕ)
+    → IsCommandDue left seen source source' disk disk' same status text → IsCommandDue left seen source source' disk disk' command status text
+told_of left seen source source' disk disk' command same is status text due = subst (λ (k : Command). IsCommandDue left seen source source' disk disk' k status text) (sym is) due
 
 -- the bytes of words
 abbrev pub bytes_of : List (String Global) → List (List ℕ)

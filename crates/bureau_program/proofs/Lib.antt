@@ -1,5 +1,4 @@
-pub mod Audited
-pub mod Written
+pub mod Refused
 pub mod Reading
 pub mod Commands
 pub mod Served

@@ -7,7 +7,7 @@ use Rattle.bureau_edge.specs.Streams.{EndsReading, TakesAll}
 use Rattle.setoff_model.specs.Limits.{most_input_bytes}
 use Rattle.printed_text.specs.Writing.{Wrote}
 use Rattle.bureau_program.specs.Due.{IsReadDue, IsToldUnread, no_input_memory, read_fault, too_long, input_read}
-use Rattle.bureau_program.proofs.Written.{wrote_for, wrote_line}
+use Rattle.bureau_reports.proofs.Written.{wrote_for, wrote_line}
 
 -- an input was not read, and why was told
 pub wrote_unread : (P : List ℕ → ℕ → List ℕ → Type 0) (Untouched : Type 0) (old new x y : Option (List ℕ)) (end : ReadEnd) (status : ℕ) → Untouched → EndsReading most_input_bytes old new end → IsToldUnread end x y status

@@ -33,7 +33,7 @@ use Rattle.bureau_program.specs.Due.{IsBatchesDue}
 use Rattle.bureau_program.specs.Due.{served as served_due}
 use Rattle.batch_runs.proofs.Printed.{five_by, no_three_by}
 use Rattle.batch_runs.proofs.Rising.{device_rose}
-use Rattle.bureau_program.proofs.Written.{told_status, written_after, wrote_line}
+use Rattle.bureau_reports.proofs.Written.{told_status, written_after, wrote_line}
 
 -- ---- an opened history
 

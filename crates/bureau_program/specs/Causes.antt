@@ -13,10 +13,26 @@ use Rattle.round_journal.specs.Opened.{AreFound}
 use Rattle.journal_replay.specs.Replays.{AreSound}
 use Rattle.bureau_desk.specs.declared.desk_refused.DeskCause.{DeskCause}
 use Rattle.bureau_desk.specs.Laws.{IsFault}
+use Rattle.command_words.specs.declared.command.Command.TheVariants.{Run, Check, Audit, Positions, Notices, Import}
+use Rattle.command_words.specs.Words.{AreNoWords, AreWordsOf}
 use Rattle.desk_text.specs.Texts.{unsound_status}
+use Rattle.bureau_reports.specs.Reports.{IsNoInvoiceText}
 use Rattle.bureau_program.specs.Headline.{IsHeadline}
-use Rattle.bureau_program.specs.Due.{AreAudit, AreCheck, AreNoWords, AreRun}
 use Rattle.bureau_program.specs.Completeness.{IsWholeInput}
+
+-- ---- words
+
+-- they ask for invoices to be filed in some lane
+abbrev pub AskImport : List (List ℕ) → Type 0
+AskImport words = (lane : ℕ) × AreWordsOf (Import lane) words
+
+-- for a table of the book
+abbrev pub AskTable : List (List ℕ) → Type 0
+AskTable words = AreWordsOf Positions words ⊎ ((today : ℕ) × AreWordsOf (Notices today) words)
+
+-- for what reads an input
+abbrev pub AskInput : List (List ℕ) → Type 0
+AskInput words = AreWordsOf Run words ⊎ (AreWordsOf Check words ⊎ AskImport words)
 
 -- ---- causes
 
@@ -68,22 +84,24 @@ IsOneOf (one ∷ rest) status = (status ≡ one) ⊎ IsOneOf rest status
 -- Where each cause is, its status comes, or that of a fault: of the source, of the disk, for want of memory, or of the sink.
 pub record ComesWhere (words : List (List ℕ)) (left : Option (List ℕ)) (disk : Seen) (status : ℕ) : Type 0 where
   -- words that are none of the lists
-  pub of_words : AreNoWords words → IsOneOf (2 ∷ 4 ∷ []) status
+  pub of_words : AreNoWords words → IsOneOf (2 ∷ 9 ∷ 4 ∷ []) status
   -- an input that is too long
-  pub of_length : AreRun words ⊎ AreCheck words → (input : List ℕ) → left ≡ Some input → IsTooLong input → IsOneOf (7 ∷ 3 ∷ 9 ∷ 4 ∷ []) status
+  pub of_length : AskInput words → (input : List ℕ) → left ≡ Some input → IsTooLong input → IsOneOf (7 ∷ 3 ∷ 9 ∷ 4 ∷ []) status
   -- one that is not in the grammar
-  pub of_requests : AreRun words → IsWholeInput IsNoRequestText left → IsOneOf (6 ∷ 3 ∷ 9 ∷ 4 ∷ []) status
-  pub of_statement : AreCheck words → IsWholeInput IsNoStatementText left → IsOneOf (6 ∷ 3 ∷ 9 ∷ 4 ∷ []) status
+  pub of_requests : AreWordsOf Run words → IsWholeInput IsNoRequestText left → IsOneOf (6 ∷ 3 ∷ 9 ∷ 4 ∷ []) status
+  pub of_statement : AreWordsOf Check words → IsWholeInput IsNoStatementText left → IsOneOf (6 ∷ 3 ∷ 9 ∷ 4 ∷ []) status
+  pub of_invoices : (lane : ℕ) → AreWordsOf (Import lane) words → IsWholeInput IsNoInvoiceText left → IsOneOf (6 ∷ 3 ∷ 9 ∷ 4 ∷ []) status
   -- a set-off that is not proved
-  pub of_proof : AreCheck words → IsWholeInput IsUnproved left → IsOneOf (1 ∷ 3 ∷ 9 ∷ 4 ∷ []) status
-  -- a journal that is not sound, for a run and for an audit
-  pub of_opening : AreRun words → (batches : List (List Request)) → IsWholeInput (λ input. IsRequestText input batches) left → HoldsUnsound disk → IsOneOf (8 ∷ 3 ∷ 5 ∷ 9 ∷ 4 ∷ []) status
-  pub of_audit : AreAudit words → IsTrue disk.tells → (due : ℕ) → HasAuditFault disk.reads due → IsOneOf (due ∷ 5 ∷ 9 ∷ 4 ∷ []) status
+  pub of_proof : AreWordsOf Check words → IsWholeInput IsUnproved left → IsOneOf (1 ∷ 3 ∷ 9 ∷ 4 ∷ []) status
+  -- a journal that is not sound, for a run, for a table and for an audit
+  pub of_opening : AreWordsOf Run words → (batches : List (List Request)) → IsWholeInput (λ input. IsRequestText input batches) left → HoldsUnsound disk → IsOneOf (8 ∷ 3 ∷ 5 ∷ 9 ∷ 4 ∷ []) status
+  pub of_table : AskTable words → HoldsUnsound disk → IsOneOf (8 ∷ 5 ∷ 9 ∷ 4 ∷ []) status
+  pub of_audit : AreWordsOf Audit words → IsTrue disk.tells → (due : ℕ) → HasAuditFault disk.reads due → IsOneOf (due ∷ 5 ∷ 9 ∷ 4 ∷ []) status
 
 -- Each of these statuses comes only where its cause is, as far as the source and the disk tell their bytes.
 pub record ComesOnly {D : Type 0} (seen : D → Seen) (words : List (List ℕ)) (left : Option (List ℕ)) (old new : D) (status : ℕ) : Type 0 where
-  pub one : status ≡ 1 → (AreCheck words × OfTold IsUnproved left) ⊎ (AreAudit words × (IsTrue (seen old).tells → HasAuditFault (seen old).reads 1))
+  pub one : status ≡ 1 → (AreWordsOf Check words × OfTold IsUnproved left) ⊎ (AreWordsOf Audit words × (IsTrue (seen old).tells → HasAuditFault (seen old).reads 1))
   pub two : status ≡ 2 → AreNoWords words
-  pub six : status ≡ 6 → (AreRun words × OfTold IsNoRequestText left) ⊎ (AreCheck words × OfTold IsNoStatementText left)
-  pub seven : status ≡ 7 → ((AreRun words ⊎ AreCheck words) × OfTold IsTooLong left) ⊎ (AreRun words × OfTold (HadFullLine seen old new) left)
-  pub eight : status ≡ 8 → (AreRun words × (IsTrue (seen old).tells → HoldsUnsound (seen old))) ⊎ (AreAudit words × (IsTrue (seen old).tells → HasAuditFault (seen old).reads 8))
+  pub six : status ≡ 6 → (AreWordsOf Run words × OfTold IsNoRequestText left) ⊎ ((AreWordsOf Check words × OfTold IsNoStatementText left) ⊎ (AskImport words × OfTold IsNoInvoiceText left))
+  pub seven : status ≡ 7 → (AskInput words × OfTold IsTooLong left) ⊎ (AreWordsOf Run words × OfTold (HadFullLine seen old new) left)
+  pub eight : status ≡ 8 → ((AreWordsOf Run words ⊎ AskTable words) × (IsTrue (seen old).tells → HoldsUnsound (seen old))) ⊎ (AreWordsOf Audit words × (IsTrue (seen old).tells → HasAuditFault (seen old).reads 8))

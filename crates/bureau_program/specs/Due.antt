@@ -1,41 +1,28 @@
 -- What is due for words, an input and a disk.
-use Rattle.std.specs.Prelude.{◌≡◌, Bool, ℕ, ◌+◌, List, [], ◌∷◌, length, codes, Option}
+use Rattle.std.specs.Prelude.{◌≡◌, Bool, ℕ, ◌+◌, List, length, codes, Option}
 use Rattle.std.specs.Io.KnownBytes.{Consumes}
-use Rattle.std.specs.Str.Lines.{lines}
 use Rattle.bureau_edge.specs.declared.whole.ReadEnd.{ReadEnd}
 use Rattle.bureau_edge.specs.declared.whole.ReadEnd.TheVariants as ends
 use Rattle.bureau_edge.specs.Streams.{TakesAll}
 use Rattle.setoff_model.specs.Limits.{most_input_bytes}
-use Rattle.setoff_model.specs.CutView.{CutView, OutcomeView}
-use Rattle.setoff_checker.specs.declared.verdict.Verdict.{Verdict}
-use Rattle.setoff_checker.specs.Verdicts.{IsVerdict}
 use Rattle.disk_model.specs.Calls.{Seen}
-use Rattle.claim_history.specs.declared.entry.Entry.{Entry}
 use Rattle.request_text.specs.declared.request.Request.{Request}
 use Rattle.request_text.specs.declared.error.LineCause.{LineCause}
 use Rattle.request_text.specs.Grammar.{IsRequestText, IsNoRequestText, IsFirstBadLine}
-use Rattle.statement_text.specs.declared.error.StatementCause.{StatementCause}
-use Rattle.statement_text.specs.Statements as statements
 use Rattle.round_journal.specs.Opened.{IsQuiet}
 use Rattle.bureau_desk.specs.declared.desk_refused.DeskCause.{DeskCause}
-use Rattle.bureau_desk.specs.Opening.{HasViewCause, HasViewed, IsDeskRefused}
-use Rattle.printed_text.specs.Texts.{bad_line_text, bad_statement_text, verdict_text, verdict_status}
+use Rattle.bureau_desk.specs.Opening.{IsDeskRefused}
+use Rattle.firm_notices.specs.Notices.{notices_text}
+use Rattle.firm_notices.specs.Positions.{positions_text}
+use Rattle.command_words.specs.declared.command.Command.{Command}
+use Rattle.command_words.specs.declared.command.Command.TheVariants.{Run, Check, Audit, Positions, Notices, Import, Trial}
+use Rattle.command_words.specs.Words.{AreNoWords, AreWordsOf}
+use Rattle.desk_text.specs.Texts.{opening_status, opening_text}
+use Rattle.printed_text.specs.Texts.{bad_line_text}
 use Rattle.printed_text.specs.Writing.{IsWritten, Wrote}
-use Rattle.desk_text.specs.Texts.{opening_status, opening_text, sound_text, unsound_status, unsound_text}
+use Rattle.bureau_reports.specs.Reports.{IsAuditDue, IsCheckDue, IsImportDue, IsTableDue}
+use Rattle.trial_round.specs.Trial.{IsTrialText}
 use Rattle.bureau_program.specs.Headline.{IsHeadline}
-
-abbrev pub AreRun : List (List ℕ) → Type 0
-AreRun words = words ≡ codes "run" ∷ []
-
-abbrev pub AreCheck : List (List ℕ) → Type 0
-AreCheck words = words ≡ codes "check" ∷ []
-
-abbrev pub AreAudit : List (List ℕ) → Type 0
-AreAudit words = words ≡ codes "audit" ∷ []
-
--- the words are none of the program's lists
-abbrev pub AreNoWords : List (List ℕ) → Type 0
-AreNoWords words = (AreRun words → ⊥) × (AreCheck words → ⊥) × (AreAudit words → ⊥)
 
 -- ---- batches
 
@@ -57,23 +44,6 @@ pub data IsRunDue {D : Type 0} (seen : D → Seen) (old new : D) (input : List �
   not_read : new ≡ old → (status : ℕ) (text : List ℕ) → IsBadLineDue input status text → IsRunDue seen old new input status text
   batches_read : (batches : List (List Request)) → IsRequestText input batches → (status : ℕ) (text : List ℕ) → IsBatchesDue seen old new batches status text → IsRunDue seen old new input status text
 
--- ---- statements
-
--- the status and the text that an input of a statement comes to: the verdict on the one cut and outcome that it states
-pub data IsCheckDue (input : List ℕ) : ℕ → List ℕ → Type 0 where
-  no_statement_memory : IsCheckDue input 9 (codes "fault memory\n")
-  bad_statement : (line : ℕ) (cause : StatementCause) → statements.IsFirstBadLine (lines input) line → statements.IsNoStatement (lines input) → IsCheckDue input 6 (bad_statement_text line cause)
-  judged : (cut : CutView) (outcome : OutcomeView) → statements.IsStatement (lines input) cut outcome → (verdict : Verdict) → IsVerdict cut outcome verdict → IsCheckDue input (verdict_status verdict) (verdict_text cut verdict)
-
--- ---- journals
-
--- The status and the text that an audit comes to, of a disk that is told to have these bytes, where its counts were these: there
--- was no memory for its line; the journal is sound; or it is not, or was not read.
-pub data IsAuditDue (tells : Bool) (bytes : List ℕ) (low high : ℕ) : ℕ → List ℕ → Type 0 where
-  no_audit_memory : IsAuditDue tells bytes low high 9 (codes "fault memory\n")
-  sound : (history : List Entry) → HasViewed tells bytes history → IsAuditDue tells bytes low high 0 (sound_text history)
-  unsound : (cause : DeskCause) → HasViewCause tells bytes low high cause → IsAuditDue tells bytes low high (unsound_status cause) (unsound_text cause)
-
 -- ---- inputs
 
 -- The status and the text that are due after the reading of an input: a fault of the reading, which leaves the disk, or what the
@@ -90,14 +60,37 @@ IsToldUnread ends.Memory held_old held_new status = IsWritten held_old held_new 
 IsToldUnread ends.Failed held_old held_new status = IsWritten held_old held_new 3 (codes "fault read\n") status
 IsToldUnread ends.TooLong held_old held_new status = IsWritten held_old held_new 7 (codes "fault input too long\n") status
 
--- The status and the text that are due for the words. With other words nothing is read, and a command without a disk leaves the
--- disk as it was. An audit reads no input, and writes nothing to the disk.
+-- ---- commands
+
+-- of a trial: its line, or there was no memory
+pub data IsTrialDue (firms claims seed : ℕ) : ℕ → List ℕ → Type 0 where
+  no_trial_memory : IsTrialDue firms claims seed 9 (codes "fault memory\n")
+  tried : (text : List ℕ) → IsTrialText firms claims seed text → IsTrialDue firms claims seed 0 text
+
+-- a report on an input leaves the disk as it was
+abbrev pub IsInputReportDue : {S D : Type 0} → (S → Option (List ℕ)) → (List ℕ → ℕ → List ℕ → Type 0) → S → S → D → D → ℕ → List ℕ → Type 0
+IsInputReportDue left IsInputDue source source' disk disk' status text = (disk' ≡ disk) × IsReadDue IsInputDue (Unit {0}) (left source) (left source') status text
+
+-- a report on a disk reads no input, and writes nothing to the disk
+abbrev pub IsDiskReportDue : {S D : Type 0} → (D → Seen) → (Bool → List ℕ → ℕ → ℕ → ℕ → List ℕ → Type 0) → S → S → D → D → ℕ → List ℕ → Type 0
+IsDiskReportDue seen IsReportDue source source' disk disk' status text =
+    (source' ≡ source) × IsQuiet (seen disk) (seen disk') × IsReportDue (seen disk).tells (seen disk).reads (seen disk).count (seen disk').count status text
+
+-- the status and the text that are due for a command
+abbrev pub IsCommandDue : {S D : Type 0} → (S → Option (List ℕ)) → (D → Seen) → S → S → D → D → Command → ℕ → List ℕ → Type 0
+IsCommandDue left seen source source' disk disk' Run status text = IsReadDue (IsRunDue seen disk disk') (disk' ≡ disk) (left source) (left source') status text
+IsCommandDue left seen source source' disk disk' Check status text = IsInputReportDue left IsCheckDue source source' disk disk' status text
+IsCommandDue left seen source source' disk disk' (Import lane) status text = IsInputReportDue left (IsImportDue lane) source source' disk disk' status text
+IsCommandDue left seen source source' disk disk' Audit status text = IsDiskReportDue seen IsAuditDue source source' disk disk' status text
+IsCommandDue left seen source source' disk disk' Positions status text = IsDiskReportDue seen (IsTableDue positions_text) source source' disk disk' status text
+IsCommandDue left seen source source' disk disk' (Notices today) status text = IsDiskReportDue seen (IsTableDue (notices_text today)) source source' disk disk' status text
+IsCommandDue left seen source source' disk disk' (Trial firms claims seed) status text = (source' ≡ source) × (disk' ≡ disk) × IsTrialDue firms claims seed status text
+
+-- The status and the text that are due for the words: with other words, and where there was no memory to read them, nothing is read.
 pub data IsDue {S D : Type 0} (left : S → Option (List ℕ)) (seen : D → Seen) (words : List (List ℕ)) (source source' : S) (disk disk' : D) : ℕ → List ℕ → Type 0 where
   bad_words : AreNoWords words → source' ≡ source → disk' ≡ disk → IsDue left seen words source source' disk disk' 2 (codes "fault words\n")
-  run_words : AreRun words → (status : ℕ) (text : List ℕ) → IsReadDue (IsRunDue seen disk disk') (disk' ≡ disk) (left source) (left source') status text → IsDue left seen words source source' disk disk' status text
-  check_words : AreCheck words → disk' ≡ disk → (status : ℕ) (text : List ℕ) → IsReadDue IsCheckDue (Unit {0}) (left source) (left source') status text → IsDue left seen words source source' disk disk' status text
-  audit_words : AreAudit words → source' ≡ source → IsQuiet (seen disk) (seen disk') → (status : ℕ) (text : List ℕ) → IsAuditDue (seen disk).tells (seen disk).reads (seen disk).count (seen disk').count status text
-      → IsDue left seen words source source' disk disk' status text
+  no_words_memory : source' ≡ source → disk' ≡ disk → IsDue left seen words source source' disk disk' 9 (codes "fault memory\n")
+  asked : (command : Command) → AreWordsOf command words → (status : ℕ) (text : List ℕ) → IsCommandDue left seen source source' disk disk' command status text → IsDue left seen words source source' disk disk' status text
 
 -- the status and the text that are due where there was no memory for the words
 pub data IsMemoryDue : ℕ → List ℕ → Type 0 where

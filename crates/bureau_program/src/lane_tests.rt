@@ -19,7 +19,7 @@ use std::thread;
 
 // ---- fences
 
-const LANES: [(&[u8], u8, &[u8]); 9] = [
+const LANES: [(&[u8], u8, &[u8]); 6] = [
     (
         b"1 FIRM A\nFENCE\n2 FIRM A\n",
         0,
@@ -37,9 +37,6 @@ const LANES: [(&[u8], u8, &[u8]); 9] = [
     ),
     (b"FENCE\nFENCE\n", 0, b""),
     (b"1 FIRM A\nFENCE\n0 FIRM A\n", 6, b"fault line 3 lane\n"),
-    (b"17 FIRM A\n", 6, b"fault line 1 lane\n"),
-    (b"01 FIRM A\n", 6, b"fault line 1 lane\n"),
-    (b"FENCE 1\n", 6, b"fault line 1 lane\n"),
     (b"1 FIRM A\nfence\n", 6, b"fault line 2 lane\n"),
 ];
 

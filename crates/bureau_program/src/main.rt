@@ -2,8 +2,10 @@
 //!
 //! `bureau` is the whole program over its words, a source, a sink and a disk. `main` calls it with a disk over the file
 //! `bureau.journal` of the folder that it runs in, or `without_words` where there was no memory for the words, and nothing else.
-//! The word `run` reads requests and serves them in order on a desk over the disk's journal. The word `check` reads a statement
-//! and judges it. The word `audit` replays the journal and tells whether it is sound.
+//! Where the words are no command's, `main` tells the commands on the error stream.
+//! The word `run` reads requests and serves them in order on a desk over the disk's journal. The other commands change nothing:
+//! `check` judges a statement, `import` turns invoices into requests, `audit` tells whether the journal is sound, `positions` and
+//! `notices` print the tables of its book.
 //!
 //! - The input is read whole before the disk is called. Then batch after batch is served, and its text is printed before the next
 //!   one is served. The abandonment of a round that the journal left open is printed first.
@@ -14,9 +16,8 @@
 //! - What is printed is one fault line; or all entries of this run and a line for each line that was not replied to.
 #![tactic(auto)]
 
-mod audit;
-mod check;
-mod command;
+#[cfg(test)]
+mod command_tests;
 #[cfg(test)]
 mod journal_tests;
 #[cfg(test)]
@@ -28,6 +29,7 @@ mod top;
 
 use batch_runs::Unhindered;
 use bureau_edge::{StandardIn, StandardOut};
+use command_words::USAGE;
 use disk_model::FileDisk;
 use std::alloc::AllocError;
 use std::env;
@@ -76,5 +78,8 @@ fn main(rt: HostRuntime) -> ExitCode {
         }
         _ => without_words(source, sink).status,
     };
+    if status == 2 {
+        let _told = eprint!(rt; "{USAGE}");
+    }
     ExitCode::from(status)
 }

@@ -1,15 +1,14 @@
 //! The words `run`: from the bytes of an input to the entries of a desk and their text.
-ghost use Rattle.std.specs.Prelude.{◌≡◌, ◌≢◌, ◌≤◌, [], vec_capacity};
+ghost use Rattle.std.specs.Prelude.{◌≡◌, ◌≢◌};
 ghost use Rattle.fault_count.specs.Counts.{HasRisen};
 ghost use Rattle.request_text.specs.Grammar.{IsFirstBadLine, IsNoRequestText};
-ghost use Rattle.desk_text.specs.Texts.{opening_status, opening_text, IsTellable};
-ghost use Rattle.printed_text.specs.Writing.{IsWritten, Wrote};
+ghost use Rattle.printed_text.specs.Writing.{Wrote};
 ghost use Rattle.bureau_program.specs.Due.{IsBadLineDue, IsBatchesDue, IsRunDue};
 
 use batch_runs::{print_added, run_batches};
-use bureau_desk::{Desk, DeskCause, DeskRefused};
+use bureau_desk::{Desk, DeskRefused};
 use bureau_edge::Sink;
-use desk_text::{status_of_opening, write_opening_fault};
+use bureau_reports::tell_refused;
 use disk_model::Disk;
 use lane_runner::Gate;
 use printed_text::{end_with, output_buffer, write_bad_line};
@@ -18,19 +17,6 @@ use shared_bureau::Pause;
 use std::alloc::Global;
 use std::sync::Wait;
 use std::thread::Threads;
-
-// Tells why no desk was opened.
-#[tactic(none)]
-fn tell_refused<K: Sink>(sink: &mut K, buffer: &mut Vec<u8>, cause: DeskCause) -> u8
-    requires tellable { IsTellable cause }
-    requires empty { buffer.old.items ≡ [] }
-    requires spare { 65536 ≤ vec_capacity buffer.old }
-    ensures written { IsWritten (K.held sink.old) (K.held sink.new) (opening_status cause) (opening_text cause) result }
-    ensures write_fault { result ≡ 4 → HasRisen (K.faults sink.old) (K.faults sink.new) }
-{
-    write_opening_fault(buffer, cause);
-    end_with(sink, status_of_opening(cause), buffer.as_slice())
-}
 
 // Opens a desk on a disk, prints the abandonment of a round that its journal left open, serves batches on it, and prints what came
 // of them.

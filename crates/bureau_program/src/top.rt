@@ -2,16 +2,19 @@
 ghost use Rattle.std.specs.Prelude.{◌≡◌, ◌≢◌, map, string_bytes};
 ghost use Rattle.bureau_edge.specs.declared.whole.ReadEnd.TheVariants as ends;
 ghost use Rattle.fault_count.specs.Counts.{HasRisen};
+ghost use Rattle.request_text.specs.Lanes.{IsLane};
+ghost use Rattle.command_words.specs.Words.{IsCommand};
 ghost use Rattle.printed_text.specs.Writing.{Wrote};
+ghost use Rattle.bureau_reports.specs.Reports.{IsCheckDue, IsImportDue};
 ghost use Rattle.bureau_program.specs.Causes.{ComesOnly, ComesWhere};
 ghost use Rattle.bureau_program.specs.Completeness.{Completes};
-ghost use Rattle.bureau_program.specs.Due.{IsCheckDue, IsMemoryDue, IsReadDue, IsRunDue, IsToldUnread, Ran};
+ghost use Rattle.bureau_program.specs.Due.{IsCommandDue, IsMemoryDue, IsReadDue, IsRunDue, IsToldUnread, IsTrialDue, Ran};
+ghost use Rattle.trial_round.specs.Trial.{IsTrialSize};
 
-use crate::audit::audit_disk;
-use crate::check::check_input;
-use crate::command::{Command, command_of};
 use crate::run::run_input;
 use bureau_edge::{ReadEnd, Sink, Source, read_whole};
+use bureau_reports::{Table, audit_disk, check_input, import_input, print_table};
+use command_words::{Command, WordsError, command_of, words_are_of_one_command};
 use disk_model::Disk;
 use lane_runner::Gate;
 use printed_text::end_with;
@@ -21,6 +24,7 @@ use shared_bureau::Pause;
 use std::alloc::Global;
 use std::sync::Wait;
 use std::thread::Threads;
+use trial_round::trial;
 
 /// What a call ends with: the status of the process, and the source, the sink and the disk as they are then.
 #[derive(Drop)]
@@ -81,6 +85,91 @@ fn check<S: Source, K: Sink>(alloc: Global, source: &mut S, sink: &mut K) -> u8
     }
 }
 
+// Files the invoices of a source in a lane.
+#[tactic(none)]
+fn import<S: Source, K: Sink>(alloc: Global, lane: u32, source: &mut S, sink: &mut K) -> u8
+    requires { IsLane lane }
+    ensures wrote { Wrote (IsReadDue (IsImportDue lane) (Unit {0}) (S.left source.old) (S.left source.new)) (K.held sink.old) (K.held sink.new) result }
+    ensures read_fault { result ≡ 3 → HasRisen (S.faults source.old) (S.faults source.new) }
+    ensures write_fault { result ≡ 4 → HasRisen (K.faults sink.old) (K.faults sink.new) }
+    ensures no_disk_fault { result ≢ 5 }
+{
+    match read_whole(alloc, source, MOST_INPUT_BYTES) {
+        Ok(input) => import_input(alloc, input.as_slice(), lane, sink),
+        Err(end) => tell_unread(end, sink),
+    }
+}
+
+// Serves a drawn round, and prints its line.
+fn print_trial<R: Threads + Wait + Sync, K: Sink>(
+    rt: &R,
+    alloc: Global,
+    firms: u32,
+    claims: u32,
+    seed: u32,
+    sink: &mut K,
+) -> u8
+    requires size { IsTrialSize firms claims }
+    ensures wrote { Wrote (IsTrialDue firms claims seed) (K.held sink.old) (K.held sink.new) result }
+    ensures write_fault { result ≡ 4 → HasRisen (K.faults sink.old) (K.faults sink.new) }
+    ensures no_read_fault { result ≢ 3 }
+    ensures no_disk_fault { result ≢ 5 }
+{
+    match trial(rt, alloc, firms, claims, seed) {
+        Ok(line) => end_with(sink, 0, line.as_slice()),
+        Err(_) => end_with(sink, 9, b"fault memory\n"),
+    }
+}
+
+// Answers a command.
+#[tactic(none)]
+fn answer_command<
+    R: Threads + Wait + Sync,
+    S: Source,
+    K: Sink,
+    D: Disk + Send + Sync,
+    G: Gate + Sync,
+    P: Pause + Sync,
+>(
+    rt: &R,
+    alloc: Global,
+    command: Command,
+    source: &mut S,
+    sink: &mut K,
+    mut disk: D,
+    gate: &G,
+    pause: &P,
+) -> (u8, D)
+    requires valid { IsCommand command }
+    ensures wrote { Wrote (IsCommandDue S.left D.seen source.old source.new disk result.1 command) (K.held sink.old) (K.held sink.new) result.0 }
+    ensures read_fault { result.0 ≡ 3 → HasRisen (S.faults source.old) (S.faults source.new) }
+    ensures write_fault { result.0 ≡ 4 → HasRisen (K.faults sink.old) (K.faults sink.new) }
+    ensures disk_fault { result.0 ≡ 5 → HasRisen (D.seen disk).count (D.seen result.1).count }
+{
+    match command {
+        Command::Run => run(rt, alloc, source, sink, disk, gate, pause),
+        Command::Check => (check(alloc, source, sink), disk),
+        Command::Import { lane } => (import(alloc, lane, source, sink), disk),
+        Command::Audit => {
+            let status = audit_disk(alloc, sink, &mut disk);
+            (status, disk)
+        }
+        Command::Trial {
+            firms,
+            claims,
+            seed,
+        } => (print_trial(rt, alloc, firms, claims, seed, sink), disk),
+        Command::Positions => {
+            let status = print_table(alloc, Table::Positions, sink, &mut disk);
+            (status, disk)
+        }
+        Command::Notices { today } => {
+            let status = print_table(alloc, Table::Notices { today }, sink, &mut disk);
+            (status, disk)
+        }
+    }
+}
+
 // Answers the words.
 #[tactic(none)]
 fn answer_words<
@@ -96,7 +185,7 @@ fn answer_words<
     words: &[String],
     source: &mut S,
     sink: &mut K,
-    mut disk: D,
+    disk: D,
     gate: &G,
     pause: &P,
 ) -> (u8, D)
@@ -105,22 +194,20 @@ fn answer_words<
     ensures write_fault { result.0 ≡ 4 → HasRisen (K.faults sink.old) (K.faults sink.new) }
     ensures disk_fault { result.0 ≡ 5 → HasRisen (D.seen disk).count (D.seen result.1).count }
 {
-    match command_of(words) {
-        Some(Command::Run) => run(rt, alloc, source, sink, disk, gate, pause),
-        Some(Command::Check) => (check(alloc, source, sink), disk),
-        Some(Command::Audit) => {
-            let status = audit_disk(alloc, sink, &mut disk);
-            (status, disk)
-        }
-        None => (end_with(sink, 2, b"fault words\n"), disk),
+    match command_of(alloc, words) {
+        Ok(command) => answer_command(rt, alloc, command, source, sink, disk, gate, pause),
+        Err(WordsError::Unknown) => (end_with(sink, 2, b"fault words\n"), disk),
+        Err(WordsError::Memory) => (end_with(sink, 9, b"fault memory\n"), disk),
     }
 }
 
 /// The whole program over the words after its name, a source, a sink and a disk. The bytes of the journal stand on the disk.
 ///
 /// `run` serves the batches of requests of the source on the disk's journal, the lanes of a batch side by side, and prints what
-/// came of each; `gate` is called round each line, and `pause` while a round is open and no turn is held; `check` judges the statement of
-/// the source; `audit` replays the journal without writing to it. No command calls a source or a disk that it does not need.
+/// came of each; `gate` is called round each line, and `pause` while a round is open and no turn is held. `check` judges the
+/// statement of the source, and `import` turns its invoices into requests of a lane. `audit` replays the journal, and `positions`
+/// and `notices` print the tables of its book, without writing to it. `trial` serves a round that is drawn from a number, on no disk of the
+/// caller's. No command calls a source or a disk that it does not need.
 /// Where none of them counts a fault, the input is in the grammar and the journal is sound, all of the text is written, or memory
 /// was missing. No line of `run` is full where there is room behind the journal for all requests of the input. The status is
 ///
@@ -131,7 +218,7 @@ fn answer_words<
 /// - 3 only where the source counted a fault;
 /// - 4 only where the sink counted a fault; it has then taken some first bytes of what was due;
 /// - 5 only where the disk counted a fault;
-/// - 6 exactly where the input is not in the grammar, with the first bad line; the disk is then not called;
+/// - 6 exactly where the input is not in the grammar, with the first bad line or row; the disk is then not called;
 /// - 7 exactly where the source had more than 2^26 bytes, or a line of `run` was full;
 /// - 8 exactly where the disk has more than nine bytes that stand for no sound records, of `audit` where they stand for no records;
 /// - 9 for want of memory, always where a line was not replied to for want of it and the sink did not fail.
@@ -164,6 +251,7 @@ pub fn bureau<
     ensures only { ComesOnly D.seen (map (λ w. string_bytes w) words.items) (S.left source) disk result.disk result.status }
     ensures complete { Completes D.seen (map (λ w. string_bytes w) words.items) (S.left source) disk result.disk (K.held sink) (K.held result.sink) (HasRisen (S.faults source) (S.faults result.source)) (HasRisen (K.faults sink) (K.faults result.sink)) result.status }
 {
+    words_are_of_one_command();
     bytes_hold_one_list();
     let (status, disk) = answer_words(
         rt,

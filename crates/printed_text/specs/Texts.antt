@@ -6,6 +6,8 @@ use Rattle.limited_book.specs.declared.room.Room.{Room}
 use Rattle.limited_book.specs.declared.room.Room.TheVariants.{Entries, Bytes}
 use Rattle.request_text.specs.declared.error.LineCause.{LineCause}
 use Rattle.request_text.specs.declared.error.LineCause.TheVariants as cause
+use Rattle.firm_notices.specs.declared.error.RowCause.{RowCause}
+use Rattle.firm_notices.specs.declared.error.RowCause.TheVariants as row
 use Rattle.statement_text.specs.declared.error.StatementCause.{StatementCause}
 use Rattle.statement_text.specs.declared.error.StatementCause.TheVariants as statement
 use Rattle.setoff_checker.specs.declared.verdict.Verdict.{Verdict}
@@ -35,6 +37,15 @@ cause_text (cause.Field k) = codes "field " ++ decimal k
 
 abbrev pub bad_line_text : ℕ → LineCause → List ℕ
 bad_line_text line why = fault_line_text line (cause_text why)
+
+-- the fault line of an input of invoices whose row is not in the grammar
+abbrev pub row_cause_text : RowCause → List ℕ
+row_cause_text row.Header = codes "header"
+row_cause_text row.Fields = codes "fields"
+row_cause_text (row.Field k) = codes "field " ++ decimal k
+
+abbrev pub bad_row_text : ℕ → RowCause → List ℕ
+bad_row_text number why = codes "fault row " ++ decimal number ++ codes " " ++ row_cause_text why ++ codes "\n"
 
 abbrev pub statement_cause_text : StatementCause → List ℕ
 statement_cause_text statement.Round = codes "round"

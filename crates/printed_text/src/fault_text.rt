@@ -1,7 +1,8 @@
 //! The lines that tell of faults.
 ghost use Rattle.std.specs.Prelude.{◌≡◌, ◌+◌, ◌≤◌, ◌++◌, decimal, length, vec_len, vec_capacity};
-ghost use Rattle.printed_text.specs.Texts.{memory_line, full_line, room_text, fault_line_text, cause_text, bad_line_text, statement_cause_text, bad_statement_text};
+ghost use Rattle.printed_text.specs.Texts.{memory_line, full_line, room_text, fault_line_text, cause_text, bad_line_text, row_cause_text, bad_row_text, statement_cause_text, bad_statement_text};
 
+use firm_notices::RowCause;
 use itoa::Buffer;
 use limited_book::Room;
 use request_text::LineCause;
@@ -87,6 +88,36 @@ pub fn write_bad_line(buffer: &mut Vec<u8>, line: u64, cause: LineCause)
     write_number(buffer, i128::from(line));
     put(buffer, b" ");
     write_cause(buffer, cause);
+    put(buffer, b"\n");
+}
+
+fn write_row_cause(buffer: &mut Vec<u8>, cause: RowCause)
+    requires { vec_len buffer.old + 70 ≤ vec_capacity buffer.old }
+    ensures text { buffer.new.items ≡ buffer.old.items ++ row_cause_text cause }
+    ensures len { vec_len buffer.new ≤ vec_len buffer.old + 30 }
+    ensures room { vec_capacity buffer.old ≤ vec_capacity buffer.new }
+{
+    match cause {
+        RowCause::Header => put(buffer, b"header"),
+        RowCause::Fields => put(buffer, b"fields"),
+        RowCause::Field(k) => {
+            put(buffer, b"field ");
+            write_number(buffer, i128::from(k));
+        }
+    }
+}
+
+/// Writes the line `fault row N CAUSE` of an input of invoices that is not in the grammar.
+pub fn write_bad_row(buffer: &mut Vec<u8>, row: u64, cause: RowCause)
+    requires { vec_len buffer.old + 200 ≤ vec_capacity buffer.old }
+    ensures text { buffer.new.items ≡ buffer.old.items ++ bad_row_text row cause }
+    ensures len { vec_len buffer.new ≤ vec_len buffer.old + 200 }
+    ensures room { vec_capacity buffer.old ≤ vec_capacity buffer.new }
+{
+    put(buffer, b"fault row ");
+    write_number(buffer, i128::from(row));
+    put(buffer, b" ");
+    write_row_cause(buffer, cause);
     put(buffer, b"\n");
 }
 

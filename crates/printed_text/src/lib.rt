@@ -19,6 +19,6 @@ mod statement;
 mod verdict_text;
 
 pub use ending::end_with;
-pub use fault_text::{write_bad_line, write_bad_statement};
+pub use fault_text::{write_bad_line, write_bad_row, write_bad_statement};
 pub use output::{output_buffer, print_batch, print_unanswered};
 pub use verdict_text::{status_of_verdict, write_verdict};

@@ -8,12 +8,13 @@ use Rattle.desk_text.specs.Texts.{opening_status, opening_text}
 use Rattle.printed_text.specs.Printing.{printed_of}
 use Rattle.printed_text.specs.Writing.{Wrote}
 use Rattle.bureau_program.specs.Due.{IsBatchesDue, no_output_memory, not_opened}
-use Rattle.bureau_program.proofs.Audited.{refused_no_three, refused_rose, tellable}
+use Rattle.bureau_reports.proofs.Viewed.{no_three, tellable}
 use Rattle.batch_runs.proofs.Batches.{same_opening}
 use Rattle.batch_runs.proofs.Printed.{at_err, at_ok, printed_same}
 use Rattle.batch_runs.proofs.Rising.{risen_within}
+use Rattle.bureau_program.proofs.Refused.{refused_rose}
 use Rattle.bureau_program.proofs.Served.{begun_few, none_begun, ran_rose, wrote_all, wrote_begun}
-use Rattle.bureau_program.proofs.Written.{no_other, told_status, wrote_line}
+use Rattle.bureau_reports.proofs.Written.{no_other, told_status, wrote_line}
 use Rattle.bureau_program.proofs.run.open_and_run.Goals as goal
 
 -- ---- there was no memory for the text
@@ -43,7 +44,7 @@ pub tell_refused-requires-clause-empty : goal.tell_refused-requires-clause-empty
 tell_refused-requires-clause-empty g c = c.in-Ok.ensures.empty
 
 pub tell_refused-requires-clause-spare : goal.tell_refused-requires-clause-spare
-tell_refused-requires-clause-spare g c = c.in-Ok.ensures.room
+tell_refused-requires-clause-spare g c = omega (arith, c.in-Ok.ensures.room)
 
 pub returns-in-Err-clause-wrote : goal.returns-in-Err-clause-wrote
 returns-in-Err-clause-wrote g c =
@@ -60,7 +61,7 @@ returns-in-Err-clause-disk_fault g c =
 
 pub returns-in-Err-clause-no_read_fault : goal.returns-in-Err-clause-no_read_fault
 returns-in-Err-clause-no_read_fault g c =
-    refused_no_three c.in-Err.field-0.cause c.tell_refused.result
+    no_other c.tell_refused.result (opening_status c.in-Err.field-0.cause) 3 (no_three c.in-Err.field-0.cause) (λ e. omega (arith, e))
     (told_status _ _ (opening_status c.in-Err.field-0.cause) (opening_text c.in-Err.field-0.cause) c.tell_refused.result c.tell_refused.ensures.written)
 
 -- ---- the abandonment's line

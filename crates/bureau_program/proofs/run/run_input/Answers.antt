@@ -3,7 +3,7 @@ use Rattle.std.proofs.Common.{List, refl, subst, sym, arith}
 use Rattle.request_text.specs.declared.request.Request.{Request}
 use Rattle.request_text.specs.Grammar.{IsRequestText}
 use Rattle.bureau_program.specs.Due.{IsBadLineDue, IsBatchesDue, IsRunDue, batches_read, no_request_memory, not_read}
-use Rattle.bureau_program.proofs.Written.{no_other, wrote_for, wrote_line}
+use Rattle.bureau_reports.proofs.Written.{no_other, wrote_for, wrote_line}
 use Rattle.bureau_program.proofs.run.run_input.Goals as goal
 
 pub returns-in-Ok-clause-wrote : goal.returns-in-Ok-clause-wrote

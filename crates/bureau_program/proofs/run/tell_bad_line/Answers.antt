@@ -2,7 +2,7 @@ use Rattle.std.proofs.Common.{◌≡◌, ℕ, List, ◌++◌, ap, ◌∙◌}
 use Rattle.std.specs.Prelude.{codes}
 use Rattle.printed_text.specs.Texts.{bad_line_text}
 use Rattle.bureau_program.specs.Due.{IsBadLineDue, no_line_memory, bad_line}
-use Rattle.bureau_program.proofs.Written.{wrote_line, wrote_text}
+use Rattle.bureau_reports.proofs.Written.{wrote_line, wrote_text}
 use Rattle.bureau_program.proofs.run.tell_bad_line.Goals as goal
 
 pub returns-in_default-clause-wrote : goal.returns-in_default-clause-wrote

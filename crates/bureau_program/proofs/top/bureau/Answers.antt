@@ -21,7 +21,7 @@ returns-clause-disk_fault g c = c.answer_words-status.ensures.disk_fault
 
 pub returns-clause-comes : goal.returns-clause-comes
 returns-clause-comes g c =
-    comes_where g.S.Source.left g.D.Disk.seen (bytes_of c.args.words.items) (bytes_of c.as_slice.result.now) c.args.source c.answer_words-status.new.source c.args.disk c.answer_words-status.result.1 _ _ c.answer_words-status.result.0
+    comes_where c.words_are_of_one_command.ensures.law g.S.Source.left g.D.Disk.seen (bytes_of c.args.words.items) (bytes_of c.as_slice.result.now) c.args.source c.answer_words-status.new.source c.args.disk c.answer_words-status.result.1 _ _ c.answer_words-status.result.0
     c.answer_words-status.ensures.ran (same_bytes c.as_slice.result.now c.args.words.items c.as_slice.ensures.value)
 
 pub returns-clause-only : goal.returns-clause-only
@@ -31,5 +31,5 @@ returns-clause-only g c =
 
 pub returns-clause-complete : goal.returns-clause-complete
 returns-clause-complete g c =
-    completes c.bytes_hold_one_list.ensures.records g.S.Source.left g.D.Disk.seen (bytes_of c.args.words.items) (bytes_of c.as_slice.result.now) c.args.source c.answer_words-status.new.source c.args.disk c.answer_words-status.result.1 _ _ _ _ c.answer_words-status.result.0
+    completes c.words_are_of_one_command.ensures.law c.bytes_hold_one_list.ensures.records g.S.Source.left g.D.Disk.seen (bytes_of c.args.words.items) (bytes_of c.as_slice.result.now) c.args.source c.answer_words-status.new.source c.args.disk c.answer_words-status.result.1 _ _ _ _ c.answer_words-status.result.0
     c.answer_words-status.ensures.ran (same_bytes c.as_slice.result.now c.args.words.items c.as_slice.ensures.value) c.answer_words-status.ensures.read_fault c.answer_words-status.ensures.write_fault c.answer_words-status.ensures.disk_fault

@@ -1,7 +1,7 @@
 use Rattle.std.proofs.Common.{subst, sym}
 use Rattle.bureau_edge.specs.Streams.{TakesAll}
 use Rattle.setoff_model.specs.Limits.{most_input_bytes}
-use Rattle.bureau_program.specs.Due.{IsCheckDue}
+use Rattle.bureau_reports.specs.Reports.{IsCheckDue}
 use Rattle.bureau_program.proofs.Reading.{wrote_read, wrote_unread}
 use Rattle.bureau_program.proofs.top.check.Goals as goal
 

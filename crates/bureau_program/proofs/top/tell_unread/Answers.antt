@@ -1,7 +1,7 @@
 use Rattle.std.proofs.Common.{sym, subst, arith}
 use Rattle.bureau_edge.specs.declared.whole.ReadEnd.{ReadEnd}
 use Rattle.bureau_program.specs.Due.{IsToldUnread}
-use Rattle.bureau_program.proofs.Written.{no_other}
+use Rattle.bureau_reports.proofs.Written.{no_other}
 use Rattle.bureau_program.proofs.top.tell_unread.Goals as goal
 
 pub end_with-requires : goal.end_with-requires

@@ -1,6 +1,6 @@
 use Rattle.std.specs.Prelude.{codes}
 use Rattle.bureau_program.specs.Due.{IsMemoryDue, no_word_memory}
-use Rattle.bureau_program.proofs.Written.{wrote_line}
+use Rattle.bureau_reports.proofs.Written.{wrote_line}
 use Rattle.bureau_program.proofs.top.without_words.Goals as goal
 
 pub returns-clause-wrote : goal.returns-clause-wrote

@@ -1,7 +1,0 @@
-use Rattle.std.specs.Prelude.{codes}
-use Rattle.bureau_program.specs.Due.{IsCheckDue, no_statement_memory}
-use Rattle.bureau_program.proofs.Written.{wrote_line}
-use Rattle.bureau_program.proofs.check.check_input.Goals as goal
-
-pub returns-in-Err-Memory-clause-wrote : goal.returns-in-Err-Memory-clause-wrote
-returns-in-Err-Memory-clause-wrote g c = wrote_line (IsCheckDue c.args.input.now) _ _ 9 (codes "fault memory\n") _ no_statement_memory c.end_with.ensures.written

@@ -1,0 +1,51 @@
+//! Invoices as requests: from the bytes of CSV to the lines that file them.
+ghost use Rattle.std.specs.Prelude.{◌≡◌, ◌≢◌};
+ghost use Rattle.fault_count.specs.Counts.{HasRisen};
+ghost use Rattle.request_text.specs.Lanes.{IsLane};
+ghost use Rattle.firm_notices.specs.Invoices.{IsFirstBadRow};
+ghost use Rattle.printed_text.specs.Writing.{Wrote};
+ghost use Rattle.bureau_reports.specs.Reports.{IsImportDue};
+
+use bureau_edge::Sink;
+use firm_notices::{ImportError, RowCause, import};
+use printed_text::{end_with, write_bad_row};
+use std::alloc::Global;
+
+// Tells the first row that is not in the grammar of invoices.
+fn tell_bad_row<K: Sink>(
+    alloc: Global,
+    input: &[u8],
+    lane: u32,
+    row: u64,
+    cause: RowCause,
+    sink: &mut K,
+) -> u8
+    requires { IsFirstBadRow input.now row cause }
+    ensures wrote { Wrote (IsImportDue lane input.now) (K.held sink.old) (K.held sink.new) result }
+    ensures write_fault { result ≡ 4 → HasRisen (K.faults sink.old) (K.faults sink.new) }
+    ensures no_read_fault { result ≢ 3 }
+    ensures no_disk_fault { result ≢ 5 }
+{
+    let Ok(mut buffer) = Vec::with_capacity(alloc, 200) else {
+        return end_with(sink, 9, b"fault memory\n");
+    };
+    write_bad_row(&mut buffer, row, cause);
+    end_with(sink, 6, buffer.as_slice())
+}
+
+/// Reads invoices from an input, and prints the lines of a lane that file them. The lane is 1 to 16.
+pub fn import_input<K: Sink>(alloc: Global, input: &[u8], lane: u32, sink: &mut K) -> u8
+    requires { IsLane lane }
+    ensures wrote { Wrote (IsImportDue lane input.now) (K.held sink.old) (K.held sink.new) result }
+    ensures write_fault { result ≡ 4 → HasRisen (K.faults sink.old) (K.faults sink.new) }
+    ensures no_read_fault { result ≢ 3 }
+    ensures no_disk_fault { result ≢ 5 }
+{
+    match import(alloc, input, lane) {
+        Ok(text) => end_with(sink, 0, text.as_slice()),
+        Err(ImportError::Memory) => end_with(sink, 9, b"fault memory\n"),
+        Err(ImportError::BadRow { row, cause }) => tell_bad_row(
+            alloc, input, lane, row, cause, sink,
+        ),
+    }
+}
