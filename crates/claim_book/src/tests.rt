@@ -236,10 +236,51 @@ fn is_full_of_firms(book: &mut Book) -> bool {
         && book.accounts().len() == 16_384
 }
 
+// The invoice I-i of a number i.
+fn invoice(alloc: Global, number: u32) -> Option<Name> {
+    let text = format!(in alloc; "I-{number}").ok()?;
+    Name::of(text.as_bytes())
+}
+
+// Lets a firm owe the next one a cent more than its number, on a claim that is filed and confirmed.
+fn owes_the_next(alloc: Global, book: &mut Book, number: u32, due: Day) -> Option<bool> {
+    let debtor = numbered(number % 16_384)?;
+    let creditor = numbered((number % 16_384 + 1) % 16_384)?;
+    let key = key(creditor, invoice(alloc, number)?);
+    let filed = ask(book, 1, file(key, debtor, u64::from(number) + 1, due))?;
+    let confirmed = ask(book, 1, confirm(key, debtor))?;
+    Some(filed == Reply::Done && confirmed == Reply::Done)
+}
+
+fn owe_in_a_ring(alloc: Global, book: &mut Book, due: Day) -> bool {
+    for number in 0..100_000 {
+        if owes_the_next(alloc, book, number, due) != Some(true) {
+            return false;
+        }
+    }
+    true
+}
+
+// What all firms together are owed, and what they owe.
+fn owed_in_all(book: &Book) -> Option<(u64, u64)> {
+    let mut receivable: u64 = 0;
+    let mut payable: u64 = 0;
+    for number in 0..16_384 {
+        let position = book.position(numbered(number)?)?;
+        receivable = receivable.saturating_add(position.receivable);
+        payable = payable.saturating_add(position.payable);
+    }
+    Some((receivable, payable))
+}
+
+// A book that looked through its entries for each answer would not end within a test's time.
 #[test]
-fn full_of_firms(rt: HostRuntime) {
+fn sums_of_a_full_register(rt: HostRuntime) {
+    let due = Day::of_number(20_119).expect(&rt, "a day");
     let mut book = Book::new(rt.alloc());
     assert!(rt; is_full_of_firms(&mut book));
+    assert!(rt; owe_in_a_ring(rt.alloc(), &mut book, due));
+    assert!(rt; owed_in_all(&book) == Some((5_000_050_000, 5_000_050_000)));
 }
 
 // ---- rounds
