@@ -28,7 +28,8 @@ fn tells_of_device(reply: &Reply) -> bool
     matches!(reply, Reply::Refused(Why::Device { .. }))
 }
 
-fn some_device(entries: &[Entry]) -> bool
+/// Whether some entry tells of a device.
+pub fn some_device(entries: &[Entry]) -> bool
     ensures { result ≡ list_any (λ e. is_of_device e.reply) entries.now }
 {
     entries.iter().any(|entry| tells_of_device(&entry.reply))

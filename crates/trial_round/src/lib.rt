@@ -16,7 +16,6 @@ mod line;
 mod round;
 #[cfg(test)]
 mod tests;
-mod unhindered;
 mod whole;
 
 use line::trial_line;

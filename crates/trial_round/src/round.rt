@@ -1,10 +1,8 @@
 //! The round of a trial: its input is served, and what was published is judged.
 ghost use Rattle.std.specs.Prelude.{◌≡◌, [], IfOk};
-ghost use Rattle.std.specs.List.{list_any};
 ghost use Rattle.setoff_model.specs.CutView.{WellFormed, obligations};
 ghost use Rattle.setoff_model.specs.Setoff.{Proves};
 ghost use Rattle.claim_history.specs.History.{AreValid, IsLegal};
-ghost use Rattle.claim_history.specs.Needs.{is_of_device};
 ghost use Rattle.claim_history.specs.Rounds.{cuts_after};
 ghost use Rattle.served_lines.specs.Served.{IsServed};
 ghost use Rattle.trial_round.specs.Trial.{AreSums, IsTrialSize, trial_batch, trial_cut};
@@ -12,9 +10,9 @@ ghost use Rattle.trial_round.specs.Round.{EndsWith, HasRound};
 ghost use Rattle.trial_round.specs.Opening.{IsWant};
 
 use crate::input::trial_batch;
-use crate::unhindered::Unhindered;
+use batch_runs::{Unhindered, some_device};
 use bureau_desk::{Desk, DeskCause, DeskRefused};
-use claim_history::{Act, Entry, Reply, Why, publications_are_greatest};
+use claim_history::{Act, Entry, publications_are_greatest};
 use disk_model::MemoryDisk;
 use lane_runner::run_batch;
 use level_solver::LevelSolver;
@@ -32,18 +30,6 @@ pub struct Sums {
     pub claims: u32,
     pub parties: u32,
     pub total: u64,
-}
-
-fn tells_of_device(reply: &Reply) -> bool
-    ensures { result ≡ is_of_device reply.now }
-{
-    matches!(reply, Reply::Refused(Why::Device { .. }))
-}
-
-fn some_device(entries: &[Entry]) -> bool
-    ensures { result ≡ list_any (λ e. is_of_device e.reply) entries.now }
-{
-    entries.iter().any(|entry| tells_of_device(&entry.reply))
 }
 
 // The outcome of the publication that a history ends with.
