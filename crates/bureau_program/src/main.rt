@@ -19,6 +19,8 @@
 #[cfg(test)]
 mod command_tests;
 #[cfg(test)]
+mod fault_tests;
+#[cfg(test)]
 mod journal_tests;
 #[cfg(test)]
 mod lane_tests;
