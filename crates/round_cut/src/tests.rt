@@ -204,53 +204,70 @@ fn plain(firm: Name) -> Party {
     }
 }
 
+// Whether a cut is that of a plain round 1 among the three firms, with these claims.
+fn is_cut(cut: &Cut, names: &Names, claims: &[CutClaim]) -> bool {
+    let parties = [plain(names.a), plain(names.b), plain(names.c)];
+    let is_first = cut.round() == 1 && cut.kind() == Kind::Plain;
+    is_first && cut.parties() == parties.as_slice() && cut.claims() == claims
+}
+
+// Whether the cut of these claims among the three firms has these claims. None where memory is missing, or it cannot be made.
+fn cuts_to(alloc: Global, names: &Names, claims: &[ClaimFact], due: &[CutClaim]) -> Option<bool> {
+    let accounts = [
+        new_account(names.c),
+        new_account(names.b),
+        new_account(names.a),
+    ];
+    let cut = cut_of(alloc, claims, &accounts, Kind::Plain, names.day).ok()??;
+    Some(is_cut(&cut, names, due))
+}
+
 #[test]
 fn the_triangle(rt: HostRuntime) {
+    let names = make_names().expect(&rt, "names");
+    let Names {
+        a,
+        b,
+        c,
+        invoices: [i1, i2, i3, _],
+        day,
+    } = names;
+    let claims = [
+        claim(b, i1, a, 1000, 1000, day),
+        claim(c, i2, b, 700, 700, day),
+        claim(a, i3, c, 1200, 1200, day),
+    ];
+    let due = [
+        placed(b, i1, 0, 1, 1000),
+        placed(c, i2, 1, 2, 700),
+        placed(a, i3, 2, 0, 1200),
+    ];
+    assert!(rt; cuts_to(rt.alloc(), &names, &claims, &due) == Some(true));
+}
+
+// After a round of 7.00 on each claim of the triangle, and B I-4 A 2.00.
+#[test]
+fn the_triangle_after_a_round(rt: HostRuntime) {
+    let names = make_names().expect(&rt, "names");
     let Names {
         a,
         b,
         c,
         invoices: [i1, i2, i3, i4],
         day,
-    } = make_names().expect(&rt, "names");
-    let accounts = [new_account(c), new_account(b), new_account(a)];
-    let first = [
-        claim(b, i1, a, 1000, 1000, day),
-        claim(c, i2, b, 700, 700, day),
-        claim(a, i3, c, 1200, 1200, day),
-    ];
-    let cut = cut_of(rt.alloc(), &first, &accounts, Kind::Plain, day).expect(&rt, "memory");
-    let cut = cut.expect(&rt, "facts");
-    assert!(rt; cut.round() == 1 && cut.kind() == Kind::Plain);
-    assert!(rt; cut.parties() == [plain(a), plain(b), plain(c)].as_slice());
-    assert!(rt;
-        cut.claims()
-            == [
-                placed(b, i1, 0, 1, 1000),
-                placed(c, i2, 1, 2, 700),
-                placed(a, i3, 2, 0, 1200)
-            ]
-            .as_slice()
-    );
-    // after a round of 7.00 on each, and B I-4 A 2.00
-    let second = [
+    } = names;
+    let claims = [
         claim(b, i1, a, 1000, 300, day),
         claim(c, i2, b, 700, 0, day),
         claim(a, i3, c, 1200, 500, day),
         claim(b, i4, a, 200, 200, day),
     ];
-    let cut = cut_of(rt.alloc(), &second, &accounts, Kind::Plain, day).expect(&rt, "memory");
-    let cut = cut.expect(&rt, "facts");
-    assert!(rt; cut.parties() == [plain(a), plain(b), plain(c)].as_slice());
-    assert!(rt;
-        cut.claims()
-            == [
-                placed(b, i1, 0, 1, 300),
-                placed(a, i3, 2, 0, 500),
-                placed(b, i4, 0, 1, 200)
-            ]
-            .as_slice()
-    );
+    let due = [
+        placed(b, i1, 0, 1, 300),
+        placed(a, i3, 2, 0, 500),
+        placed(b, i4, 0, 1, 200),
+    ];
+    assert!(rt; cuts_to(rt.alloc(), &names, &claims, &due) == Some(true));
 }
 
 #[test]
