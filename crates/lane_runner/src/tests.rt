@@ -1,8 +1,9 @@
+mod thousand;
 mod together;
 
 use crate::{Answer, BatchEnd, Gate, LineEnd, run_batch};
 use bureau_desk::Desk;
-use claim_history::{Entry, Reply};
+use claim_history::{Act, Entry, Position, Reply};
 use disk_model::MemoryDisk;
 use flow_solver::PlainSolver;
 use request_text::{Batch, read_requests};
@@ -101,4 +102,52 @@ fn lanes_are_served_at_the_same_time(rt: HostRuntime) {
     let batches = batches_of(alloc, lines).expect(&rt, "batches");
     assert!(rt; batches.len() == 1);
     assert!(rt; served_together(&rt, alloc, &batches[0]) == Some(true));
+}
+
+// ---- a lane finds its own writes
+
+// Whether the entries of the second lane are these two, in order: B was funded with 5.00, and then its position was told.
+fn finds_own_writes(history: &[Entry]) -> bool {
+    let mut entries = history.iter().filter(|entry| entry.caller == 2);
+    let funded = entries.next().is_some_and(is_funding);
+    let told = entries.next().is_some_and(tells_funds);
+    funded && told && entries.next().is_none()
+}
+
+fn is_funding(entry: &Entry) -> bool {
+    matches!(entry.act, Act::Fund { amount: 500, .. }) && entry.reply == Reply::Done
+}
+
+fn tells_funds(entry: &Entry) -> bool {
+    let position = Position {
+        balance: 500,
+        receivable: 0,
+        payable: 0,
+    };
+    entry.reply == Reply::Position(position)
+}
+
+// The other lanes are busy with another firm.
+#[test]
+fn a_lane_finds_its_own_writes(rt: HostRuntime) {
+    let alloc = rt.alloc();
+    let lines: &[u8] = b"1 FIRM B
+1 FIRM C
+FENCE
+1 FUND C 1.00
+3 FUND C 1.00
+2 FUND B 5.00
+1 POSITION C
+4 FUND C 1.00
+3 POSITION C
+2 POSITION B
+1 FUND C 1.00
+4 POSITION C
+";
+    let batches = batches_of(alloc, lines).expect(&rt, "batches");
+    assert!(rt; batches.len() == 2);
+    let desk = empty_desk(alloc).expect(&rt, "a desk");
+    let desk = served(&rt, alloc, desk, &batches[0], &Nothing).expect(&rt, "answers");
+    let desk = served(&rt, alloc, desk, &batches[1], &Nothing).expect(&rt, "answers");
+    assert!(rt; finds_own_writes(desk.book().history()));
 }
