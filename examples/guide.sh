@@ -1,0 +1,6 @@
+#!/usr/bin/env bash
+# Runs the commands of docs/GUIDE.md in one folder and compares what they write with the guide: examples/guide.sh [PROGRAM]
+# PROGRAM stands in for ./bureau. Status 1: some output is another one.
+set -eu
+home=$(cd "$(dirname "$0")/.." && pwd)
+exec python3 "$home/bench/tour.py" --on "$home/docs/GUIDE.md" "$@"
