@@ -1,4 +1,4 @@
-# What the two timing scripts share. They source it: it builds the program and sets `here` and `program`.
+# What the scripts that run the program share. They source it: it builds the program and sets `here` and `program`.
 # The program keeps its journal in a folder in memory, so that no disk is timed; each run begins without one.
 here=$(cd "$(dirname "${BASH_SOURCE[0]}")" && pwd -P)
 program=$here/../crates/bureau_program/out/bureau_program

@@ -145,7 +145,7 @@ no_requests_due seen old new input none status text (batches_read batches is s t
 
 no_statement_due : (input : List ℕ) → IsNoStatementText input → (status : ℕ) (text : List ℕ) → IsCheckDue input status text → IsOneOf (6 ∷ 9 ∷ []) status
 no_statement_due input none status text no_statement_memory = inr (inl refl)
-no_statement_due input none status text (bad_statement line cause first is) = inl refl
+no_statement_due input none status text (bad_statement line why first cause is) = inl refl
 no_statement_due input none status text (judged cut outcome is v found) = absurd (none cut outcome is)
 
 not_greatest : (v : Verdict) → (FoundGreatest v → ⊥) → verdict_status v ≡ 1
@@ -166,7 +166,7 @@ found_zero (verdict.NotProved total limit) found = absurd found
 
 unproved_due : (input : List ℕ) → IsUnproved input → (status : ℕ) (text : List ℕ) → IsCheckDue input status text → IsOneOf (1 ∷ 9 ∷ []) status
 unproved_due input h status text no_statement_memory = inr (inl refl)
-unproved_due input h status text (bad_statement line cause first none) = absurd (none h.cut h.outcome h.stated)
+unproved_due input h status text (bad_statement line why first cause none) = absurd (none h.cut h.outcome h.stated)
 unproved_due input h status text (judged cut outcome is v found) =
     let cuts : cut ≡ h.cut = one_reading_law.cuts (lines input) cut h.cut outcome h.outcome is h.stated in
     let outcomes : outcome ≡ h.outcome = one_reading_law.outcomes (lines input) cut h.cut outcome h.outcome is h.stated in
@@ -373,7 +373,7 @@ run_one seen old new input status text (inr (inr (inr h))) = behind (5 ∷ 9 ∷
 
 check_one : (input : List ℕ) (status : ℕ) (text : List ℕ) → IsCheckDue input status text → IsOneOf (0 ∷ 1 ∷ 6 ∷ 9 ∷ []) status
 check_one input status text no_statement_memory = inr (inr (inr (inl refl)))
-check_one input status text (bad_statement line cause first none) = inr (inr (inl refl))
+check_one input status text (bad_statement line why first cause none) = inr (inr (inl refl))
 check_one input status text (judged cut outcome is v found) = judged_one v where
   judged_one : (v : Verdict) → IsOneOf (0 ∷ 1 ∷ 6 ∷ 9 ∷ []) (verdict_status v)
   judged_one (verdict.Greatest total) = inl refl
@@ -408,7 +408,7 @@ verdict_small (verdict.NotProved total limit) = omega arith
 
 unproved_of : (input : List ℕ) (status : ℕ) (text : List ℕ) → IsCheckDue input status text → status ≡ 1 → IsUnproved input
 unproved_of input status text no_statement_memory is = absurd (omega (arith, is))
-unproved_of input status text (bad_statement line cause first none) is = absurd (omega (arith, is))
+unproved_of input status text (bad_statement line why first cause none) is = absurd (omega (arith, is))
 unproved_of input status text (judged cut outcome stated v found) is = record {
   cut = cut;
   outcome = outcome;
@@ -418,7 +418,7 @@ unproved_of input status text (judged cut outcome stated v found) is = record {
 
 no_statement_of : (input : List ℕ) (status : ℕ) (text : List ℕ) → IsCheckDue input status text → status ≡ 6 → IsNoStatementText input
 no_statement_of input status text no_statement_memory is = absurd (omega (arith, is))
-no_statement_of input status text (bad_statement line cause first none) is = none
+no_statement_of input status text (bad_statement line why first cause none) is = none
 no_statement_of input status text (judged cut outcome stated v found) is = absurd (omega (arith, is, verdict_small v))
 
 audit_fault_of : (n : ℕ) → list_any (λ d. d == n) (0 ∷ 5 ∷ 9 ∷ []) ≡ false → (disk : Seen) (high status : ℕ) (text : List ℕ) → IsAuditDue disk.tells disk.reads disk.count high status text → status ≡ n → IsTrue disk.tells → HasAuditFault disk.reads n

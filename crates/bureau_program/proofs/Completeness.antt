@@ -110,7 +110,7 @@ module _ {D : Type 0} (seen : D → Seen) (old new : D) (batches : List (List Re
 
 check_ends : (input : List ℕ) (cut : CutView) (outcome : OutcomeView) → IsStatement (lines input) cut outcome → (status : ℕ) (text : List ℕ) → IsCheckDue input status text → Ends ReadFailed (IsJudged cut outcome) status text
 check_ends input cut outcome spelled status text no_statement_memory = no_room ReadFailed (IsJudged cut outcome) text
-check_ends input cut outcome spelled status text (bad_statement line cause first none) = absurd (none cut outcome spelled)
+check_ends input cut outcome spelled status text (bad_statement line why first cause none) = absurd (none cut outcome spelled)
 check_ends input cut outcome spelled status text (judged c o is verdict found) =
     subst (λ (k : CutView). Ends ReadFailed (IsJudged k outcome) status text) (one_reading_law.cuts (lines input) c cut o outcome is spelled)
     (subst (λ (p : OutcomeView). Ends ReadFailed (IsJudged c p) status text) (one_reading_law.outcomes (lines input) c cut o outcome is spelled) (inr (inr (verdict, found, refl, refl))))

@@ -10,9 +10,9 @@ use std::thread::Threads;
 // The header, and the record of the act `1 FIRM A`.
 const ONE_RECORD: &[u8] = b"BUREAUJ1\x01\x00\x00\x00\x07\x00\x00\x00\x01\x01\x01A\x00";
 
-// The same with the act `1 CONFIRM A I A`, which is refused.
-const REFUSED_RECORD: &[u8] =
-    b"BUREAUJ1\x01\x00\x00\x00\x0b\x00\x00\x00\x01\x03\x01A\x01I\x01A\x00";
+// The same with its record twice, of which the second is refused.
+const RECORD_TWICE: &[u8] =
+    b"BUREAUJ1\x01\x00\x00\x00\x07\x00\x00\x00\x01\x01\x01A\x01\x00\x00\x00\x07\x00\x00\x00\x01\x01\x01A\x00";
 
 // Three claims in a circle, and a Close: eleven acts, 262 bytes of a journal and 48 calls of a disk.
 pub(crate) const TRIANGLE: &[u8] =
@@ -64,7 +64,7 @@ type Case = (
 
 #[test]
 fn journals(rt: HostRuntime) -> Result<(), Fail> {
-    let cases: [Case; 13] = [
+    let cases: [Case; 14] = [
         ("run", b"", b"", 0, 0, b"", 9, 4),
         ("run", TRIANGLE, b"", 0, 0, TRIANGLE_DONE, 262, 48),
         ("run", TRIANGLE_TWICE, b"", 48, 5, PUBLISHED_LATER, 277, 58),
@@ -122,12 +122,22 @@ fn journals(rt: HostRuntime) -> Result<(), Fail> {
         (
             "run",
             b"",
-            REFUSED_RECORD,
+            RECORD_TWICE,
             0,
             8,
-            b"fault journal 8 refused 7 unknown-claim\n",
-            25,
+            b"fault journal 20 refused 1 firm-exists\n",
+            33,
             3,
+        ),
+        (
+            "audit",
+            b"",
+            RECORD_TWICE,
+            0,
+            1,
+            b"no 20 refused 1 firm-exists\n",
+            33,
+            2,
         ),
         ("run", b"", b"", 1, 5, b"fault device 0 1\n", 0, 1),
         (

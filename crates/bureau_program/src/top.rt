@@ -206,8 +206,8 @@ fn answer_words<
 /// `run` serves the batches of requests of the source on the disk's journal, the lanes of a batch side by side, and prints what
 /// came of each; `gate` is called round each line, and `pause` while a round is open and no turn is held. `check` judges the
 /// statement of the source, and `import` turns its invoices into requests of a lane. `audit` replays the journal, and `positions`
-/// and `notices` print the tables of its book, without writing to it. `trial` serves a round that is drawn from a number, on no disk of the
-/// caller's. No command calls a source or a disk that it does not need.
+/// and `notices` print the tables of its book, without writing to it. `trial` serves a round that is drawn from a number, on no disk
+/// of the caller's. No command calls a source or a disk that it does not need.
 /// Where none of them counts a fault, the input is in the grammar and the journal is sound, all of the text is written, or memory
 /// was missing. No line of `run` is full where there is room behind the journal for all requests of the input. The status is
 ///

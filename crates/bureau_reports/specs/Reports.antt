@@ -9,6 +9,7 @@ use Rattle.claim_history.specs.declared.entry.Entry.{Entry}
 use Rattle.claim_history.specs.Facts.{Ledger}
 use Rattle.claim_book.specs.Book.{ledger_of}
 use Rattle.statement_text.specs.declared.error.StatementCause.{StatementCause}
+use Rattle.statement_text.specs.Causes.{HasCause}
 use Rattle.statement_text.specs.Statements.{IsStatement, IsNoStatement, IsFirstBadLine}
 use Rattle.bureau_desk.specs.declared.desk_refused.DeskCause.{DeskCause}
 use Rattle.bureau_desk.specs.Opening.{HasViewCause, HasViewed}
@@ -22,7 +23,7 @@ use Rattle.printed_text.specs.Texts.{bad_row_text, bad_statement_text, verdict_t
 -- of a statement: the verdict on the one cut and outcome that it states
 pub data IsCheckDue (input : List ℕ) : ℕ → List ℕ → Type 0 where
   no_statement_memory : IsCheckDue input 9 (codes "fault memory\n")
-  bad_statement : (line : ℕ) (cause : StatementCause) → IsFirstBadLine (lines input) line → IsNoStatement (lines input) → IsCheckDue input 6 (bad_statement_text line cause)
+  bad_statement : (line : ℕ) (cause : StatementCause) → IsFirstBadLine (lines input) line → HasCause (lines input) line cause → IsNoStatement (lines input) → IsCheckDue input 6 (bad_statement_text line cause)
   judged : (cut : CutView) (outcome : OutcomeView) → IsStatement (lines input) cut outcome → (verdict : Verdict) → IsVerdict cut outcome verdict → IsCheckDue input (verdict_status verdict) (verdict_text cut verdict)
 
 -- the bytes are no invoices

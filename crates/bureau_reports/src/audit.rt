@@ -12,7 +12,8 @@ use disk_model::Disk;
 use printed_text::end_with;
 use std::alloc::Global;
 
-/// Replays the journal of a disk, and prints whether it is sound. It writes nothing to the disk.
+/// Replays the journal of a disk, and prints whether it is sound. It writes nothing to the disk. Gives the status: 0; 1 where an act is
+/// refused or full; 5, 8 or 9 where the disk was not read; 4 where the sink failed.
 #[tactic(none)]
 pub fn audit_disk<K: Sink, D: Disk>(alloc: Global, sink: &mut K, disk: &mut D) -> u8
     ensures wrote { Wrote (IsAuditDue (D.seen disk.old).tells (D.seen disk.old).reads (D.seen disk.old).count (D.seen disk.new).count) (K.held sink.old) (K.held sink.new) result }

@@ -2,6 +2,7 @@
 ghost use Rattle.std.specs.Prelude.{◌≡◌, ◌≢◌};
 ghost use Rattle.std.specs.Str.Lines.{lines};
 ghost use Rattle.fault_count.specs.Counts.{HasRisen};
+ghost use Rattle.statement_text.specs.Causes.{HasCause};
 ghost use Rattle.statement_text.specs.Statements as statements;
 ghost use Rattle.printed_text.specs.Writing.{Wrote};
 ghost use Rattle.bureau_reports.specs.Reports.{IsCheckDue};
@@ -47,6 +48,7 @@ fn tell_bad_statement<K: Sink>(
     sink: &mut K,
 ) -> u8
     requires first { statements.IsFirstBadLine (lines input.now) line }
+    requires cause { HasCause (lines input.now) line cause }
     requires none { statements.IsNoStatement (lines input.now) }
     ensures wrote { Wrote (IsCheckDue input.now) (K.held sink.old) (K.held sink.new) result }
     ensures write_fault { result ≡ 4 → HasRisen (K.faults sink.old) (K.faults sink.new) }
@@ -60,7 +62,8 @@ fn tell_bad_statement<K: Sink>(
     end_with(sink, 6, buffer.as_slice())
 }
 
-/// Reads a statement from an input, judges it, and prints the verdict.
+/// Reads a statement from an input, judges it, and prints the verdict. Gives the status: that of the verdict, 0 or 1; 6 where the
+/// input is no statement; 9 where memory was missing; 4 where the sink failed.
 pub fn check_input<K: Sink>(alloc: Global, input: &[u8], sink: &mut K) -> u8
     ensures wrote { Wrote (IsCheckDue input.now) (K.held sink.old) (K.held sink.new) result }
     ensures write_fault { result ≡ 4 → HasRisen (K.faults sink.old) (K.faults sink.new) }

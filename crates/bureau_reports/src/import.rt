@@ -33,7 +33,8 @@ fn tell_bad_row<K: Sink>(
     end_with(sink, 6, buffer.as_slice())
 }
 
-/// Reads invoices from an input, and prints the lines of a lane that file them. The lane is 1 to 16.
+/// Reads invoices from an input, and prints the lines of a lane that file them. The lane is 1 to 16. Gives the status: 0; 6 where the
+/// input is no invoices; 9 where memory was missing; 4 where the sink failed.
 pub fn import_input<K: Sink>(alloc: Global, input: &[u8], lane: u32, sink: &mut K) -> u8
     requires { IsLane lane }
     ensures wrote { Wrote (IsImportDue lane input.now) (K.held sink.old) (K.held sink.new) result }

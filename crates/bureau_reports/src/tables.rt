@@ -49,7 +49,8 @@ fn print_book<K: Sink>(alloc: Global, table: Table, book: &Book, sink: &mut K) -
     }
 }
 
-/// Prints a table of the book of a disk's journal. It writes nothing to the disk.
+/// Prints a table of the book of a disk's journal. It writes nothing to the disk. Gives the status: 0; 5, 8 or 9 where the disk holds no
+/// sound journal or was not read; 4 where the sink failed.
 #[tactic(none)]
 pub fn print_table<K: Sink, D: Disk>(alloc: Global, table: Table, sink: &mut K, disk: &mut D) -> u8
     ensures wrote { Wrote (IsTableDue (table_text table) (D.seen disk.old).tells (D.seen disk.old).reads (D.seen disk.old).count (D.seen disk.new).count) (K.held sink.old) (K.held sink.new) result }

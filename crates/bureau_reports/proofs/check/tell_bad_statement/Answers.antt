@@ -11,4 +11,4 @@ returns-in_default-clause-wrote g c = wrote_line (IsCheckDue c.args.input.now) _
 pub returns-clause-wrote : goal.returns-clause-wrote
 returns-clause-wrote g c =
     let said : c.as_slice.result.now ≡ bad_statement_text c.args.line c.args.cause = c.as_slice.ensures.value ∙ c.write_bad_statement.ensures.text ∙ ap (λ (t : List ℕ). t ++ bad_statement_text c.args.line c.args.cause) c.in-Ok.ensures.items in
-    wrote_text (IsCheckDue c.args.input.now) _ _ 6 (bad_statement_text c.args.line c.args.cause) c.as_slice.result.now _ (bad_statement c.args.line c.args.cause c.requires.first c.requires.none) said c.end_with-2.ensures.written
+    wrote_text (IsCheckDue c.args.input.now) _ _ 6 (bad_statement_text c.args.line c.args.cause) c.as_slice.result.now _ (bad_statement c.args.line c.args.cause c.requires.first c.requires.cause c.requires.none) said c.end_with-2.ensures.written

@@ -1,0 +1,66 @@
+#!/usr/bin/env bash
+# Times the commands on a full book: bench/commands.sh
+# Prints the milliseconds of `import` of 262,144 invoices beside Python's csv module on the same file, which checks the same fields and
+# writes the same lines; of an `audit`, `positions` and `notices` of a book of 16,384 firms and 262,144 claims; and of
+# `trial 16384 262144 1`, with its peak memory. Each is the least of three. The journal is in memory. Run by hand.
+set -euo pipefail
+
+. "$(dirname "$0")/program.sh"
+python3 - "$program" <<'PYTHON'
+import datetime
+import re
+import subprocess
+import sys
+import time
+
+program = sys.argv[1]
+FIRMS, CLAIMS = 16_384, 262_144
+
+with open("invoices.csv", "w") as rows:
+    rows.write("creditor,invoice,debtor,amount,due\n")
+    for claim in range(1, CLAIMS + 1):
+        debtor = claim % FIRMS
+        cents = claim * 48_271 % 999_983 + 1
+        rows.write(f"F-{(debtor + 1) % FIRMS + 1},I-{claim},F-{debtor + 1},{cents // 100}.{cents % 100:02},2025-{claim % 12 + 1:02}-{claim % 28 + 1:02}\n")
+
+with open("reader.py", "w") as reader:
+    reader.write(r'''
+import csv, datetime, re, sys
+NAME, AMOUNT = re.compile("[A-Z][A-Z0-9-]{0,15}"), re.compile("(0|[1-9][0-9]{0,9})[.][0-9]{2}")
+rows = csv.reader(sys.stdin)
+assert next(rows) == ["creditor", "invoice", "debtor", "amount", "due"]
+for creditor, invoice, debtor, amount, due in rows:
+    assert NAME.fullmatch(creditor) and NAME.fullmatch(invoice) and NAME.fullmatch(debtor) and AMOUNT.fullmatch(amount) and amount != "0.00"
+    datetime.date.fromisoformat(due)
+    sys.stdout.write(f"1 FILE {creditor} {invoice} {debtor} {amount} {due}\n")
+''')
+
+
+def least(words, source, target, times=3):
+    spent = []
+    for _ in range(times):
+        with open(source) as given, open(target, "w") as taken:
+            began = time.perf_counter()
+            subprocess.run(words, stdin=given, stdout=taken, check=True)
+            spent.append(time.perf_counter() - began)
+    return min(spent) * 1000
+
+
+ours = least([program, "import", "1"], "invoices.csv", "filed")
+theirs = least([sys.executable, "reader.py"], "invoices.csv", "filed.python")
+assert open("filed").read() == open("filed.python").read()
+print(f"import {ours:.0f} ms, Python's csv {theirs:.0f} ms, quotient {ours / theirs:.2f}")
+
+with open("filed") as filed, open("requests", "w") as requests:
+    for firm in range(1, FIRMS + 1):
+        requests.write(f"1 FIRM F-{firm}\n")
+    for line in filed:
+        requests.write(line)
+        _, _, creditor, invoice, debtor, _, _ = line.split()
+        requests.write(f"1 CONFIRM {creditor} {invoice} {debtor}\n")
+with open("requests") as requests:
+    subprocess.run([program, "run"], stdin=requests, stdout=subprocess.DEVNULL, check=True)
+for words in (["audit"], ["positions"], ["notices", "2026-01-10"]):
+    print(f"{words[0]} {least([program, *words], '/dev/null', 'table'):.0f} ms")
+PYTHON
+/usr/bin/time -f 'trial: %e s, %U s of the processor, %M KB at its peak' "$program" trial 16384 262144 1
