@@ -37,7 +37,9 @@ use command_words::USAGE;
 use disk_model::FileDisk;
 use std::alloc::AllocError;
 use std::env;
-use std::io::ErrorKind;
+use std::fs::File;
+use std::io::{self, ErrorKind};
+use std::path::Path;
 use std::process::ExitCode;
 pub use top::{Ended, bureau, without_words};
 
@@ -62,7 +64,19 @@ fn journal(rt: &HostRuntime) -> Result<String, AllocError> {
     String::from_str(rt.alloc(), "bureau.journal")
 }
 
+// Puts a folder, of which nothing is read or written as a stream, in the place of each standard stream that is closed. Else the
+// system would give the number of one to the journal, and what is printed would be written over it.
+fn stand_ins(rt: &HostRuntime) -> [io::Result<File>; 3] {
+    let folder = Path::new("/");
+    [
+        File::open(rt, folder),
+        File::open(rt, folder),
+        File::open(rt, folder),
+    ]
+}
+
 fn main(rt: HostRuntime) -> ExitCode {
+    let _held = stand_ins(&rt);
     let source = StandardIn::new(&rt);
     let sink = StandardOut::new(&rt);
     let status = match (words(&rt), journal(&rt)) {
