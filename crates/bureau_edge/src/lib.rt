@@ -7,7 +7,7 @@
 //! - `SureSource`, `BytesSource` and `BytesSink` are in memory and tell their bytes. The last two fail at the calls that they are
 //!   told to fail at.
 //! - `StandardIn` and `StandardOut` are the streams of the process, by the runtime's reader and writer. A call that a signal
-//!   interrupts is made again, up to 64 times. The output is flushed in each call, and tells no bytes: what a flush that
+//!   interrupts is made again, up to 64 calls in all. The output is flushed in each call, and tells no bytes: what a flush that
 //!   failed has left is not known.
 //! - `read_whole` reads all that is left, up to a limit. `write_all` writes a whole piece, or a front of it where it fails.
 #![tactic(auto)]

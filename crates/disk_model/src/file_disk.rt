@@ -13,7 +13,7 @@ use std::rt::Files;
 
 /// A file of the operating system. It tells no bytes, since no clause knows what a system's file holds. Contracts see
 /// the count of its faults: each call that fails adds one. A read or a write that a signal interrupts is made again, up
-/// to 64 times.
+/// to 64 calls in all.
 ///
 /// The first length or read takes the system's lock on the file, shared with others that read. The first write or sync
 /// takes it whole. A lock that another program holds is a fault, and no call waits for it. The locks end with this value.
@@ -83,7 +83,8 @@ impl<R: Files<File = File>> Disk for FileDisk<'_, R> {
         }
     }
 
-    /// Brings the file to the medium, and, once, its name in the folder. An error of the system is a fault.
+    /// Brings the bytes of the file and its length to the medium, and, once, its name in the folder. An error of the
+    /// system is a fault.
     fn sync(&mut self) -> Result<(), DiskFailed> {
         match self.file.sync() {
             Ok(()) => Ok(()),

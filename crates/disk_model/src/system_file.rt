@@ -2,14 +2,12 @@
 ghost use Rattle.std.specs.Prelude.{◌+◌, ◌^◌, ◌<◌, length};
 ghost use Rattle.std.specs.Io.{ReadsAtMost, WritesAtMost};
 
+use fault_count::MOST_CALLS;
 use std::fs::{File, OpenOptions};
 use std::io::{self, ErrorKind};
 use std::os::unix::fs::FileExt;
 use std::path::Path;
 use std::rt::Files;
-
-// How often an interrupted call is made before the interruption counts as a fault.
-const TRIES: u32 = 64;
 
 /// A file of the system, by its path. It is opened at its first call, and made at its first write where it is missing.
 #[derive(Drop)]
@@ -77,9 +75,12 @@ impl<'a, R: Files<File = File>> SystemFile<'a, R> {
     }
 
     /// Brings the file to the medium, and, once, its name in the folder.
+    ///
+    /// Of the file these are its bytes, and its length where that changed: all that a later read needs. Its times may be
+    /// left behind, so a byte that was written over in place costs no change of what the file system keeps of the file.
     pub(crate) fn sync(&mut self) -> io::Result<()> {
         if let Some(file) = self.whole()? {
-            file.sync_all()?;
+            file.sync_data()?;
         }
         if !self.in_folder {
             File::open(self.rt, folder_of(&self.path))?.sync_all()?;
@@ -179,11 +180,11 @@ fn folder_of(path: &str) -> Path<'_> {
     }
 }
 
-// One read, again where a signal interrupts it.
+// One read, again where a signal interrupts it, `MOST_CALLS` times in all.
 fn read_again(file: &File, into: &mut [u8], at: u64) -> io::Result<usize>
     ensures { ReadsAtMost result into.new }
 {
-    for _ in 1..TRIES {
+    for _ in 1..MOST_CALLS {
         match file.read_at(into, at) {
             Err(error) if error.kind() == ErrorKind::Interrupted => {}
             answer => return answer,
@@ -192,11 +193,11 @@ fn read_again(file: &File, into: &mut [u8], at: u64) -> io::Result<usize>
     file.read_at(into, at)
 }
 
-// One write, again where a signal interrupts it.
+// One write, again where a signal interrupts it, `MOST_CALLS` times in all.
 fn write_again(file: &File, piece: &[u8], at: u64) -> io::Result<usize>
     ensures { WritesAtMost result piece.now }
 {
-    for _ in 1..TRIES {
+    for _ in 1..MOST_CALLS {
         match file.write_at(piece, at) {
             Err(error) if error.kind() == ErrorKind::Interrupted => {}
             answer => return answer,
