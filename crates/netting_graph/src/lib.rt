@@ -16,6 +16,3 @@ pub use arc::Arc;
 pub use laws::merging_keeps_setoffs;
 pub use net::Net;
 pub use spreading::spread;
-
-#[cfg(test)]
-mod tests;

@@ -10,6 +10,3 @@ mod certifying;
 
 pub use certificate::outcome_of;
 pub use certifying::certified;
-
-#[cfg(test)]
-mod tests;

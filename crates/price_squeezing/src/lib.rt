@@ -9,6 +9,3 @@ mod levels;
 mod squeezing;
 
 pub use squeezing::squeeze;
-
-#[cfg(test)]
-mod tests;

@@ -13,6 +13,3 @@ pub use laws::{
     raise_exists, raises_keep_facts, rest_proves, squeezing_keeps_facts, surplus_falls,
     walks_differ,
 };
-
-#[cfg(test)]
-mod tests;

@@ -38,6 +38,3 @@ pub use outcome::{Outcome, sum_of, total};
 pub use same::{same_keys, same_names};
 pub use text::{each_text_has_one_value, put, write_cents, write_number, write_signed};
 pub use window::windows_follow_balances;
-
-#[cfg(test)]
-mod tests;

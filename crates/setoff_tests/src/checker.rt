@@ -1,46 +1,8 @@
-use crate::{Checked, Checker, Refusal, Verdict};
-use setoff_model::{Cut, CutClaim, Key, Kind, Name, Outcome, Party};
+//! Verdicts on outcomes, and what is certified.
+use crate::cuts::{TRIANGLE, claim, funded_chain, party, three_firms, triangle};
+use setoff_checker::{Checked, Checker, Refusal, Verdict};
+use setoff_model::{Cut, Kind, Name, Outcome};
 use std::alloc::{AllocError, Global};
-
-fn party(firm: Name, spend: u64, room: u64) -> Party {
-    Party { firm, spend, room }
-}
-
-fn claim(creditor: Name, debtor: u32, place: u32, amount: u64) -> CutClaim {
-    CutClaim {
-        key: Key {
-            creditor,
-            invoice: creditor,
-        },
-        debtor,
-        creditor: place,
-        amount,
-    }
-}
-
-// A owes B 10.00, B owes C 7.00, and C owes A 12.00.
-fn triangle(alloc: Global, firms: [Name; 3]) -> Result<Cut, AllocError> {
-    let [a, b, c] = firms;
-    let parties = vec![in alloc; party(a, 0, 0), party(b, 0, 0), party(c, 0, 0)]?;
-    let claims = vec![in alloc;
-        claim(b, 0, 1, 1000),
-        claim(c, 1, 2, 700),
-        claim(a, 2, 0, 1200),
-    ]?;
-    Ok(Cut::new(1, Kind::Plain, parties, claims))
-}
-
-// A owes B 100.00, and B owes C 100.00. A may spend 60.00.
-fn chain(alloc: Global, firms: [Name; 3], last_room: u64) -> Result<Cut, AllocError> {
-    let [a, b, c] = firms;
-    let parties = vec![in alloc;
-        party(a, 6000, 999_999_999_994_000),
-        party(b, 0, 1_000_000_000_000_000),
-        party(c, 0, last_room),
-    ]?;
-    let claims = vec![in alloc; claim(b, 0, 1, 10_000), claim(c, 1, 2, 10_000)]?;
-    Ok(Cut::new(1, Kind::Funded, parties, claims))
-}
 
 // None where the cut is not well formed.
 fn verdict_on(
@@ -59,10 +21,8 @@ fn verdict_on(
 
 #[test]
 fn judges_a_triangle(rt: HostRuntime) {
-    let a = Name::of(b"A").expect(&rt, "a name");
-    let b = Name::of(b"B").expect(&rt, "a name");
-    let c = Name::of(b"C").expect(&rt, "a name");
-    let cut = triangle(rt.alloc(), [a, b, c]).expect(&rt, "memory");
+    let firms = three_firms().expect(&rt, "names");
+    let cut = triangle(rt.alloc(), firms, TRIANGLE).expect(&rt, "memory");
     let cases: [(&[u64], &[i64], Verdict); 9] = [
         (
             &[700, 700, 700],
@@ -118,16 +78,14 @@ fn judges_a_triangle(rt: HostRuntime) {
 fn open_chain(alloc: Global, firms: [Name; 3]) -> Result<Cut, AllocError> {
     let [a, b, c] = firms;
     let parties = vec![in alloc; party(a, 0, 0), party(b, 0, 0), party(c, 0, 0)]?;
-    let claims = vec![in alloc; claim(b, 0, 1, 10_000), claim(c, 1, 2, 10_000)]?;
+    let claims = vec![in alloc; claim(b, a, 0, 1, 10_000), claim(c, a, 1, 2, 10_000)]?;
     Ok(Cut::new(1, Kind::Plain, parties, claims))
 }
 
 #[test]
 fn a_chain_without_a_cycle_discharges_nothing(rt: HostRuntime) {
-    let a = Name::of(b"A").expect(&rt, "a name");
-    let b = Name::of(b"B").expect(&rt, "a name");
-    let c = Name::of(b"C").expect(&rt, "a name");
-    let cut = open_chain(rt.alloc(), [a, b, c]).expect(&rt, "memory");
+    let firms = three_firms().expect(&rt, "names");
+    let cut = open_chain(rt.alloc(), firms).expect(&rt, "memory");
     let cases: [(&[u64], Verdict); 2] = [
         (&[0, 0], Verdict::Greatest { total: 0 }),
         (&[10_000, 10_000], Verdict::OutsideWindow { party: 0 }),
@@ -140,14 +98,12 @@ fn a_chain_without_a_cycle_discharges_nothing(rt: HostRuntime) {
 
 #[test]
 fn judges_a_funded_chain(rt: HostRuntime) {
-    let a = Name::of(b"A").expect(&rt, "a name");
-    let b = Name::of(b"B").expect(&rt, "a name");
-    let c = Name::of(b"C").expect(&rt, "a name");
+    let firms = three_firms().expect(&rt, "names");
     for (last_room, want) in [
         (1_000_000_000_000_000, Verdict::Greatest { total: 12_000 }),
         (5000, Verdict::OutsideWindow { party: 2 }),
     ] {
-        let cut = chain(rt.alloc(), [a, b, c], last_room).expect(&rt, "memory");
+        let cut = funded_chain(rt.alloc(), firms, last_room).expect(&rt, "memory");
         let got = verdict_on(rt.alloc(), &cut, &[6000, 6000], &[-2, -1, 0]).expect(&rt, "memory");
         assert!(rt; got == Some(want));
     }
@@ -159,7 +115,7 @@ fn certified(
     firms: [Name; 3],
     discharge: u64,
 ) -> Result<Option<Result<Checked, Refusal>>, AllocError> {
-    let cut = triangle(alloc, firms)?;
+    let cut = triangle(alloc, firms, TRIANGLE)?;
     if !cut.well_formed() {
         return Ok(None);
     }
@@ -171,10 +127,8 @@ fn certified(
 
 #[test]
 fn certifies_a_triangle(rt: HostRuntime) {
-    let a = Name::of(b"A").expect(&rt, "a name");
-    let b = Name::of(b"B").expect(&rt, "a name");
-    let c = Name::of(b"C").expect(&rt, "a name");
-    let kept = certified(rt.alloc(), [a, b, c], 700).expect(&rt, "memory");
+    let firms = three_firms().expect(&rt, "names");
+    let kept = certified(rt.alloc(), firms, 700).expect(&rt, "memory");
     match kept {
         Some(Ok(checked)) => {
             assert!(rt; checked.cut().claims().len() == 3);
@@ -188,10 +142,8 @@ fn certifies_a_triangle(rt: HostRuntime) {
 
 #[test]
 fn refuses_a_smaller_total(rt: HostRuntime) {
-    let a = Name::of(b"A").expect(&rt, "a name");
-    let b = Name::of(b"B").expect(&rt, "a name");
-    let c = Name::of(b"C").expect(&rt, "a name");
-    let refused = certified(rt.alloc(), [a, b, c], 600).expect(&rt, "memory");
+    let firms = three_firms().expect(&rt, "names");
+    let refused = certified(rt.alloc(), firms, 600).expect(&rt, "memory");
     let want = Verdict::NotProved {
         total: 1800,
         bound: 2100,

@@ -1,8 +1,10 @@
+//! Claims merged to arcs, and flows spread over claims.
 ghost use Rattle.std.specs.Prelude.{◌≡◌, ◌<◌, ◌≤◌, ℕ, IsTrue, length, slice_index};
 ghost use Rattle.netting_graph.specs.NetView.{arc_amounts};
 
-use crate::{Arc, Net, merging_keeps_setoffs, spread};
-use setoff_model::{Cut, CutClaim, Key, Kind, Name, Party};
+use crate::cuts::{both_ways, claim, numbered, party, three_firms};
+use netting_graph::{Arc, Net, merging_keeps_setoffs, spread};
+use setoff_model::{Cut, CutClaim, Kind, Party};
 use std::alloc::{AllocError, Global};
 
 // Whether each flow is at most its arc's amount.
@@ -42,41 +44,11 @@ fn arcs_of(alloc: Global, cut: &Cut) -> Result<Option<Vec<Arc>>, AllocError> {
     Ok(Some(net.arcs().to_vec(alloc)?))
 }
 
-fn party(firm: Name) -> Party {
-    Party {
-        firm,
-        spend: 0,
-        room: 0,
-    }
-}
-
-fn claim(creditor: Name, invoice: Name, debtor: u32, place: u32, amount: u64) -> CutClaim {
-    CutClaim {
-        key: Key { creditor, invoice },
-        debtor,
-        creditor: place,
-        amount,
-    }
-}
-
-// A owes B 4.00 and then 9.00, and B owes A 6.00.
-fn both_ways(alloc: Global, firms: [Name; 2]) -> Result<Cut, AllocError> {
-    let [a, b] = firms;
-    let parties = vec![in alloc; party(a), party(b)]?;
-    let claims = vec![in alloc;
-        claim(b, a, 0, 1, 400),
-        claim(b, b, 0, 1, 900),
-        claim(a, a, 1, 0, 600),
-    ]?;
-    Ok(Cut::new(1, Kind::Plain, parties, claims))
-}
-
 #[test]
 fn merges_and_spreads_both_ways(rt: HostRuntime) {
     merging_keeps_setoffs();
-    let a = Name::of(b"A").expect(&rt, "a name");
-    let b = Name::of(b"B").expect(&rt, "a name");
-    let cut = both_ways(rt.alloc(), [a, b]).expect(&rt, "memory");
+    let firms = three_firms().expect(&rt, "names");
+    let cut = both_ways(rt.alloc(), firms).expect(&rt, "memory");
     let arcs = arcs_of(rt.alloc(), &cut)
         .expect(&rt, "memory")
         .expect(&rt, "a cut");
@@ -109,26 +81,20 @@ fn the_empty_cut(rt: HostRuntime) {
     assert!(rt; discharges.expect(&rt, "flows that fit").is_empty());
 }
 
-// The name of this letter and three digits of the number.
-fn numbered(letter: u8, number: u32) -> Option<Name> {
-    let digit = |unit: u32| b'0' + (number / unit % 10) as u8;
-    Name::of(&[letter, digit(100), digit(10), digit(1)])
-}
-
 // A claim by a fixed rule, between two of seven firms.
 fn ruled_claim(number: u32) -> Option<CutClaim> {
     let debtor = number / 3 % 7;
     let creditor = (debtor + 1 + number % 6) % 7;
     let amount = 1 + u64::from(number % 101 * 37 % 101);
-    let firm = numbered(b'F', creditor)?;
-    let invoice = numbered(b'I', number)?;
+    let firm = numbered(b'F', creditor as usize)?;
+    let invoice = numbered(b'I', number as usize)?;
     Some(claim(firm, invoice, debtor, creditor, amount))
 }
 
 fn ruled_parties(alloc: Global) -> Option<Vec<Party>> {
     let mut parties = Vec::new(alloc);
     for number in 0..7 {
-        parties.push(party(numbered(b'F', number)?)).ok()?;
+        parties.push(party(numbered(b'F', number)?, 0, 0)).ok()?;
     }
     Some(parties)
 }

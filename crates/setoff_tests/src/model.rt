@@ -1,8 +1,10 @@
-use crate::limits::{MOST_AMOUNT, MOST_CLAIMS};
-use crate::{
-    Cut, CutClaim, Key, Kind, Name, Outcome, Party, put, read_amount, read_kind, read_number,
-    read_price, read_sum, slackness, squeezing_keeps_proofs, sum_of, total, weak_duality,
-    windows_follow_balances, write_cents, write_number, write_signed,
+//! Names, the fields of texts, cuts and outcomes.
+use crate::cuts::{TRIANGLE, three_firms, triangle};
+use setoff_model::limits::{MOST_AMOUNT, MOST_CLAIMS};
+use setoff_model::{
+    Key, Kind, Name, Outcome, put, read_amount, read_kind, read_number, read_price, read_sum,
+    slackness, squeezing_keeps_proofs, sum_of, total, weak_duality, windows_follow_balances,
+    write_cents, write_number, write_signed,
 };
 use std::alloc::{AllocError, Global};
 
@@ -65,43 +67,16 @@ fn texts(rt: HostRuntime) {
     assert!(rt; buffer.as_slice() == b"29.05 -0.07 -5".as_slice());
 }
 
-fn claim(creditor: Name, invoice: Name, debtor: u32, place: u32, amount: u64) -> CutClaim {
-    CutClaim {
-        key: Key { creditor, invoice },
-        debtor,
-        creditor: place,
-        amount,
-    }
-}
-
-fn plain_cut(alloc: Global, firms: [Name; 3], amounts: [u64; 3]) -> Result<Cut, AllocError> {
-    let [a, b, c] = firms;
-    let mut parties = Vec::new(alloc);
-    for firm in firms {
-        parties.push(Party {
-            firm,
-            spend: 0,
-            room: 0,
-        })?;
-    }
-    let mut claims = Vec::new(alloc);
-    claims.push(claim(b, a, 0, 1, amounts[0]))?;
-    claims.push(claim(c, a, 1, 2, amounts[1]))?;
-    claims.push(claim(a, a, 2, 0, amounts[2]))?;
-    Ok(Cut::new(1, Kind::Plain, parties, claims))
-}
-
 #[test]
 fn triangle_is_well_formed(rt: HostRuntime) {
-    let a = Name::of(b"A").expect(&rt, "a name");
-    let b = Name::of(b"B").expect(&rt, "a name");
-    let c = Name::of(b"C").expect(&rt, "a name");
-    let cut = plain_cut(rt.alloc(), [a, b, c], [1000, 700, 1200]).expect(&rt, "memory");
+    let firms = three_firms().expect(&rt, "names");
+    let cut = triangle(rt.alloc(), firms, TRIANGLE).expect(&rt, "memory");
     assert!(rt; cut.well_formed() && cut.round() == 1 && cut.kind() == Kind::Plain);
     assert!(rt; cut.parties().len() == 3 && cut.claims().len() == 3);
-    let twice = plain_cut(rt.alloc(), [a, b, b], [1000, 700, 1200]).expect(&rt, "memory");
+    let [a, b, _] = firms;
+    let twice = triangle(rt.alloc(), [a, b, b], TRIANGLE).expect(&rt, "memory");
     assert!(rt; !twice.well_formed());
-    let nothing = plain_cut(rt.alloc(), [a, b, c], [1000, 700, 0]).expect(&rt, "memory");
+    let nothing = triangle(rt.alloc(), firms, [1000, 700, 0]).expect(&rt, "memory");
     assert!(rt; !nothing.well_formed());
 }
 

@@ -1,4 +1,5 @@
-use crate::squeeze;
+//! Prices without gaps.
+use price_squeezing::squeeze;
 use std::alloc::{AllocError, Global};
 
 #[test]
