@@ -16,8 +16,11 @@ use crate::state::State;
 /// More flow along an arc, or less where it goes against it.
 #[derive(Clone, Copy, Debug)]
 pub struct Push {
+    /// The place of the arc among the arcs of the state.
     pub arc: u32,
+    /// Whether its flow grows by the amount, and does not fall by it.
     pub along: bool,
+    /// The cents of the push.
     pub amount: u64,
 }
 

@@ -15,14 +15,20 @@ use std::alloc::{AllocError, Global};
 /// one from each party to the ground. The excess of a node is what it has beyond what it owes.
 #[derive(Debug, Drop)]
 pub struct State {
+    /// The arcs: those of the net, and then one from each party to the ground.
     pub edges: Vec<Edge>,
+    /// The arcs of each node.
     pub around: Around,
+    /// The flow of each arc in cents, at most its capacity.
     pub flows: Vec<u64>,
+    /// The excess of each node in cents; less than 0 where it wants more than it has.
     pub excess: Vec<i128>,
+    /// The price of each party. That of the ground is 0.
     pub prices: Vec<i64>,
 }
 
-/// The state at the beginning: each claim is discharged whole, no balance changes, and the prices are 0.
+/// The state at the beginning: each claim is discharged whole, no balance changes, and the prices are 0. The one error is want of
+/// memory.
 pub fn state_at_start(alloc: Global, net: &Net) -> Result<State, AllocError>
     ensures { IfOk result (IsStateOf (obligations_of_net net.now)) }
 {
