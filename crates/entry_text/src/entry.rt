@@ -156,9 +156,10 @@ fn write_refusal(buffer: &mut Vec<u8>, why: Why)
     write_numbers(buffer, why);
 }
 
-/// Writes the text of a reply into a buffer that has room.
+/// Writes the text of a reply, which takes at most 90 bytes. The caller gives 90 bytes of room behind what the buffer has, and so
+/// there is no error.
 ///
-/// The amounts of a position, and the total of a publication, are below 10^18 cents in size. The text takes at most 90 bytes.
+/// The amounts of a position, and the total of a publication, are below 10^18 cents in size.
 pub fn write_reply(buffer: &mut Vec<u8>, reply: &Reply)
     requires range { IsReplyInRange reply.now }
     requires spare { vec_len buffer.old + 90 ≤ vec_capacity buffer.old }
