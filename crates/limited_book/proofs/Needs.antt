@@ -17,7 +17,7 @@ use Rattle.claim_history.proofs.Replies.{opens}
 use Rattle.limited_book.specs.declared.room.Room.{Room}
 use Rattle.limited_book.specs.declared.room.Room.TheVariants.{Entries, Bytes}
 use Rattle.limited_book.specs.declared.full.Full.{Full}
-use Rattle.limited_book.specs.Limited.{IsFull, IsOver, is_over, is_over_one, lacks, needed_of, number_of, round_after}
+use Rattle.limited_book.specs.Limited.{IsFull, IsOver, is_over, is_over_one, lacks, needed_of, entries_or_bytes, round_after}
 
 -- ---- an act that opens no round
 
@@ -79,14 +79,14 @@ lacks_is : (what : Room) (history : List Entry) (caller : ℕ) (a : Act) → lac
 lacks_is Entries history caller a = refl
 lacks_is Bytes history caller a = refl
 
-needed_is : (what : Room) (history : List Entry) (caller : ℕ) (a : Act) → needed_of what history caller a ≡ number_of what (needed_entries_of history caller a) (needed_bytes_of history caller a)
+needed_is : (what : Room) (history : List Entry) (caller : ℕ) (a : Act) → needed_of what history caller a ≡ entries_or_bytes what (needed_entries_of history caller a) (needed_bytes_of history caller a)
 needed_is Entries history caller a = refl
 needed_is Bytes history caller a = refl
 
 full_is : (history : List Entry) (caller : ℕ) (a : Act) (entries bytes : ℕ) (full : Full) → entries ≡ needed_entries_of history caller a → bytes ≡ needed_bytes_of history caller a → IsOver entries bytes full → IsFull history caller a full
 full_is history caller a entries bytes full e f over = record {
   lacks_it = lacks_is full.what history caller a ∙ ap₂ (is_over full.what) (sym e) (sym f) ∙ over.over;
-  needed = over.needed ∙ ap₂ (number_of full.what) e f ∙ sym (needed_is full.what history caller a);
+  needed = over.needed ∙ ap₂ (entries_or_bytes full.what) e f ∙ sym (needed_is full.what history caller a);
   limit = over.limit;
 }
 

@@ -9,8 +9,9 @@ ghost use Rattle.claim_history.specs.States.{state_of};
 ghost use Rattle.claim_history.specs.History.{answer_of, IsLegal, AreValid, MayFollow, is_opening, is_no_refusal};
 ghost use Rattle.claim_history.specs.Acts.{is_valid, is_publication};
 ghost use Rattle.claim_history.specs.Needs.{used_entries_of, used_bytes_of, endings_entries, endings_bytes, Fits, is_full, IsWithinLimits};
+ghost use Rattle.act_bodies.specs.Bodies.{most_body};
 ghost use Rattle.claim_book.specs.Book.{ledger_of, room_for, room_needed, KeepsRoom, GivesCut};
-ghost use Rattle.limited_book.specs.Limited.{IsFull, round_after, ends_round as ends};
+ghost use Rattle.limited_book.specs.Limited.{IsFull, round_after, is_ending_reply};
 
 use crate::full::{Full, within_limits};
 use crate::need::{Need, endings_of, own_bytes, use_of};
@@ -153,9 +154,9 @@ impl LimitedBook {
         ensures entries { result.entries ≡ endings_entries (round_after reply (state_of self.now.history).open_round) }
         ensures bytes { result.bytes ≡ endings_bytes (round_after reply (state_of self.now.history).open_round) }
         ensures two { result.entries ≤ 2 }
-        ensures few { result.bytes ≤ 2162720 }
+        ensures few { result.bytes ≤ most_body + 15 }
     {
-        if ends_round(reply) {
+        if is_ending(reply) {
             return Need {
                 entries: 0,
                 bytes: 0,
@@ -169,7 +170,7 @@ impl LimitedBook {
         ensures entries { result.entries ≡ endings_entries (state_of self.now.history).open_round }
         ensures bytes { result.bytes ≡ endings_bytes (state_of self.now.history).open_round }
         ensures two { result.entries ≤ 2 }
-        ensures few { result.bytes ≤ 2162720 }
+        ensures few { result.bytes ≤ most_body + 15 }
     {
         open_cut_is_well_formed();
         let _used = self.used();
@@ -273,8 +274,8 @@ impl LimitedBook {
     }
 }
 
-fn ends_round(reply: Reply) -> bool
-    ensures { result ≡ ends reply }
+fn is_ending(reply: Reply) -> bool
+    ensures { result ≡ is_ending_reply reply }
 {
     matches!(reply, Reply::Published { .. } | Reply::Abandoned { .. })
 }

@@ -2,6 +2,7 @@
 ghost use Rattle.std.specs.Prelude.{◌≡◌, ◌+◌, ◌*◌, ◌≤◌, length, true, if◌then◌else◌};
 ghost use Rattle.setoff_model.specs.CutView.{WellFormed};
 ghost use Rattle.claim_history.specs.Acts.{is_valid};
+ghost use Rattle.act_bodies.specs.Bodies.{most_body};
 ghost use Rattle.claim_history.specs.Needs.{is_counted, is_of_device, own_bytes as bytes_of};
 
 use act_bodies::body_length;
@@ -19,7 +20,7 @@ pub(crate) struct Need {
 pub(crate) fn own_bytes(act: &Act, reply: Reply) -> u64
     requires { is_valid act.now ≡ true }
     ensures bytes { result ≡ bytes_of act.now reply }
-    ensures few { result ≤ 2162710 }
+    ensures few { result ≤ most_body + 5 }
 {
     match reply {
         Reply::Refused(_) => 0,
@@ -33,7 +34,7 @@ pub(crate) fn use_of(entry: &Entry) -> Need
     ensures entries { result.entries ≡ (if is_counted entry.now then 1 else 0) }
     ensures bytes { result.bytes ≡ bytes_of entry.now.act entry.now.reply }
     ensures one { result.entries ≤ 1 }
-    ensures few { result.bytes ≤ 2162710 }
+    ensures few { result.bytes ≤ most_body + 5 }
 {
     let entries = if tells_of_device(entry.reply) { 0 } else { 1 };
     let bytes = own_bytes(&entry.act, entry.reply);
@@ -51,7 +52,7 @@ pub(crate) fn endings_of(cut: &Cut) -> Need
     requires { WellFormed cut.now }
     ensures entries { result.entries ≡ 2 }
     ensures bytes { result.bytes ≡ 32 + (8 * length cut.now.claims + 4 * length cut.now.parties) }
-    ensures few { result.bytes ≤ 2162720 }
+    ensures few { result.bytes ≤ most_body + 15 }
 {
     let claims = cut.claims().len() as u64;
     let parties = cut.parties().len() as u64;
