@@ -16,7 +16,7 @@ use Rattle.request_text.specs.declared.request.Request.{Request}
 use Rattle.bureau_desk.specs.Desks.{DeskBase, DeskView, base_of}
 use Rattle.served_lines.specs.declared.answer.Answer.{Answer}
 use Rattle.served_lines.specs.declared.line_end.LineEnd.{LineEnd}
-use Rattle.served_lines.specs.Ends.{is_memory, is_full, has_end}
+use Rattle.served_lines.specs.Ends.{is_memory_end, is_full_end, has_line_end}
 use Rattle.served_lines.specs.Served.{IsServed}
 use Rattle.lane_runner.specs.Batches.{HasRunBatch, base_cleared}
 use Rattle.printed_text.specs.Printing.{printed_of, unanswered}
@@ -64,8 +64,8 @@ module _ (bs : List Done) (b : Done) where
   pub added_more : all_added (bs ++ b ∷ []) ≡ all_added bs ++ b.added
   added_more = flat_map-append (λ (x : Done). x.added) bs (b ∷ []) ∙ ap (λ (l : List Entry). all_added bs ++ l) (append-nil b.added)
 
-  end_more : (test : LineEnd → Bool) → some_end test (bs ++ b ∷ []) ≡ (some_end test bs || has_end test b.answers)
-  end_more test = list_any-append (λ (x : Done). has_end test x.answers) bs (b ∷ []) ∙ ap (λ (c : Bool). some_end test bs || c) (or_false (has_end test b.answers)) where
+  end_more : (test : LineEnd → Bool) → some_end test (bs ++ b ∷ []) ≡ (some_end test bs || has_line_end test b.answers)
+  end_more test = list_any-append (λ (x : Done). has_line_end test x.answers) bs (b ∷ []) ∙ ap (λ (c : Bool). some_end test bs || c) (or_false (has_line_end test b.answers)) where
     or_false : (c : Bool) → (c || false) ≡ c
     or_false true = refl
     or_false false = refl
@@ -153,8 +153,8 @@ module _ {D : Type 0} (seen : D → Seen) (first : DeskView D) (x : Option (List
     opening = opening_then seen first now new so.opening (opening_of seen now new ran.base)
 
     -- it was written
-    pub more : (tally' : Tally) → tally'.memory ≡ (tally.memory || has_end is_memory (answers_of batch answers)) → tally'.device ≡ (tally.device || list_any (λ e. is_of_device e.reply) (drop (length now.history) new.history))
-        → tally'.full ≡ (tally.full || has_end is_full (answers_of batch answers)) → Appends y z text → SoFar seen first x new (batches ++ batch ∷ []) z tally'
+    pub more : (tally' : Tally) → tally'.memory ≡ (tally.memory || has_line_end is_memory_end (answers_of batch answers)) → tally'.device ≡ (tally.device || list_any (λ e. is_of_device e.reply) (drop (length now.history) new.history))
+        → tally'.full ≡ (tally.full || has_line_end is_full_end (answers_of batch answers)) → Appends y z text → SoFar seen first x new (batches ++ batch ∷ []) z tally'
     more tally' memory device full taken = record {
       done = done;
       all = all;
@@ -164,9 +164,9 @@ module _ {D : Type 0} (seen : D → Seen) (first : DeskView D) (x : Option (List
       none = λ e. absurd (not_none so.done one e);
       taken = subst (Appends x z) text_is (Appends-then x y z (text_of first.history so.done) text so.taken taken);
       told = record {
-        memory = memory ∙ ap (λ (c : Bool). c || has_end is_memory (answers_of batch answers)) so.told.memory ∙ sym (end_more so.done one is_memory);
+        memory = memory ∙ ap (λ (c : Bool). c || has_line_end is_memory_end (answers_of batch answers)) so.told.memory ∙ sym (end_more so.done one is_memory_end);
         device = device ∙ ap₂ (λ (c : Bool) (l : List Entry). c || list_any (λ e. is_of_device e.reply) l) so.told.device behind ∙ sym (device_more so.done one);
-        full = full ∙ ap (λ (c : Bool). c || has_end is_full (answers_of batch answers)) so.told.full ∙ sym (end_more so.done one is_full);
+        full = full ∙ ap (λ (c : Bool). c || has_line_end is_full_end (answers_of batch answers)) so.told.full ∙ sym (end_more so.done one is_full_end);
       };
     }
 
@@ -188,8 +188,8 @@ module _ {D : Type 0} (seen : D → Seen) (first : DeskView D) (x : Option (List
       → HasRunBatches seen first last batches x y status
   ends last batches y tally status so is =
       let due : status ≡ end_status so.done =
-      is ∙ ap (λ (b : Bool). status_by b tally.device tally.full) so.told.memory ∙ ap (λ (b : Bool). status_by (some_end is_memory so.done) b tally.full) so.told.device
-      ∙ ap (λ (b : Bool). status_by (some_end is_memory so.done) (some_device so.done) b) so.told.full in
+      is ∙ ap (λ (b : Bool). status_by b tally.device tally.full) so.told.memory ∙ ap (λ (b : Bool). status_by (some_end is_memory_end so.done) b tally.full) so.told.device
+      ∙ ap (λ (b : Bool). status_by (some_end is_memory_end so.done) (some_device so.done) b) so.told.full in
       record {
         done = so.done;
         due = end_status so.done;

@@ -6,7 +6,7 @@ use Rattle.claim_history.specs.Needs.{is_of_device}
 use Rattle.request_text.specs.declared.request.Request.{Request}
 use Rattle.served_lines.specs.declared.answer.Answer.{Answer}
 use Rattle.served_lines.specs.declared.line_end.LineEnd.{LineEnd}
-use Rattle.served_lines.specs.Ends.{is_memory, is_full, has_end}
+use Rattle.served_lines.specs.Ends.{is_memory_end, is_full_end, has_line_end}
 use Rattle.served_lines.specs.Served.{IsServed}
 use Rattle.printed_text.specs.Printing.{printed_of}
 
@@ -32,7 +32,7 @@ text_of before (b ∷ bs) = printed_of before b.added b.answers ++ text_of (befo
 
 -- a line of a batch ended so
 abbrev pub some_end : (LineEnd → Bool) → List Done → Bool
-some_end test bs = list_any (λ b. has_end test b.answers) bs
+some_end test bs = list_any (λ b. has_line_end test b.answers) bs
 
 -- an entry that a batch added tells of a device
 abbrev pub some_device : List Done → Bool
@@ -44,7 +44,7 @@ status_by memory device full = if memory then 9 else if device then 5 else if fu
 
 -- the same of all batches
 abbrev pub end_status : List Done → ℕ
-end_status bs = status_by (some_end is_memory bs) (some_device bs) (some_end is_full bs)
+end_status bs = status_by (some_end is_memory_end bs) (some_device bs) (some_end is_full_end bs)
 
 -- the batches are these; they are all, unless a write failed
 pub record AreOf (batches : List (List Request)) (status : ℕ) (bs : List Done) : Type 0 where

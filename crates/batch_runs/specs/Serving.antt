@@ -7,7 +7,7 @@ use Rattle.request_text.specs.declared.request.Request.{Request}
 use Rattle.bureau_desk.specs.Desks.{DeskView, base_of}
 use Rattle.served_lines.specs.declared.answer.Answer.{Answer}
 use Rattle.served_lines.specs.Served.{IsServed}
-use Rattle.served_lines.specs.Ends.{is_memory, is_full}
+use Rattle.served_lines.specs.Ends.{is_memory_end, is_full_end}
 use Rattle.printed_text.specs.Printing.{unanswered}
 use Rattle.printed_text.specs.Writing.{IsWritten}
 use Rattle.batch_runs.specs.declared.tally.Tally.{Tally}
@@ -27,9 +27,9 @@ answers_of batch None = unanswered batch
 
 -- what a tally of these batches tells
 pub record IsTally (tally : Tally) (done : List Done) : Type 0 where
-  pub memory : tally.memory ≡ some_end is_memory done
+  pub memory : tally.memory ≡ some_end is_memory_end done
   pub device : tally.device ≡ some_device done
-  pub full : tally.full ≡ some_end is_full done
+  pub full : tally.full ≡ some_end is_full_end done
 
 -- Batches were served in turn, and what each added was written after it was served. They are all, unless a write failed.
 pub record HasRunBatches {D : Type 0} (seen : D → Seen) (old new : DeskView D) (batches : List (List Request)) (held_old held_new : Option (List ℕ)) (status : ℕ) : Type 0 where

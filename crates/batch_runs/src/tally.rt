@@ -2,7 +2,7 @@
 ghost use Rattle.std.specs.Prelude.{◌≡◌, ◌≤◌, ◌||◌, [], length, drop};
 ghost use Rattle.std.specs.List.{list_any};
 ghost use Rattle.claim_history.specs.Needs.{is_of_device};
-ghost use Rattle.served_lines.specs.Ends.{is_memory, is_full, has_end};
+ghost use Rattle.served_lines.specs.Ends.{is_memory_end, is_full_end, has_line_end};
 ghost use Rattle.batch_runs.specs.Runs.{status_by};
 ghost use Rattle.batch_runs.specs.Serving.{IsTally, answers_of};
 
@@ -37,7 +37,7 @@ pub fn some_device(entries: &[Entry]) -> bool
 
 // Whether there was no memory for a line of a batch.
 fn some_line_without_memory(requests: &[Request], answers: &Option<Answers>) -> bool
-    ensures { result ≡ has_end is_memory (answers_of requests.now answers.now) }
+    ensures { result ≡ has_line_end is_memory_end (answers_of requests.now answers.now) }
 {
     match answers {
         Some(answers) => some_memory(answers.list()),
@@ -47,7 +47,7 @@ fn some_line_without_memory(requests: &[Request], answers: &Option<Answers>) -> 
 
 // Whether a line of a batch was full.
 fn some_line_full(requests: &[Request], answers: &Option<Answers>) -> bool
-    ensures { result ≡ has_end is_full (answers_of requests.now answers.now) }
+    ensures { result ≡ has_line_end is_full_end (answers_of requests.now answers.now) }
 {
     match answers {
         Some(answers) => some_full(answers.list()),
@@ -76,9 +76,9 @@ impl Tally {
         from: usize,
     )
         requires { from ≤ length history.now }
-        ensures memory { self.new.memory ≡ (self.old.memory || has_end is_memory (answers_of requests.now answers.now)) }
+        ensures memory { self.new.memory ≡ (self.old.memory || has_line_end is_memory_end (answers_of requests.now answers.now)) }
         ensures device { self.new.device ≡ (self.old.device || list_any (λ e. is_of_device e.reply) (drop from history.now)) }
-        ensures full { self.new.full ≡ (self.old.full || has_end is_full (answers_of requests.now answers.now)) }
+        ensures full { self.new.full ≡ (self.old.full || has_line_end is_full_end (answers_of requests.now answers.now)) }
     {
         self.memory = self.memory || some_line_without_memory(requests, answers);
         self.device = self.device || some_device(&history[from..]);

@@ -29,7 +29,7 @@ use Rattle.journal_replay.specs.Replays.{AreSound, call_of, history_of}
 use Rattle.recorded_book.specs.Acting.{IsOpenedHistory, entry_of}
 use Rattle.served_lines.specs.declared.answer.Answer.{Answer}
 use Rattle.served_lines.specs.Bound.{AreRequests, IsWithinBound, claims_with, closes, endings_with, firms_with}
-use Rattle.served_lines.specs.Ends.{has_end, is_full, is_memory}
+use Rattle.served_lines.specs.Ends.{has_line_end, is_full_end, is_memory_end}
 use Rattle.served_lines.proofs.Bound.{bound_law}
 use Rattle.batch_runs.specs.Runs.{Done, AreServed, all_added, some_device, some_end, status_by}
 use Rattle.bureau_program.specs.Headline.{IsHeadline}
@@ -67,7 +67,7 @@ All-second P (x ∷ xs) ys h = All-second P xs ys (All-tail P x (xs ++ ys) h)
 
 -- no line of them is full
 none_full : (before : List Entry) (done : List Done) (rest : List Request) → AreServed before done → IsLegal (before ++ all_added done) → AreValid (before ++ all_added done) → AreRequests (asked_by done) → IsWithinBound before (asked_by done ++ rest)
-    → some_end is_full done ≡ false
+    → some_end is_full_end done ≡ false
 none_full before [] rest served legal valid are bound = refl
 none_full before (b ∷ bs) rest served legal valid are bound =
     let whole : before ++ all_added (b ∷ bs) ≡ (before ++ b.added) ++ all_added bs = ap (λ (l : List Entry). before ++ l) (added_more b bs) ∙ sym (append_assoc before b.added (all_added bs)) in
@@ -78,20 +78,20 @@ none_full before (b ∷ bs) rest served legal valid are bound =
     let valid_all = subst AreValid whole valid in
     let here = bound_law b.requests (asked_by bs ++ rest) b.answers before b.added served.0 (legal_front (before ++ b.added) (all_added bs) legal_all)
     (All-first (λ (e : Entry). is_valid e.act ≡ true) (before ++ b.added) (all_added bs) valid_all) (All-first (λ (r : Request). is_request r.act ≡ true) b.requests (asked_by bs) requests) room in
-    ap (λ (c : Bool). c || some_end is_full bs) here.0
+    ap (λ (c : Bool). c || some_end is_full_end bs) here.0
     ∙ none_full (before ++ b.added) bs rest served.1 legal_all valid_all (All-second (λ (r : Request). is_request r.act ≡ true) b.requests (asked_by bs) requests) here.1
 
 -- where nothing is asked there is no answer
-no_answers : (requests : List Request) (answers : List Answer) → map (λ a. a.line) answers ≡ map (λ r. r.line) requests → length requests ≡ 0 → has_end is_full answers ≡ false
+no_answers : (requests : List Request) (answers : List Answer) → map (λ a. a.line) answers ≡ map (λ r. r.line) requests → length requests ≡ 0 → has_line_end is_full_end answers ≡ false
 no_answers requests [] same none = refl
 no_answers [] (a ∷ answers) same none = absurd (cc same)
 no_answers (r ∷ requests) (a ∷ answers) same none = absurd (omega (arith, none))
 
-none_asked : (before : List Entry) (done : List Done) → AreServed before done → length (asked_by done) ≡ 0 → some_end is_full done ≡ false
+none_asked : (before : List Entry) (done : List Done) → AreServed before done → length (asked_by done) ≡ 0 → some_end is_full_end done ≡ false
 none_asked before [] served none = refl
 none_asked before (b ∷ bs) served none =
     let long : length (asked_by (b ∷ bs)) ≡ length b.requests + length (asked_by bs) = ap (λ (l : List Request). length l) (asked_more b bs) ∙ length-append b.requests (asked_by bs) in
-    ap (λ (c : Bool). c || some_end is_full bs) (no_answers b.requests b.answers served.0.answered (omega (arith, none, long)))
+    ap (λ (c : Bool). c || some_end is_full_end bs) (no_answers b.requests b.answers served.0.answered (omega (arith, none, long)))
     ∙ none_asked (before ++ b.added) bs served.1 (omega (arith, none, long))
 
 -- ---- the history of an opening
@@ -165,7 +165,7 @@ seven_by false false true is = refl
 seven_by false false false is = absurd (omega (arith, is))
 
 none_by : (records : List Record) (begun : List Entry) (done : List Done) (rest : List Request) → AreSound records → IsOpenedHistory (history_of records) begun → AreServed begun done → IsLegal (begun ++ all_added done) → AreValid (begun ++ all_added done)
-    → AreRequests (asked_by done ++ rest) → HasRoomForAll records (asked_by done ++ rest) → (n : ℕ) → length (asked_by done ++ rest) ≡ n → some_end is_full done ≡ false
+    → AreRequests (asked_by done ++ rest) → HasRoomForAll records (asked_by done ++ rest) → (n : ℕ) → length (asked_by done ++ rest) ≡ n → some_end is_full_end done ≡ false
 none_by records begun done rest sound is served legal valid are room zero long =
     none_asked begun done served (omega (arith, long, length-append (asked_by done) rest))
 none_by records begun done rest sound is served legal valid are room (suc n) long =
@@ -181,11 +181,11 @@ none_full_by one_records seen old new batches has text are room h =
     let parts : requests_of batches ≡ asked_by h.done ++ requests_of h.all.rest = ap requests_of h.all.in_order ∙ flat_map-append (λ (b : List Request). b) (map (λ (b : Done). b.requests) h.done) h.all.rest in
     let opens : IsOpenedHistory (history_of has.records) h.begun =
     subst (λ (o : List Entry). IsOpenedHistory o h.begun) (h.is_history.opened_is ∙ ap history_of same) h.is_history.begins in
-    let none : some_end is_full h.done ≡ false =
+    let none : some_end is_full_end h.done ≡ false =
     none_by has.records h.begun h.done (requests_of h.all.rest) has.sound opens h.served (subst IsLegal h.is_history.parts h.legal) (subst AreValid h.is_history.parts h.valid)
     (subst AreRequests parts are) (subst (HasRoomForAll has.records) parts room) (length (asked_by h.done ++ requests_of h.all.rest)) refl in
     ⊎_elim
-    (λ all. true≢false (sym (seven_by (some_end is_memory h.done) (some_device h.done) (some_end is_full h.done) (sym all.1)) ∙ none))
+    (λ all. true≢false (sym (seven_by (some_end is_memory_end h.done) (some_device h.done) (some_end is_full_end h.done) (sym all.1)) ∙ none))
     (λ four. let n : 7 ≡ 4 = four in absurd (omega (arith, n)))
     h.all.ended
 

@@ -24,7 +24,7 @@ use Rattle.bureau_desk.specs.Opening.{HasDeskCause}
 use Rattle.bureau_desk.proofs.Faults.{fault_law, one_fault_law}
 use Rattle.firm_notices.specs.Notices.{notices_text}
 use Rattle.firm_notices.specs.Positions.{positions_text}
-use Rattle.served_lines.specs.Ends.{is_memory, is_full}
+use Rattle.served_lines.specs.Ends.{is_memory_end, is_full_end}
 use Rattle.desk_text.specs.Texts.{opening_status, opening_text, unsound_status}
 use Rattle.printed_text.specs.Texts.{verdict_status}
 use Rattle.claim_history.specs.Facts.{Ledger}
@@ -318,7 +318,7 @@ by_one false false false = inl refl
 
 headline_one : {D : Type 0} (seen : D → Seen) (old new : D) (batches : List (List Request)) (status : ℕ) (text : List ℕ) → IsHeadline seen old new batches status text → IsOneOf (0 ∷ 5 ∷ 7 ∷ 9 ∷ 4 ∷ []) status
 headline_one seen old new batches status text h = ⊎_elim
-    (λ all. in_front (0 ∷ 5 ∷ 7 ∷ 9 ∷ []) (4 ∷ []) status (subst (IsOneOf (0 ∷ 5 ∷ 7 ∷ 9 ∷ [])) (sym all.1) (by_one (some_end is_memory h.done) (some_device h.done) (some_end is_full h.done))))
+    (λ all. in_front (0 ∷ 5 ∷ 7 ∷ 9 ∷ []) (4 ∷ []) status (subst (IsOneOf (0 ∷ 5 ∷ 7 ∷ 9 ∷ [])) (sym all.1) (by_one (some_end is_memory_end h.done) (some_device h.done) (some_end is_full_end h.done))))
     (λ four. behind (0 ∷ 5 ∷ 7 ∷ 9 ∷ []) (4 ∷ []) status (inl four))
     h.all.ended
 

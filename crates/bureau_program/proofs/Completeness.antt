@@ -26,7 +26,7 @@ use Rattle.firm_notices.specs.Invoices.{IsInvoiceText}
 use Rattle.firm_notices.specs.Notices.{notices_text}
 use Rattle.firm_notices.specs.Positions.{positions_text}
 use Rattle.firm_notices.proofs.OneReading.{one_reading_law as one_invoice_reading}
-use Rattle.served_lines.specs.Ends.{is_memory, is_full}
+use Rattle.served_lines.specs.Ends.{is_memory_end, is_full_end}
 use Rattle.command_words.specs.declared.command.Command.{Command}
 use Rattle.command_words.specs.declared.command.Command.TheVariants.{Run, Check, Audit, Positions, Notices, Import, Trial}
 use Rattle.command_words.specs.Words.{AreWordsOf, OneCommandLaw}
@@ -89,7 +89,7 @@ module _ {D : Type 0} (seen : D → Seen) (old new : D) (batches : List (List Re
 
   headline_ends : (status : ℕ) (text : List ℕ) → IsHeadline seen old new batches status text → Ends RunFailed (IsAllServed seen old new batches) status text
   headline_ends status text h = ⊎_elim
-      (λ all. by_status (some_end is_memory h.done) (some_device h.done) (some_end is_full h.done) status text all.1 h)
+      (λ all. by_status (some_end is_memory_end h.done) (some_device h.done) (some_end is_full_end h.done) status text all.1 h)
       (λ four. inl (inr (inl four)))
       h.all.ended
 

@@ -23,7 +23,7 @@ use Rattle.recorded_book.specs.Devices.{AreBetween, IsBetween}
 use Rattle.recorded_book.specs.Moments.{HasMoments}
 use Rattle.bureau_desk.specs.Desks.{DeskView, KeepsDesk}
 use Rattle.bureau_desk.specs.Opening.{IsDeskOpen}
-use Rattle.served_lines.specs.Ends.{is_memory, is_full}
+use Rattle.served_lines.specs.Ends.{is_memory_end, is_full_end}
 use Rattle.printed_text.specs.Printing.{added_text, printed_of}
 use Rattle.printed_text.specs.Writing.{Wrote, broken}
 use Rattle.batch_runs.specs.Runs.{Done, AreOf, AreServed, all_added, some_device, some_end}
@@ -166,7 +166,7 @@ module _ {D : Type 0} (seen : D → Seen) (old : D) (first last : DeskView D) (o
   ran_rose x y batches status ran five = ⊎_elim
       (λ due. ⊎_elim
       (λ all. device_rose (seen old).count (seen last.disk).count first.history (all_added ran.done) (subst IsLegal ran.history keeps.legal) (subst (AreBetween (seen old).count (seen last.disk).count) ran.history between)
-      (five_by (some_end is_memory ran.done) (some_device ran.done) (some_end is_full ran.done) (sym all.1 ∙ sym due ∙ five)))
+      (five_by (some_end is_memory_end ran.done) (some_device ran.done) (some_end is_full_end ran.done) (sym all.1 ∙ sym due ∙ five)))
       (λ four. absurd (omega (arith, due, four, five)))
       ran.all.ended)
       (λ four. absurd (omega (arith, five, four)))
@@ -175,6 +175,6 @@ module _ {D : Type 0} (seen : D → Seen) (old : D) (first last : DeskView D) (o
 -- no status of batches tells of the source
 pub ran_no_three : {D : Type 0} (seen : D → Seen) (first last : DeskView D) (batches : List (List Request)) (x y : Option (List ℕ)) (status : ℕ) → HasRunBatches seen first last batches x y status → status ≡ 3 → ⊥
 ran_no_three seen first last batches x y status ran three = ⊎_elim
-    (λ due. ⊎_elim (λ all. no_three_by (some_end is_memory ran.done) (some_device ran.done) (some_end is_full ran.done) (sym all.1 ∙ sym due ∙ three)) (λ four. omega (arith, due, four, three)) ran.all.ended)
+    (λ due. ⊎_elim (λ all. no_three_by (some_end is_memory_end ran.done) (some_device ran.done) (some_end is_full_end ran.done) (sym all.1 ∙ sym due ∙ three)) (λ four. omega (arith, due, four, three)) ran.all.ended)
     (λ four. omega (arith, four, three))
     (told_status x y ran.due _ status ran.written)

@@ -17,7 +17,7 @@ use Rattle.claim_history.specs.Acts.{is_close, is_filing, is_registration, is_re
 use Rattle.claim_history.specs.Bounds.{CutIsBounded}
 use Rattle.claim_history.specs.Callers.{entries_by}
 use Rattle.claim_history.specs.History.{AreValid, IsLegal, IsLegalPast}
-use Rattle.claim_history.specs.Needs.{Fits, is_counted, is_full as is_full_act, record_length_of}
+use Rattle.claim_history.specs.Needs.{Fits, is_counted, is_full, record_length_of}
 use Rattle.claim_history.proofs.Bounds.{cut_bound_law}
 use Rattle.claim_history.proofs.Pasts.{legal_rest}
 use Rattle.claim_history.proofs.Room.{full_law, one_if}
@@ -30,7 +30,7 @@ use Rattle.served_lines.specs.declared.answer.Answer.{Answer}
 use Rattle.served_lines.specs.declared.line_end.LineEnd.{LineEnd}
 use Rattle.served_lines.specs.declared.line_end.LineEnd.TheVariants as ends
 use Rattle.served_lines.specs.Bound.{AreRequests, BoundLaw, IsWithinBound, claims_with, closes, endings_with, firms_with, most_request_bytes}
-use Rattle.served_lines.specs.Ends.{is_full, has_end}
+use Rattle.served_lines.specs.Ends.{is_full_end, has_line_end}
 use Rattle.served_lines.specs.Served.{IsCall, IsPublicationOf, IsServed, Line, LineAdds, LinesAdd, WasFull, lane_lines, lines_of}
 use Rattle.served_lines.proofs.Costs.{AddsAt, HasFull, adds_at, batch_le, full_le, some_full}
 use Rattle.served_lines.proofs.Uses.{byte_use, bytes_are, entries_are, entry_use, filing_use, firm_use, needs_bytes, needs_entries, one_at_most, own_le, request_valid, short_record}
@@ -95,12 +95,12 @@ asks_record : (r : Request) (e : Entry) → IsCall r e → byte_use e ≤ record
 asks_record r e call = omega (arith, own_le e.act e.reply, ap record_length_of call.asks)
 
 -- an act that lacks entries or bytes is full
-lacks_full : (what : Room) (history : List Entry) (caller : ℕ) (a : Act) → lacks what history caller a ≡ true → is_full_act history caller a ≡ true
+lacks_full : (what : Room) (history : List Entry) (caller : ℕ) (a : Act) → lacks what history caller a ≡ true → is_full history caller a ≡ true
 lacks_full Entries history caller a is = ap (λ (b : Bool). b || lacks Bytes history caller a) is
 lacks_full Bytes history caller a is = or_right (lacks Entries history caller a) _ is
 
 -- what is told of a full line
-told_full : (whole : List Entry) (opened : ℕ) (done : List Entry) (request : Request) (end : LineEnd) (entries : List Entry) → LineAdds whole opened done request end entries → is_full end ≡ true
+told_full : (whole : List Entry) (opened : ℕ) (done : List Entry) (request : Request) (end : LineEnd) (entries : List Entry) → LineAdds whole opened done request end entries → is_full_end end ≡ true
     → (full : Full) × WasFull whole opened done request.lane request.act full
 told_full whole opened done request (ends.Full what needed limit) entries h is = (record { what = what; needed = needed; limit = limit }, h.1)
 told_full whole opened done request ends.Replied entries h is = absurd (true≢false (sym is))
@@ -286,8 +286,8 @@ module _ (batch later : List Request) (answers : List Answer) (before added : Li
         let told = told_full whole (length before) at_line.done request h.line.end at_line.entries at_line.adds h.full in
         place_full (length before) at_line.done told.0 told.1
 
-  none_full : has_end is_full answers ≡ false
-  none_full = ⊎_elim (λ some. absurd (no_full (some_full batch answers served.answered some))) (λ none. none) (cases_Bool (has_end is_full answers))
+  none_full : has_line_end is_full_end answers ≡ false
+  none_full = ⊎_elim (λ some. absurd (no_full (some_full batch answers served.answered some))) (λ none. none) (cases_Bool (has_line_end is_full_end answers))
 
 pub bound_law : BoundLaw
 bound_law batch later answers before added served legal valid are bound =

@@ -10,7 +10,7 @@ use Rattle.request_text.specs.declared.request.Request.{Request}
 use Rattle.served_lines.specs.declared.answer.Answer.{Answer}
 use Rattle.served_lines.specs.declared.line_end.LineEnd.{LineEnd}
 use Rattle.served_lines.specs.declared.line_end.LineEnd.TheVariants as ends
-use Rattle.served_lines.specs.Ends.{is_full, has_end}
+use Rattle.served_lines.specs.Ends.{is_full_end, has_line_end}
 use Rattle.served_lines.specs.Bound.{closes}
 use Rattle.served_lines.specs.Served.{IsCall, IsOne, IsPublicationOf, IsRound, Line, LineAdds, LinesAdd, lane_lines, lines_of}
 use Rattle.served_lines.proofs.Lanes.{lanes_le}
@@ -23,7 +23,7 @@ most_of own publication request = own request + cond (is_close request.act) publ
 
 -- the same of a line, which adds nothing where it is full
 abbrev pub cost_of : (Request → ℕ) → ℕ → Line → ℕ
-cost_of own publication line = cond (is_full line.end) 0 (most_of own publication line.request)
+cost_of own publication line = cond (is_full_end line.end) 0 (most_of own publication line.request)
 
 cost_at : (b : Bool) (n : ℕ) → cond b 0 n ≤ n
 cost_at true n = omega arith
@@ -40,12 +40,12 @@ costs_le own publication (line ∷ lines) =
       arith,
       sum_by-cons (cost_of own publication) line lines,
       sum_by-cons (λ (l : Line). most_of own publication l.request) line lines,
-      cost_at (is_full line.end) (most_of own publication line.request),
+      cost_at (is_full_end line.end) (most_of own publication line.request),
       costs_le own publication lines,
     )
 
 -- a full line leaves what it might add
-full_saves : (own : Request → ℕ) (publication : ℕ) (front back : List Line) (line : Line) → is_full line.end ≡ true
+full_saves : (own : Request → ℕ) (publication : ℕ) (front back : List Line) (line : Line) → is_full_end line.end ≡ true
     → sum_by (cost_of own publication) (front ++ line ∷ back) + own line.request ≤ sum_by (λ l. most_of own publication l.request) (front ++ line ∷ back)
 full_saves own publication front back line full =
     omega (
@@ -54,7 +54,7 @@ full_saves own publication front back line full =
       sum_by-cons (cost_of own publication) line back,
       sum_by-append (λ (l : Line). most_of own publication l.request) front (line ∷ back),
       sum_by-cons (λ (l : Line). most_of own publication l.request) line back,
-      cost_none (is_full line.end) (most_of own publication line.request) full,
+      cost_none (is_full_end line.end) (most_of own publication line.request) full,
       costs_le own publication front,
       costs_le own publication back,
     )
@@ -96,20 +96,20 @@ pub record HasFull (lines : List Line) : Type 0 where
   pub line : Line
   pub back : List Line
   pub parts : lines ≡ front ++ line ∷ back
-  pub full : is_full line.end ≡ true
+  pub full : is_full_end line.end ≡ true
 
 more_full : (line : Line) (lines : List Line) → HasFull lines → HasFull (line ∷ lines)
 more_full line lines h = record { front = line ∷ h.front; line = h.line; back = h.back; parts = ap (λ (l : List Line). line ∷ l) h.parts; full = h.full }
 
-full_by : (line : Line) (lines : List Line) (b rest : Bool) → is_full line.end ≡ b → (rest ≡ true → HasFull lines) → (b || rest) ≡ true → HasFull (line ∷ lines)
+full_by : (line : Line) (lines : List Line) (b rest : Bool) → is_full_end line.end ≡ b → (rest ≡ true → HasFull lines) → (b || rest) ≡ true → HasFull (line ∷ lines)
 full_by line lines true rest is later some = record { front = []; line = line; back = lines; parts = refl; full = is }
 full_by line lines false rest is later some = more_full line lines (later some)
 
-pub some_full : (requests : List Request) (answers : List Answer) → map (λ a. a.line) answers ≡ map (λ r. r.line) requests → has_end is_full answers ≡ true → HasFull (lines_of requests answers)
+pub some_full : (requests : List Request) (answers : List Answer) → map (λ a. a.line) answers ≡ map (λ r. r.line) requests → has_line_end is_full_end answers ≡ true → HasFull (lines_of requests answers)
 some_full requests [] same some = absurd (cc some)
 some_full [] (a ∷ answers) same some = absurd (cc same)
 some_full (r ∷ requests) (a ∷ answers) same some =
-    full_by (record { request = r; end = a.end }) (lines_of requests answers) (is_full a.end) (has_end is_full answers) refl (some_full requests answers (cc same)) some
+    full_by (record { request = r; end = a.end }) (lines_of requests answers) (is_full_end a.end) (has_line_end is_full_end answers) refl (some_full requests answers (cc same)) some
 
 -- ---- what a line adds
 

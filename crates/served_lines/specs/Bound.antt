@@ -7,7 +7,7 @@ use Rattle.claim_history.specs.History.{AreValid, IsLegal}
 use Rattle.claim_history.specs.Needs.{used_bytes_of, used_entries_of}
 use Rattle.request_text.specs.declared.request.Request.{Request}
 use Rattle.served_lines.specs.declared.answer.Answer.{Answer}
-use Rattle.served_lines.specs.Ends.{is_full, has_end}
+use Rattle.served_lines.specs.Ends.{is_full_end, has_line_end}
 use Rattle.served_lines.specs.Served.{IsServed}
 
 -- each act is one that a line can ask for
@@ -44,4 +44,4 @@ pub record IsWithinBound (history : List Entry) (requests : List Request) : Type
 -- ones are within the bound.
 abbrev pub BoundLaw : Type 0
 BoundLaw = (batch later : List Request) (answers : List Answer) (before added : List Entry) → IsServed batch answers before added → IsLegal (before ++ added) → AreValid (before ++ added) → AreRequests batch
-    → IsWithinBound before (batch ++ later) → (has_end is_full answers ≡ false) × IsWithinBound (before ++ added) later
+    → IsWithinBound before (batch ++ later) → (has_line_end is_full_end answers ≡ false) × IsWithinBound (before ++ added) later

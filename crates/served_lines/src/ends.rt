@@ -1,12 +1,12 @@
 //! Lines that were not replied to.
 ghost use Rattle.std.specs.Prelude.{◌≡◌};
-ghost use Rattle.served_lines.specs.Ends.{is_memory, is_full, has_end};
+ghost use Rattle.served_lines.specs.Ends.{is_memory_end, is_full_end, has_line_end};
 
 use crate::answer::Answer;
 use crate::line_end::LineEnd;
 
-fn is_memory(end: LineEnd) -> bool
-    ensures { result ≡ is_memory end }
+fn is_memory_end(end: LineEnd) -> bool
+    ensures { result ≡ is_memory_end end }
 {
     match end {
         LineEnd::Memory => true,
@@ -14,8 +14,8 @@ fn is_memory(end: LineEnd) -> bool
     }
 }
 
-fn is_full(end: LineEnd) -> bool
-    ensures { result ≡ is_full end }
+fn is_full_end(end: LineEnd) -> bool
+    ensures { result ≡ is_full_end end }
 {
     match end {
         LineEnd::Full { .. } => true,
@@ -25,14 +25,14 @@ fn is_full(end: LineEnd) -> bool
 
 /// Whether there was no memory for some line.
 pub fn some_memory(answers: &[Answer]) -> bool
-    ensures { result ≡ has_end is_memory answers.now }
+    ensures { result ≡ has_line_end is_memory_end answers.now }
 {
-    answers.iter().any(|answer| is_memory(answer.end))
+    answers.iter().any(|answer| is_memory_end(answer.end))
 }
 
 /// Whether some line was full.
 pub fn some_full(answers: &[Answer]) -> bool
-    ensures { result ≡ has_end is_full answers.now }
+    ensures { result ≡ has_line_end is_full_end answers.now }
 {
-    answers.iter().any(|answer| is_full(answer.end))
+    answers.iter().any(|answer| is_full_end(answer.end))
 }

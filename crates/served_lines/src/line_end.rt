@@ -7,8 +7,6 @@ use limited_book::Room;
 pub enum LineEnd {
     /// Its act has its entry; where it is a Close that is accepted, its round has the entry of its publication, too.
     Replied,
-    /// There was no memory for it. It has no entry; or it is a Close that is accepted, whose round it left open.
-    Memory,
     /// Its act needs more than there is room for. It has no entry.
     Full {
         /// What it needs too much of.
@@ -18,4 +16,6 @@ pub enum LineEnd {
         /// How much there may be.
         limit: u64,
     },
+    /// There was no memory for it. It has no entry; or it is a Close that is accepted, whose round it left open.
+    Memory,
 }

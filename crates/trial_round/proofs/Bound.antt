@@ -13,7 +13,7 @@ use Rattle.request_text.specs.declared.request.Request.{Request}
 use Rattle.request_text.specs.Grammar.{Asked, numbered}
 use Rattle.served_lines.specs.declared.answer.Answer.{Answer}
 use Rattle.served_lines.specs.Bound.{AreRequests, BoundLaw, IsWithinBound, claims_with, closes, firms_with}
-use Rattle.served_lines.specs.Ends.{has_end, is_full}
+use Rattle.served_lines.specs.Ends.{has_line_end, is_full_end}
 use Rattle.served_lines.specs.Served.{IsServed}
 use Rattle.trial_round.specs.Input.{acts_before_close, by_lane_one, claim_acts, close_act, filed_and_confirmed, firm_acts, firm_name, trial_acts}
 use Rattle.trial_round.specs.Trial.{IsTrialSize, trial_batch}
@@ -83,7 +83,7 @@ within batch firms claims size lines one =
       bytes = few_bytes (length batch) (claims_with [] batch) (firms_with [] batch) (closes batch) (omega (arith, lines, size.few_firms, size.few_claims)) (omega (arith, filings)) (omega (arith, registrations)) one;
     }
 
-pub none_full : (firms claims seed : ℕ) (answers : List Answer) (added : List Entry) → IsTrialSize firms claims → BoundLaw → IsServed (trial_batch firms claims seed) answers [] added → IsLegal added → AreValid added → has_end is_full answers ≡ false
+pub none_full : (firms claims seed : ℕ) (answers : List Answer) (added : List Entry) → IsTrialSize firms claims → BoundLaw → IsServed (trial_batch firms claims seed) answers [] added → IsLegal added → AreValid added → has_line_end is_full_end answers ≡ false
 none_full firms claims seed answers added size law served legal valid =
     let batch = trial_batch firms claims seed in
     let whole : IsWithinBound [] (batch ++ []) = subst (λ (l : List Request). IsWithinBound [] l) (sym (append-nil batch)) (within batch firms claims size (count_lines firms claims seed) (count_closes firms claims seed)) in

@@ -22,7 +22,7 @@ use Rattle.round_cut.specs.CutLaw.{FormedLaw}
 use Rattle.request_text.specs.declared.request.Request.{Request}
 use Rattle.request_text.specs.Grammar.{numbered}
 use Rattle.served_lines.specs.declared.answer.Answer.{Answer}
-use Rattle.served_lines.specs.Ends.{has_end, is_full, is_memory}
+use Rattle.served_lines.specs.Ends.{has_line_end, is_full_end, is_memory_end}
 use Rattle.served_lines.specs.Served.{EndsAtOnce, IsEnding, IsOne, IsRound, IsServed}
 use Rattle.trial_round.specs.Input.{acts_before_close, by_lane_one, call_by_one, close_act, horizon_day, trial_acts}
 use Rattle.trial_round.specs.Trial.{trial_batch, trial_cut}
@@ -88,7 +88,7 @@ module _ (firms claims seed : ℕ) (before : List Entry) (calls : map call_of be
       (published round.close round.publication asks legal_round valid none_round round.round round.publishes.outcome round.publishes.asks told.0 told.1)
 
 -- a trial whose lines were all replied to, without a fault of a device, has its round
-pub has_round : (firms claims seed : ℕ) (answers : List Answer) (added : List Entry) → IsServed (trial_batch firms claims seed) answers [] added → has_end is_memory answers ≡ false → has_end is_full answers ≡ false
+pub has_round : (firms claims seed : ℕ) (answers : List Answer) (added : List Entry) → IsServed (trial_batch firms claims seed) answers [] added → has_line_end is_memory_end answers ≡ false → has_line_end is_full_end answers ≡ false
     → IsLegal added → AreValid added → list_any tells_of_device added ≡ false → GreatestLaw → FormedLaw → HasRound (trial_cut firms claims seed) added (cuts_after 0 added)
 has_round firms claims seed answers added served memory full legal valid none greatest formed =
     let acts = acts_before_close firms claims seed in

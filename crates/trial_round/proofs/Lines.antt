@@ -15,7 +15,7 @@ use Rattle.request_text.specs.Grammar.{numbered}
 use Rattle.served_lines.specs.declared.answer.Answer.{Answer}
 use Rattle.served_lines.specs.declared.line_end.LineEnd.{LineEnd}
 use Rattle.served_lines.specs.declared.line_end.LineEnd.TheVariants as ends
-use Rattle.served_lines.specs.Ends.{has_end, is_full, is_memory}
+use Rattle.served_lines.specs.Ends.{has_line_end, is_full_end, is_memory_end}
 use Rattle.served_lines.specs.Served.{IsCall, IsOne, IsRound, IsServed, Line, LineAdds, LinesAdd, has_lane, lane_lines, lines_of}
 use Rattle.claim_history.proofs.Rows.{or_false}
 use Rattle.trial_round.specs.Input.{by_lane_one, call_by_one, close_act}
@@ -61,7 +61,7 @@ in_one_lane requests answers added one served =
 
 -- ---- each line was replied to
 
-replied : (end : LineEnd) → is_memory end ≡ false → is_full end ≡ false → end ≡ ends.Replied
+replied : (end : LineEnd) → is_memory_end end ≡ false → is_full_end end ≡ false → end ≡ ends.Replied
 replied ends.Replied memory full = refl
 replied ends.Memory memory full = absurd (cc memory)
 replied (ends.Full what needed limit) memory full = absurd (cc full)
@@ -107,11 +107,11 @@ module _ (whole : List Entry) where
 
   parts_of : (opened number : ℕ) (done : List Entry) (acts : List Act) (answers : List Answer) (entries : List Entry) → All (λ a. is_close a ≡ false) acts
       → map (λ answer. answer.line) answers ≡ map (λ request. request.line) (numbered number (map by_lane_one (acts ++ close_act ∷ [])))
-      → has_end is_memory answers ≡ false → has_end is_full answers ≡ false → Adds opened done number acts answers entries → AreParts whole acts entries
+      → has_line_end is_memory_end answers ≡ false → has_line_end is_full_end answers ≡ false → Adds opened done number acts answers entries → AreParts whole acts entries
   parts_of opened number done [] [] entries other answered memory full adds = absurd (cc answered)
   parts_of opened number done [] (answer ∷ answers) entries other answered memory full adds =
       let request : Request = record { line = number; lane = 1; act = close_act } in
-      let is : answer.end ≡ ends.Replied = replied answer.end (or_false (is_memory answer.end) (has_end is_memory answers) memory).0 (or_false (is_full answer.end) (has_end is_full answers) full).0 in
+      let is : answer.end ≡ ends.Replied = replied answer.end (or_false (is_memory_end answer.end) (has_line_end is_memory_end answers) memory).0 (or_false (is_full_end answer.end) (has_line_end is_full_end answers) full).0 in
       record {
         before = [];
         last = entries;
@@ -126,8 +126,8 @@ module _ (whole : List Entry) where
   parts_of opened number done (a ∷ acts) [] entries other answered memory full adds = absurd (cc answered)
   parts_of opened number done (a ∷ acts) (answer ∷ answers) entries other answered memory full adds =
       let request : Request = record { line = number; lane = 1; act = a } in
-      let no_memory = or_false (is_memory answer.end) (has_end is_memory answers) memory in
-      let no_full = or_false (is_full answer.end) (has_end is_full answers) full in
+      let no_memory = or_false (is_memory_end answer.end) (has_line_end is_memory_end answers) memory in
+      let no_full = or_false (is_full_end answer.end) (has_line_end is_full_end answers) full in
       let is : answer.end ≡ ends.Replied = replied answer.end no_memory.0 no_full.0 in
       let one = one_entry request a adds.0 refl refl (All-head (λ x. is_close x ≡ false) a acts other) (subst (λ (end : LineEnd). LineAdds whole opened done request end adds.0) is adds.3) in
       let rest = parts_of opened (number + 1) (done ++ adds.0) acts answers adds.1 (All-tail (λ x. is_close x ≡ false) a acts other) (cc answered) no_memory.1 no_full.1 adds.4 in
@@ -135,7 +135,7 @@ module _ (whole : List Entry) where
 
 -- what the lines of a trial add, where each was replied to
 pub trial_parts : (acts : List Act) (answers : List Answer) (added : List Entry) → All (λ a. is_close a ≡ false) acts
-    → IsServed (numbered 1 (map by_lane_one (acts ++ close_act ∷ []))) answers [] added → has_end is_memory answers ≡ false → has_end is_full answers ≡ false → AreParts added acts added
+    → IsServed (numbered 1 (map by_lane_one (acts ++ close_act ∷ []))) answers [] added → has_line_end is_memory_end answers ≡ false → has_line_end is_full_end answers ≡ false → AreParts added acts added
 trial_parts acts answers added other served memory full =
     let batch = numbered 1 (map by_lane_one (acts ++ close_act ∷ [])) in
     parts_of added 0 1 [] acts answers added other served.answered memory full (in_one_lane batch answers added (numbered_of_one 1 (acts ++ close_act ∷ [])) served)

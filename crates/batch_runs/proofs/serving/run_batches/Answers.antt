@@ -8,7 +8,7 @@ use Rattle.claim_history.specs.declared.entry.Entry.{Entry}
 use Rattle.claim_history.specs.Needs.{is_of_device}
 use Rattle.claim_history.specs.Rounds.{cuts_after}
 use Rattle.request_text.specs.declared.request.Request.{Request}
-use Rattle.served_lines.specs.Ends.{is_memory, is_full, has_end}
+use Rattle.served_lines.specs.Ends.{is_memory_end, is_full_end, has_line_end}
 use Rattle.printed_text.specs.Printing.{printed_of}
 use Rattle.batch_runs.specs.Serving.{answers_of}
 use Rattle.batch_runs.proofs.Batches.{SoFar, begins, breaks, ends, more, unasked_adds}
@@ -111,9 +111,9 @@ loop-batch-preserved g c =
     record {
       so_far = subst (λ (l : List (List Request)). SoFar g.D.Disk.seen first x new l z c.add.new.self) (sym item)
           (more g.D.Disk.seen first x c.loop-batch.desk new (take i bs) y z tally batch answers c.loop-batch.invariant.so_far c.run_batch-end.ensures c.add.new.self
-          (c.add.ensures.memory ∙ ap (λ (rs : List Request). tally.memory || has_end is_memory (answers_of rs answers)) same)
+          (c.add.ensures.memory ∙ ap (λ (rs : List Request). tally.memory || has_line_end is_memory_end (answers_of rs answers)) same)
           (c.add.ensures.device ∙ ap (λ (l : List Entry). tally.device || list_any (λ e. is_of_device e.reply) (drop n l)) after ∙ ap (λ (k : ℕ). tally.device || list_any (λ e. is_of_device e.reply) (drop k new.history)) place)
-          (c.add.ensures.full ∙ ap (λ (rs : List Request). tally.full || has_end is_full (answers_of rs answers)) same)
+          (c.add.ensures.full ∙ ap (λ (rs : List Request). tally.full || has_line_end is_full_end (answers_of rs answers)) same)
           (subst (Appends y z) (printed_from n (length c.loop-batch.desk.history) new.history requests batch answers place same) ok));
       empty = at_ok c.print_served.result (c.print_served.new.buffer.items ≡ []) (sym c.is_err.ensures.value ∙ c.if-is_err.false) c.print_served.ensures.emptied;
       room = c.print_served.ensures.room;
