@@ -2,4 +2,5 @@ pub mod Same
 pub mod Rows
 pub mod Places
 pub mod Pushed
+pub mod Guessed
 pub mod Threads

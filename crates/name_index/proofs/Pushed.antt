@@ -16,13 +16,13 @@ none_len p (x ∷ xs) none =
     let more : 1 + length xs ≡ suc (length xs) = omega arith in
     ap₂ (λ (b : Bool) (n : ℕ). cond (not b) (1 + n) 0) parts.0 (none_len p xs parts.1) ∙ more
 
-abbrev place_in : ℕ → ℕ → Option ℕ
+abbrev pub place_in : ℕ → ℕ → Option ℕ
 place_in a n = cond (nat_lt a n) (Some a) None
 
 past : (a n : ℕ) → a ≡ n → place_in a n ≡ None
 past a n e = ap (λ (b : Bool). cond b (Some a) None) (le-ltb a n (omega (arith, e)))
 
-below : (a n : ℕ) → a < n → place_in a n ≡ Some a
+pub below : (a n : ℕ) → a < n → place_in a n ≡ Some a
 below a n lt = ap (λ (b : Bool). cond b (Some a) None) (is_below (nat_lt a n) refl)
   where
     is_below : (b : Bool) → nat_lt a n ≡ b → nat_lt a n ≡ true

@@ -25,7 +25,7 @@ one_answer false true d e = d.1 (e.0 refl)
 unpadded : (a : List ℕ) → take (length a) (padded a) ≡ a
 unpadded a = let le : length a ≤ length a = omega arith in take-append-le (length a) a _ le ∙ take_all (length a) a le
 
-names_tell : (a b : List ℕ) → Decides (names.eq-value.it a b) (a ≡ b)
+pub names_tell : (a b : List ℕ) → Decides (names.eq-value.it a b) (a ≡ b)
 names_tell a b =
     Decides-like _ (λ h. sym (unpadded a) ∙ ap (λ (n : ℕ). take n (padded a)) h.0 ∙ ap (take (length b)) h.1 ∙ unpadded b) (λ e. (ap length e, ap padded e))
     (Decides-and (length a == length b) (bytes_eq (padded a) (padded b)) (Decides-eqb (length a) (length b)) (bytes_eq-Decides (padded a) (padded b)))
@@ -33,7 +33,7 @@ names_tell a b =
 abbrev key_of : List ℕ → List ℕ → Key
 key_of creditor invoice = record { creditor = creditor; invoice = invoice }
 
-keys_tell : (a b : Key) → Decides (keys.eq-value.it a b) (a ≡ b)
+pub keys_tell : (a b : Key) → Decides (keys.eq-value.it a b) (a ≡ b)
 keys_tell a b =
     Decides-like _ (λ h. ap (λ (c : List ℕ). key_of c a.invoice) h.0 ∙ ap (key_of b.creditor) h.1) (λ e. (ap (λ (k : Key). k.creditor) e, ap (λ (k : Key). k.invoice) e))
     (Decides-and (names.eq-value.it a.creditor b.creditor) (names.eq-value.it a.invoice b.invoice) (names_tell a.creditor b.creditor) (names_tell a.invoice b.invoice))

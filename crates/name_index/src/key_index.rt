@@ -1,10 +1,10 @@
 //! Keys by their places.
-ghost use Rattle.std.specs.Prelude.{◌≡◌, ◌<◌, ◌≤◌, ◌+◌, ◌++◌, ◌∷◌, [], false, position, length, OnOk, OnErr};
+ghost use Rattle.std.specs.Prelude.{◌≡◌, ◌<◌, ◌≤◌, ◌+◌, ◌^◌, ◌++◌, ◌∷◌, [], false, position, Some, IfSome, OnOk, OnErr};
 ghost use Rattle.std.specs.List.{list_any};
 ghost use Rattle.setoff_model.specs.Same.{same_key};
 
 use indexmap::IndexSet;
-use setoff_model::Key;
+use setoff_model::{Key, same_keys};
 use std::alloc::{AllocError, Global};
 use std::marker::Model;
 
@@ -38,6 +38,20 @@ impl KeyIndex {
         ensures { result ≡ position (same_key key.now) self.now.keys }
     {
         self.keys.get_index_of(key)
+    }
+
+    /// The place of a key, which is looked for from a place on, one key after the other; None where it stands at none of them.
+    pub fn place_from(&self, from: usize, key: &Key) -> Option<usize>
+        ensures found { IfSome result (λ place. position (same_key key.now) self.now.keys ≡ Some place) }
+        ensures within { IfSome result (λ place. place < 2 ^ 63) }
+    {
+        let keys = self.keys.as_slice();
+        for place in from..keys.len() {
+            if same_keys(key, &keys[place]) {
+                return Some(place);
+            }
+        }
+        None
     }
 
     /// Makes the room for so many keys. It lowers no room that was made before.

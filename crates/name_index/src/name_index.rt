@@ -1,10 +1,10 @@
 //! Names by their places.
-ghost use Rattle.std.specs.Prelude.{◌≡◌, ◌<◌, ◌≤◌, ◌+◌, ◌++◌, ◌∷◌, [], false, position, length, OnOk, OnErr};
+ghost use Rattle.std.specs.Prelude.{◌≡◌, ◌<◌, ◌≤◌, ◌+◌, ◌++◌, ◌∷◌, [], false, position, OnOk, OnErr};
 ghost use Rattle.std.specs.List.{list_any};
 ghost use Rattle.setoff_model.specs.Same.{same_name};
 
 use indexmap::IndexSet;
-use setoff_model::Name;
+use setoff_model::{Name, same_names};
 use std::alloc::{AllocError, Global};
 use std::marker::Model;
 
@@ -38,6 +38,17 @@ impl NameIndex {
         ensures { result ≡ position (same_name name.now) self.now.names }
     {
         self.names.get_index_of(name)
+    }
+
+    /// The place of a name, as `place` finds it. Where the name stands at the guess, nothing is looked up.
+    pub fn place_near(&self, guess: usize, name: &Name) -> Option<usize>
+        ensures { result ≡ position (same_name name.now) self.now.names }
+    {
+        let names = self.names.as_slice();
+        if guess < names.len() && same_names(name, &names[guess]) {
+            return Some(guess);
+        }
+        self.place(name)
     }
 
     /// Makes the room for so many names. It lowers no room that was made before.
