@@ -20,8 +20,8 @@ within() {
   awk -v name="$1" 'index($0, name) { gsub(/,/, "", $1); print $1; found = 1; exit } END { if (!found) print 0 }' "$folder/counts"
 }
 
-awk -v cut="$(within closing::open_round)" -v certified="$(within certifying::certified)" -v solved="$(within certifying::solved)" \
-  -v book="$(within closing::put_publication)" -v printed="$(within statement::print_statement)" -v all="$(within 'PROGRAM TOTALS')" 'BEGIN {
+awk -v cut="$(within build_cut)" -v certified="$(within certifying::certified)" -v solved="$(within certifying::solved)" \
+  -v book="$(within apply_publish)" -v printed="$(within statement::print_statement)" -v all="$(within 'PROGRAM TOTALS')" 'BEGIN {
   round = cut + certified + book + printed
   if (!cut || !solved || !book || !printed) { print "bench: a step was not found in the profile" > "/dev/stderr"; exit 1 }
   printf "%-40s %12s %6s\n", "step", "instructions", "share"

@@ -5,6 +5,7 @@ use Rattle.std.proofs.lemmas.Int.{ints, clamps}
 use Rattle.std.specs.Prelude.{map, if◌then◌else◌}
 use Rattle.std.proofs.Common.{Bool, true, false, List, get_or}
 use Rattle.std.proofs.lemmas.List.Elements.{All-map}
+use Rattle.setoff_model.specs.Limits.{first_ceiling}
 use Rattle.setoff_model.specs.Same.{same_name}
 use Rattle.claim_history.specs.declared.fact.AccountFact.{AccountFact}
 use Rattle.claim_history.specs.Laws.{IsWithin}
@@ -16,14 +17,14 @@ put_in b a within lt = omega (arith, ints, clamps, within.0, within.1, lt)
 pub taken_out : (b : ℤ) (a : ℕ) → IsWithin (3 * 10 ^ 18) (3 * 10 ^ 18) b → a < 10 ^ 18 → to_z w64 (of_z w64 (to_z w64 (of_z w64 b) -ℤ to_z w64 a)) ≡ b -ℤ pos a
 taken_out b a within lt = omega (arith, ints, clamps, within.0, within.1, lt)
 
-pub kept : (b : ℤ) → IsWithin (10 ^ 15) (10 ^ 15) b → to_z w64 (of_z w64 b) ≡ b
+pub kept : (b : ℤ) → IsWithin first_ceiling first_ceiling b → to_z w64 (of_z w64 b) ≡ b
 kept b within = omega (arith, ints, clamps, within.0, within.1)
 
 -- small balances are near
 pub near : (accounts : List AccountFact) → AreSmall accounts → AreWithin (3 * 10 ^ 18) accounts
 near accounts small k a lt = further (small k a lt)
   where
-    further : {z : ℤ} → IsWithin (10 ^ 15) (10 ^ 15) z → IsWithin (3 * 10 ^ 18) (3 * 10 ^ 18) z
+    further : {z : ℤ} → IsWithin first_ceiling first_ceiling z → IsWithin (3 * 10 ^ 18) (3 * 10 ^ 18) z
     further within = record { 0 = omega (arith, ints, within.0, within.1); 1 = omega (arith, ints, within.0, within.1) }
 
 pub nearer : (accounts : List AccountFact) → AreWithin (2 * 10 ^ 18) accounts → AreWithin (3 * 10 ^ 18) accounts

@@ -1,9 +1,8 @@
 -- Rows and the index of their keys.
-use Rattle.std.specs.Prelude.{if◌then◌else◌, take, map, set, sum_by, count_by}
+use Rattle.std.specs.Prelude.{if◌then◌else◌, take, map, sum_by, count_by}
 use Rattle.std.specs.List.{list_any}
-use Rattle.std.proofs.Common.{take_all, ◌≡◌, ℕ, ◌+◌, ◌≤◌, Bool, true, false, cond, ◌||◌, List, [], ◌∷◌, ◌++◌, length, get_or, refl, sym, ◌∙◌, ap, ap₂, subst, arith}
+use Rattle.std.proofs.Common.{take_all, ◌≡◌, ℕ, ◌+◌, ◌≤◌, Bool, true, false, cond, ◌||◌, List, [], ◌∷◌, ◌++◌, length, refl, sym, ◌∙◌, ap, ap₂, subst, arith}
 use Rattle.std.proofs.lemmas.List.{length-map, take-append-le}
-use Rattle.std.proofs.Math.Seq.{map-set_same}
 use Rattle.std.proofs.lemmas.List.Sums.{sum_by-append}
 use Rattle.setoff_model.specs.Same.{same_name, same_key}
 use Rattle.setoff_model.specs.declared.name.Key.{Key}

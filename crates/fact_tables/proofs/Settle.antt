@@ -11,6 +11,7 @@ use Rattle.std.proofs.lemmas.List.Elements.{All-map}
 use Rattle.std.proofs.lemmas.Bool.{cases_lt, cond-true, cond-false}
 use Rattle.std.proofs.lemmas.List.Folds.{list_any_none, list_any_at}
 use Rattle.std.proofs.lemmas.List.Quantifiers.{position-Some}
+use Rattle.setoff_model.specs.Limits.{first_ceiling}
 use Rattle.setoff_model.specs.Same.{same_name, same_key}
 use Rattle.setoff_model.specs.Setoff.{flow_at, total_of}
 use Rattle.setoff_model.specs.CutView.{creditors, debtors}
@@ -199,7 +200,7 @@ flow_below : (side : CutClaim → ℕ) (claims : List CutClaim) (d : List ℕ) (
 flow_below side claims d i None long small le = omega arith
 flow_below side claims d i (Some f) long small le = flow_small side claims d i f _ long small le refl
 
-between : (z : ℤ) (f g : ℕ) → IsWithin (10 ^ 15) (10 ^ 15) z → f < 10 ^ 18 → g < 10 ^ 18 → IsWithin (2 * 10 ^ 18) (2 * 10 ^ 18) ((z +ℤ pos f) -ℤ pos g)
+between : (z : ℤ) (f g : ℕ) → IsWithin first_ceiling first_ceiling z → f < 10 ^ 18 → g < 10 ^ 18 → IsWithin (2 * 10 ^ 18) (2 * 10 ^ 18) ((z +ℤ pos f) -ℤ pos g)
 between z f g within lf lg = record { 0 = omega (arith, ints, within.0, within.1, lf, lg); 1 = omega (arith, ints, within.0, within.1, lf, lg) }
 
 -- on the way no balance goes far

@@ -1,5 +1,5 @@
 -- Sums of amounts by firm, and what firms are owed and owe on claims.
-use Rattle.std.specs.Prelude.{◌≡◌, ℕ, ◌<◌, ◌≤◌, ◌^◌, Bool, true, ◌&&◌, List, map, filter, sum, sum_by, position, length, All}
+use Rattle.std.specs.Prelude.{◌≡◌, ℕ, ◌<◌, ◌^◌, Bool, true, ◌&&◌, List, map, filter, sum, sum_by, position, All}
 use Rattle.std.specs.List.{list_any}
 use Rattle.setoff_model.specs.Same.{same_name}
 use Rattle.setoff_model.specs.declared.name.Key.{Key}

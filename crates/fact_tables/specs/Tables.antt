@@ -1,5 +1,5 @@
 -- The tables of claims and accounts, and how an entry changes them.
-use Rattle.std.specs.Prelude.{◌≡◌, ℕ, ◌-◌, ◌≤◌, ◌^◌, count_by, All, ◌∷◌, ◌++◌, [], List, map, pos, ◌+ℤ◌, ◌-ℤ◌, if◌then◌else◌}
+use Rattle.std.specs.Prelude.{◌≡◌, ℕ, ◌-◌, ◌≤◌, count_by, All, ◌∷◌, ◌++◌, [], List, map, pos, ◌+ℤ◌, ◌-ℤ◌, if◌then◌else◌}
 use Rattle.setoff_model.specs.declared.name.Key.{Key}
 use Rattle.setoff_model.specs.Limits.{first_ceiling}
 use Rattle.setoff_model.specs.Same.{same_name, same_key}
@@ -101,9 +101,9 @@ KeysOnce claims = (key : Key) → count_by (λ c. same_key key c.key) claims ≤
 abbrev pub AreWithin : ℕ → List AccountFact → Type 0
 AreWithin most accounts = All (λ a. IsWithin most most a.balance) accounts
 
--- from -10^15 to 10^15 cents
+-- no balance is further from zero than the first ceiling
 abbrev pub AreSmall : List AccountFact → Type 0
-AreSmall accounts = All (λ a. IsWithin (10 ^ 15) (10 ^ 15) a.balance) accounts
+AreSmall accounts = All (λ a. IsWithin first_ceiling first_ceiling a.balance) accounts
 
 pub record AreAccounts (accounts : List AccountFact) : Type 0 where
   pub once : FirmsOnce accounts

@@ -8,6 +8,7 @@ ghost use Rattle.claim_history.specs.Acts.{is_valid};
 ghost use Rattle.fact_tables.specs.Settling.{settled_account};
 ghost use Rattle.fact_tables.specs.Tables.{new_account, funded, drawn, limited, offered, accounts_with, FirmsOnce, AreSmall, AreWithin, AreAccounts};
 
+use crate::guesses::Guesses;
 use claim_history::{AccountFact, Act, Entry, accepted};
 use name_index::NameIndex;
 use setoff_model::limits::FIRST_CEILING;
@@ -91,7 +92,7 @@ impl AccountTable {
     /// no memory.
     ///
     /// There is one discharge for each claim of the cut, which is well formed, their total is below 10^18 cents, and the balances
-    /// stay small. The accounts of each claim of the cut are found by the index.
+    /// stay small. The account of a party is found by the index once, and then where it was found.
     pub fn discharge(&mut self, cut: &Cut, discharges: &[u64])
         requires one_each { length discharges.now ≡ length cut.now.claims }
         requires formed { WellFormed cut.now }
@@ -111,6 +112,20 @@ fn account_place(accounts: &[AccountFact], names: &NameIndex, firm: &Name) -> Op
 {
     let _ = accounts;
     names.place(firm)
+}
+
+// The same, looked for at a place first.
+fn account_near(
+    accounts: &[AccountFact],
+    names: &NameIndex,
+    guess: usize,
+    firm: &Name,
+) -> Option<usize>
+    requires { names.now.names ≡ map (λ a. a.firm) accounts.now }
+    ensures { result ≡ position (λ a. same_name firm.now a.firm) accounts.now }
+{
+    let _ = accounts;
+    names.place_near(guess, firm)
 }
 
 fn find_account(accounts: &[AccountFact], names: &NameIndex, firm: &Name) -> Option<AccountFact>
@@ -143,8 +158,12 @@ fn change_accounts(accounts: &mut Vec<AccountFact>, names: &mut NameIndex, entry
     }
     match &entry.act {
         Act::Firm { firm } => add_account(accounts, names, firm),
-        Act::Fund { firm, amount } => fund(accounts, names, firm, *amount),
-        Act::Draw { firm, amount } => draw(accounts, names, firm, *amount),
+        Act::Fund { firm, amount } => {
+            let _ = fund(accounts, names, 0, firm, *amount);
+        }
+        Act::Draw { firm, amount } => {
+            let _ = draw(accounts, names, 0, firm, *amount);
+        }
         Act::Limit {
             firm,
             credit,
@@ -183,29 +202,51 @@ fn add_account(accounts: &mut Vec<AccountFact>, names: &mut NameIndex, firm: &Na
     });
 }
 
-fn fund(accounts: &mut [AccountFact], names: &NameIndex, firm: &Name, amount: u64)
+// Puts an amount into the account of a firm, which is looked for at a place first. Gives the place at which it stands.
+fn fund(
+    accounts: &mut [AccountFact],
+    names: &NameIndex,
+    guess: usize,
+    firm: &Name,
+    amount: u64,
+) -> usize
     requires names { names.now.names ≡ map (λ a. a.firm) accounts.old }
     requires once { FirmsOnce accounts.old }
     requires near { AreWithin (3 * 10 ^ 18) accounts.old }
     requires amount { amount < 10 ^ 18 }
     ensures { accounts.new ≡ map (funded firm.now amount) accounts.old }
 {
-    if let Some(place) = account_place(accounts, names, firm) {
-        let account = &mut accounts[place];
-        account.balance += amount as i64;
+    match account_near(accounts, names, guess, firm) {
+        None => guess,
+        Some(place) => {
+            let account = &mut accounts[place];
+            account.balance += amount as i64;
+            place
+        }
     }
 }
 
-fn draw(accounts: &mut [AccountFact], names: &NameIndex, firm: &Name, amount: u64)
+// Takes an amount out of the account of a firm, as `fund` puts it in.
+fn draw(
+    accounts: &mut [AccountFact],
+    names: &NameIndex,
+    guess: usize,
+    firm: &Name,
+    amount: u64,
+) -> usize
     requires names { names.now.names ≡ map (λ a. a.firm) accounts.old }
     requires once { FirmsOnce accounts.old }
     requires near { AreWithin (3 * 10 ^ 18) accounts.old }
     requires amount { amount < 10 ^ 18 }
     ensures { accounts.new ≡ map (drawn firm.now amount) accounts.old }
 {
-    if let Some(place) = account_place(accounts, names, firm) {
-        let account = &mut accounts[place];
-        account.balance -= amount as i64;
+    match account_near(accounts, names, guess, firm) {
+        None => guess,
+        Some(place) => {
+            let account = &mut accounts[place];
+            account.balance -= amount as i64;
+            place
+        }
     }
 }
 
@@ -254,10 +295,15 @@ fn discharge_accounts(
     ensures { accounts.new ≡ map (settled_account (record { cut = cut.now; discharges = discharges.now })) accounts.old }
 {
     let parties = cut.parties();
+    let mut guesses = Guesses::new();
     for (i, claim) in cut.claims().iter().enumerate() {
         let creditor = parties[claim.creditor as usize];
         let debtor = parties[claim.debtor as usize];
-        fund(accounts, names, &creditor.firm, discharges[i]);
-        draw(accounts, names, &debtor.firm, discharges[i]);
+        let guess = guesses.of(claim.creditor);
+        let to = fund(accounts, names, guess, &creditor.firm, discharges[i]);
+        guesses.keep(claim.creditor, to);
+        let guess = guesses.of(claim.debtor);
+        let by = draw(accounts, names, guess, &debtor.firm, discharges[i]);
+        guesses.keep(claim.debtor, by);
     }
 }

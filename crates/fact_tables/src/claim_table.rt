@@ -1,5 +1,5 @@
 //! The claims of a book.
-ghost use Rattle.std.specs.Prelude.{◌≡◌, ◌+◌, ◌<◌, ◌≤◌, ◌++◌, ◌∷◌, [], ◌&&◌, sum, filter, find, map, set, length, get_or, OnOk, OnErr, if◌then◌else◌};
+ghost use Rattle.std.specs.Prelude.{◌≡◌, ◌+◌, ◌<◌, ◌≤◌, ◌++◌, ◌∷◌, [], ◌&&◌, sum, filter, find, position, map, set, length, get_or, OnOk, OnErr, if◌then◌else◌};
 ghost use Rattle.setoff_model.specs.CutView.{WellFormed};
 ghost use Rattle.setoff_model.specs.Same.{same_name, same_key};
 ghost use Rattle.claim_history.specs.Facts.{is_confirmed as confirmed};
@@ -8,9 +8,10 @@ ghost use Rattle.fact_tables.specs.Tables.{new_claim, with_status, with_receipt,
 ghost use Rattle.fact_tables.specs.Sums.{MayStand};
 
 use crate::firm_sums::FirmSums;
+use crate::walk::{Sides, Walk};
 use claim_history::{Act, ClaimFact, Day, Entry, Status, accepted};
 use name_index::KeyIndex;
-use setoff_model::{Cut, Key, Name};
+use setoff_model::{Cut, CutClaim, Key, Name};
 use std::alloc::{AllocError, Global};
 use std::marker::Model;
 
@@ -132,15 +133,45 @@ impl ClaimTable {
     }
 
     /// Takes off each claim what the round of a cut discharged of it. There is one discharge for each claim of the cut, which is
-    /// well formed. It takes no memory, and each claim of the cut is found by the index.
+    /// well formed. It takes no memory.
+    ///
+    /// A cut has its claims in the order of the table. So each is looked for behind the one before it, and all of them are found in
+    /// one walk over the table; a claim that does not stand there is found by the index.
     pub fn discharge(&mut self, cut: &Cut, discharges: &[u64])
         requires one_each { length discharges.now ≡ length cut.now.claims }
         requires formed { WellFormed cut.now }
         ensures facts { self.new.facts ≡ map (settled_claim (record { cut = cut.now; discharges = discharges.now })) self.old.facts }
         ensures room { self.new.room ≡ self.old.room }
     {
+        let mut walk = Walk::new();
         for (i, claim) in cut.claims().iter().enumerate() {
-            self.receive(&claim.key, discharges[i]);
+            self.settle(&mut walk, claim, discharges[i]);
+        }
+    }
+
+    // Takes an amount off a claim of a cut.
+    fn settle(&mut self, walk: &mut Walk, claim: &CutClaim, amount: u64)
+        ensures facts { self.new.facts ≡ map (with_receipt claim.now.key amount) self.old.facts }
+        ensures room { self.new.room ≡ self.old.room }
+    {
+        let found = self.next_place(walk, &claim.key);
+        let sides = self.receive_at(found, walk.sides_of(claim), &claim.key, amount);
+        walk.keep(claim, sides);
+    }
+
+    // The place of a claim, which is looked for on the walk first.
+    fn next_place(&self, walk: &mut Walk, key: &Key) -> Option<usize>
+        ensures { result ≡ position (λ c. same_key key.now c.key) self.now.facts }
+    {
+        match self.keys.place_from(walk.next, key) {
+            None => {
+                walk.next = self.facts.len();
+                self.place(key)
+            }
+            Some(place) => {
+                walk.next = place + 1;
+                Some(place)
+            }
         }
     }
 
@@ -163,13 +194,20 @@ impl ClaimTable {
         });
     }
 
+    // The place of a claim; None where the key was never filed.
+    fn place(&self, key: &Key) -> Option<usize>
+        ensures { result ≡ position (λ c. same_key key.now c.key) self.now.facts }
+    {
+        self.keys.place(key)
+    }
+
     fn set_status(&mut self, key: &Key, status: Status)
         ensures facts { self.new.facts ≡ map (with_status key.now status) self.old.facts }
         ensures room { self.new.room ≡ self.old.room }
     {
         if let Some(place) = self.keys.place(key) {
             let claim = self.facts[place];
-            self.put(place, ClaimFact { status, ..claim });
+            let _ = self.put(place, Sides::new(), ClaimFact { status, ..claim });
         }
     }
 
@@ -177,20 +215,30 @@ impl ClaimTable {
         ensures facts { self.new.facts ≡ map (with_receipt key.now amount) self.old.facts }
         ensures room { self.new.room ≡ self.old.room }
     {
-        if let Some(place) = self.keys.place(key) {
-            let claim = self.facts[place];
-            self.put(
-                place,
-                ClaimFact {
-                    left: claim.left.saturating_sub(amount),
-                    ..claim
-                },
-            );
+        let found = self.place(key);
+        let _ = self.receive_at(found, Sides::new(), key, amount);
+    }
+
+    // Takes an amount off the claim that was found, if any was.
+    fn receive_at(&mut self, found: Option<usize>, sides: Sides, key: &Key, amount: u64) -> Sides
+        requires { found ≡ position (λ c. same_key key.now c.key) self.old.facts }
+        ensures facts { self.new.facts ≡ map (with_receipt key.now amount) self.old.facts }
+        ensures room { self.new.room ≡ self.old.room }
+    {
+        let _ = key;
+        match found {
+            None => sides,
+            Some(place) => {
+                let claim = self.facts[place];
+                let left = claim.left.saturating_sub(amount);
+                self.put(place, sides, ClaimFact { left, ..claim })
+            }
         }
     }
 
-    // Puts a claim of the same key and debtor at a place, with no more open.
-    fn put(&mut self, place: usize, claim: ClaimFact)
+    // Puts a claim of the same key and debtor at a place, with no more open. Gives where its two firms have their sums, which are
+    // looked for at some sides first.
+    fn put(&mut self, place: usize, sides: Sides, claim: ClaimFact) -> Sides
         requires within { place < length self.old.facts }
         requires key { claim.key ≡ (get_or self.old.facts place claim).key }
         requires debtor { claim.debtor ≡ (get_or self.old.facts place claim).debtor }
@@ -201,9 +249,14 @@ impl ClaimTable {
         let old = self.facts[place];
         let less = counted(&old);
         let more = counted(&claim);
-        self.receivables.change(&claim.key.creditor, less, more);
-        self.payables.change(&claim.debtor, less, more);
+        let creditor = self
+            .receivables
+            .change(sides.creditor, &claim.key.creditor, less, more);
+        let debtor = self
+            .payables
+            .change(sides.debtor, &claim.debtor, less, more);
         self.facts[place] = claim;
+        Sides { creditor, debtor }
     }
 }
 

@@ -78,8 +78,8 @@ impl FirmSums {
     }
 
     /// Takes one amount off the sum of a firm, and adds another. The firm has a sum, which the first is not above, and what comes
-    /// out fits.
-    pub(crate) fn change(&mut self, firm: &Name, less: u64, more: u64)
+    /// out fits. The firm is looked for at a place first; the place at which it stands is given.
+    pub(crate) fn change(&mut self, guess: usize, firm: &Name, less: u64, more: u64) -> usize
         requires known { has_sum self.old firm.now ≡ true }
         requires enough { less ≤ sum_of self.old firm.now }
         requires fits { sum_of self.old firm.now - less + more < 2 ^ 64 }
@@ -87,9 +87,13 @@ impl FirmSums {
         ensures sums { (other : List ℕ) → sum_of self.new other ≡ (if same_name firm.now other then sum_of self.old other - less + more else sum_of self.old other) }
         ensures room { self.new.room ≡ self.old.room }
     {
-        if let Some(place) = self.firms.place(firm) {
-            let sum = self.sums[place];
-            self.sums[place] = sum - less + more;
+        match self.firms.place_near(guess, firm) {
+            None => guess,
+            Some(place) => {
+                let sum = self.sums[place];
+                self.sums[place] = sum - less + more;
+                place
+            }
         }
     }
 }

@@ -10,7 +10,9 @@
 mod account_table;
 mod claim_table;
 mod firm_sums;
+mod guesses;
 mod settling;
+mod walk;
 
 pub use account_table::AccountTable;
 pub use claim_table::ClaimTable;

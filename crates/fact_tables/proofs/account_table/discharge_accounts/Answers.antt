@@ -13,40 +13,40 @@ use Rattle.fact_tables.proofs.account_table.discharge_accounts.Goals as goal
 pub loop-i-init : goal.loop-i-init
 loop-i-init c = accounts_start c.args.cut.now c.args.discharges.now c.args.accounts.now
 
-pub fund-requires-clause-names : goal.fund-requires-clause-names
-fund-requires-clause-names c = c.requires.names ∙ sym (firms_after c.args.cut.now c.args.discharges.now c.loop-i.i c.args.accounts.now c.loop-i.accounts c.loop-i.invariant)
+pub fund-to-requires-clause-names : goal.fund-to-requires-clause-names
+fund-to-requires-clause-names c = c.requires.names ∙ sym (firms_after c.args.cut.now c.args.discharges.now c.loop-i.i c.args.accounts.now c.loop-i.accounts c.loop-i.invariant)
 
-pub fund-requires-clause-once : goal.fund-requires-clause-once
-fund-requires-clause-once c = firms_once c.args.accounts.now c.loop-i.accounts (firms_after c.args.cut.now c.args.discharges.now c.loop-i.i c.args.accounts.now c.loop-i.accounts c.loop-i.invariant) c.requires.once
+pub fund-to-requires-clause-once : goal.fund-to-requires-clause-once
+fund-to-requires-clause-once c = firms_once c.args.accounts.now c.loop-i.accounts (firms_after c.args.cut.now c.args.discharges.now c.loop-i.i c.args.accounts.now c.loop-i.accounts c.loop-i.invariant) c.requires.once
 
-pub fund-requires-clause-near : goal.fund-requires-clause-near
-fund-requires-clause-near c =
+pub fund-to-requires-clause-near : goal.fund-to-requires-clause-near
+fund-to-requires-clause-near c =
     let le = subst (λ (cs : List CutClaim). c.loop-i.i ≤ length cs) c.claims-claim-items.ensures (omega (arith, c.loop-i-test.true)) in
     nearer c.loop-i.accounts (subst (AreWithin (2 * 10 ^ 18)) (sym c.loop-i.invariant) (accounts_near c.args.cut.now c.args.discharges.now c.loop-i.i c.args.accounts.now c.requires.one_each c.requires.total le c.requires.small))
 
-pub draw-requires-clause-names : goal.draw-requires-clause-names
-draw-requires-clause-names c =
+pub draw-by-requires-clause-names : goal.draw-by-requires-clause-names
+draw-by-requires-clause-names c =
     let x = slice_index c.args.discharges.now c.loop-i.i in
     c.requires.names
-    ∙ sym (firms_funded c.index-parties-claim.result.firm x c.loop-i.accounts c.fund.new.accounts c.fund.ensures
+    ∙ sym (firms_funded c.index-parties-claim.result.firm x c.loop-i.accounts c.fund-to.new.accounts c.fund-to.ensures
     ∙ firms_after c.args.cut.now c.args.discharges.now c.loop-i.i c.args.accounts.now c.loop-i.accounts c.loop-i.invariant)
 
-pub draw-requires-clause-once : goal.draw-requires-clause-once
-draw-requires-clause-once c =
+pub draw-by-requires-clause-once : goal.draw-by-requires-clause-once
+draw-by-requires-clause-once c =
     let x = slice_index c.args.discharges.now c.loop-i.i in
-    firms_once c.args.accounts.now c.fund.new.accounts
-    (firms_funded c.index-parties-claim.result.firm x c.loop-i.accounts c.fund.new.accounts c.fund.ensures
+    firms_once c.args.accounts.now c.fund-to.new.accounts
+    (firms_funded c.index-parties-claim.result.firm x c.loop-i.accounts c.fund-to.new.accounts c.fund-to.ensures
     ∙ firms_after c.args.cut.now c.args.discharges.now c.loop-i.i c.args.accounts.now c.loop-i.accounts c.loop-i.invariant)
     c.requires.once
 
-pub draw-requires-clause-near : goal.draw-requires-clause-near
-draw-requires-clause-near c =
+pub draw-by-requires-clause-near : goal.draw-by-requires-clause-near
+draw-by-requires-clause-near c =
     let d = c.args.discharges.now in
     let x = slice_index d c.loop-i.i in
     let lt = subst (λ (cs : List CutClaim). c.loop-i.i < length cs) c.claims-claim-items.ensures c.loop-i-test.true in
     let low = get_or-le-sum_by (λ n. n) d c.loop-i.i 0 (omega (arith, lt, c.requires.one_each)) in
     let near = subst (AreWithin (2 * 10 ^ 18)) (sym c.loop-i.invariant) (accounts_near c.args.cut.now d c.loop-i.i c.args.accounts.now c.requires.one_each c.requires.total (omega (arith, lt)) c.requires.small) in
-    subst (AreWithin (3 * 10 ^ 18)) (sym c.fund.ensures) (near_funded c.index-parties-claim.result.firm x c.loop-i.accounts (omega (arith, low, c.requires.total)) near)
+    subst (AreWithin (3 * 10 ^ 18)) (sym c.fund-to.ensures) (near_funded c.index-parties-claim.result.firm x c.loop-i.accounts (omega (arith, low, c.requires.total)) near)
 
 pub loop-i-preserved : goal.loop-i-preserved
 loop-i-preserved c =
@@ -59,8 +59,8 @@ loop-i-preserved c =
     let among : IsClaimAmong cut.parties x = subst (IsClaimAmong cut.parties) (sym is) (c.requires.formed.claims i x lt) in
     let to = c.index-parties-claim.result in
     let by = c.index-parties-claim-in-loop-i.result in
-    c.draw.ensures
-    ∙ ap (map (drawn by.firm (slice_index d i))) (c.fund.ensures ∙ ap (map (funded to.firm (slice_index d i))) c.loop-i.invariant)
+    c.draw-by.ensures
+    ∙ ap (map (drawn by.firm (slice_index d i))) (c.fund-to.ensures ∙ ap (map (funded to.firm (slice_index d i))) c.loop-i.invariant)
     ∙ map_twice (drawn by.firm (slice_index d i)) (funded to.firm (slice_index d i)) (account_after cut d i) (account_after cut d (i + 1)) c.args.accounts.now
     (account_next cut d i x to by c.requires.formed.firms lt is
     among.creditor (c.index-parties-claim.is ∙ ap (λ (ps : List Party). get_or ps x.creditor to) c.parties-parties.ensures)

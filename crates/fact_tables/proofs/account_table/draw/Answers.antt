@@ -9,12 +9,12 @@ use Rattle.fact_tables.proofs.account_table.draw.Goals as goal
 
 pub returns-in-Some : goal.returns-in-Some
 returns-in-Some c =
-    let found = sym c.account_place.ensures ∙ c.in-Some.is in
+    let found = sym c.account_near.ensures ∙ c.in-Some.is in
     let at = position-Some (λ (a : AccountFact). same_name c.args.firm.now a.firm) c.args.accounts.now c.in-Some.place c.index-accounts-place.result found in
     let old = get_or c.args.accounts.now c.in-Some.place c.index-accounts-place.result in
     ap (λ z. set c.args.accounts.now c.in-Some.place (record old { balance = z })) (taken_out old.balance c.args.amount (c.requires.near c.in-Some.place c.index-accounts-place.result at.0) c.requires.amount)
     ∙ step_at (λ (a : AccountFact). same_name c.args.firm.now a.firm) (λ a. record a { balance = a.balance -ℤ pos c.args.amount }) c.args.accounts.now c.in-Some.place c.index-accounts-place.result found (c.requires.once c.args.firm.now)
 
-pub returns-in_default : goal.returns-in_default
-returns-in_default c =
-    step_none (λ (a : AccountFact). same_name c.args.firm.now a.firm) (λ a. record a { balance = a.balance -ℤ pos c.args.amount }) c.args.accounts.now (sym c.account_place.ensures ∙ c.in_default.is)
+pub returns-in-None : goal.returns-in-None
+returns-in-None c =
+    step_none (λ (a : AccountFact). same_name c.args.firm.now a.firm) (λ a. record a { balance = a.balance -ℤ pos c.args.amount }) c.args.accounts.now (sym c.account_near.ensures ∙ c.in-None.is)

@@ -1,5 +1,5 @@
 use Rattle.std.specs.Prelude.{if◌then◌else◌, Bool, ◌++◌, ◌∷◌, []}
-use Rattle.std.proofs.Common.{◌≤◌, ◌<◌, sym, ◌∙◌, ap, subst, refl, arith}
+use Rattle.std.proofs.Common.{◌<◌, sym, ◌∙◌, ap, subst, refl, arith}
 use Rattle.setoff_model.specs.Same.{same_key}
 use Rattle.setoff_model.proofs.SameNames.{key_same}
 use Rattle.claim_history.specs.declared.fact.ClaimFact.{ClaimFact}

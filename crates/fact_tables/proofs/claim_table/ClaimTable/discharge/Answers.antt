@@ -18,11 +18,11 @@ loop-i-preserved c =
     let lt = subst (λ (cs : List CutClaim). i < length cs) c.claims-claim-items.ensures c.loop-i-test.true in
     let is = c.claim-item.is ∙ ap (λ (cs : List CutClaim). get_or cs i x) c.claims-claim-items.ensures in
     record {
-      facts = c.receive.ensures.facts
+      facts = c.settle.ensures.facts
           ∙ ap (map (with_receipt x.key (slice_index c.args.discharges.now i))) c.loop-i.invariant.facts
           ∙ map_step (with_receipt x.key (slice_index c.args.discharges.now i)) (claim_after cut c.args.discharges.now i) _ c.args.self.now.facts
           (claim_next cut c.args.discharges.now i x (slice_index c.args.discharges.now i) c.requires.formed.keys lt is refl);
-      room = c.receive.ensures.room ∙ c.loop-i.invariant.room;
+      room = c.settle.ensures.room ∙ c.loop-i.invariant.room;
     }
 
 pub returns-clause-facts : goal.returns-clause-facts

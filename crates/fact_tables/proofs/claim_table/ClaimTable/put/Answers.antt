@@ -1,4 +1,4 @@
-use Rattle.std.specs.Prelude.{map, set, if◌then◌else◌, ℕ, List}
+use Rattle.std.specs.Prelude.{set, if◌then◌else◌, ℕ}
 use Rattle.std.proofs.Common.{◌≡◌, ◌+◌, ◌-◌, ◌<◌, ◌≤◌, length, get_or, sym, ◌∙◌, ap, ap₂, subst, arith}
 use Rattle.std.proofs.Math.Seq.{map-set_same}
 use Rattle.setoff_model.specs.Same.{same_name}
@@ -10,8 +10,8 @@ use Rattle.fact_tables.proofs.Keyed.{keys_once}
 use Rattle.fact_tables.proofs.Summed.{enough, fits, total_kept, sums_follow, read_at}
 use Rattle.fact_tables.proofs.claim_table.ClaimTable.put.Goals as goal
 
-pub change-requires-clause-enough : goal.change-requires-clause-enough
-change-requires-clause-enough c =
+pub change-creditor-requires-clause-enough : goal.change-creditor-requires-clause-enough
+change-creditor-requires-clause-enough c =
     let facts = c.self.inside.facts.items in
     let x = c.index.result.now in
     let y = c.args.claim in
@@ -21,8 +21,8 @@ change-requires-clause-enough c =
     let creditor : y.key.creditor ≡ x.key.creditor = ap (λ (k : Key). k.creditor) c.requires.key ∙ ap (λ (r : ClaimFact). r.key.creditor) old in
     rw c.counted-less.ensures (enough (λ (r : ClaimFact). r.key.creditor) facts c.self.inside.receivables place x y c.self.invariant.owed_to lt c.index.ensures creditor)
 
-pub change-requires-clause-fits : goal.change-requires-clause-fits
-change-requires-clause-fits c =
+pub change-creditor-requires-clause-fits : goal.change-creditor-requires-clause-fits
+change-creditor-requires-clause-fits c =
     let facts = c.self.inside.facts.items in
     let x = c.index.result.now in
     let y = c.args.claim in
@@ -33,8 +33,8 @@ change-requires-clause-fits c =
     let left : y.left ≤ x.left = subst (λ (r : ClaimFact). y.left ≤ r.left) old c.requires.left in
     rw (c.counted-less.ensures, c.counted-more.ensures) (fits (λ (r : ClaimFact). r.key.creditor) facts c.self.inside.receivables place x y c.self.invariant.owed_to lt c.index.ensures creditor left c.self.invariant.stand.small)
 
-pub change-requires-2-clause-enough : goal.change-requires-2-clause-enough
-change-requires-2-clause-enough c =
+pub change-debtor-requires-clause-enough : goal.change-debtor-requires-clause-enough
+change-debtor-requires-clause-enough c =
     let facts = c.self.inside.facts.items in
     let x = c.index.result.now in
     let y = c.args.claim in
@@ -44,8 +44,8 @@ change-requires-2-clause-enough c =
     let debtor : y.debtor ≡ x.debtor = c.requires.debtor ∙ ap (λ (r : ClaimFact). r.debtor) old in
     rw c.counted-less.ensures (enough (λ (r : ClaimFact). r.debtor) facts c.self.inside.payables place x y c.self.invariant.owed_by lt c.index.ensures debtor)
 
-pub change-requires-2-clause-fits : goal.change-requires-2-clause-fits
-change-requires-2-clause-fits c =
+pub change-debtor-requires-clause-fits : goal.change-debtor-requires-clause-fits
+change-debtor-requires-clause-fits c =
     let facts = c.self.inside.facts.items in
     let x = c.index.result.now in
     let y = c.args.claim in
@@ -75,8 +75,8 @@ invariant_of-self c =
         once = keys_once facts (set facts place y) (sym keys) c.self.invariant.stand.once;
         small = omega (arith, c.self.invariant.stand.small, total_kept (λ (r : ClaimFact). r.debtor) facts c.self.inside.payables place x y c.self.invariant.owed_by lt c.index.ensures debtor left);
       };
-      owed_to = sums_follow (λ (r : ClaimFact). r.key.creditor) facts c.self.inside.receivables place x y c.self.invariant.owed_to lt c.index.ensures creditor c.change.new.self c.change.ensures.known
-          (λ other. c.change.ensures.sums other ∙ ap₂ (λ (less more : ℕ). if same_name y.key.creditor other then sum_of c.self.inside.receivables other - less + more else sum_of c.self.inside.receivables other) c.counted-less.ensures c.counted-more.ensures);
-      owed_by = sums_follow (λ (r : ClaimFact). r.debtor) facts c.self.inside.payables place x y c.self.invariant.owed_by lt c.index.ensures debtor c.change-2.new.self c.change-2.ensures.known
-          (λ other. c.change-2.ensures.sums other ∙ ap₂ (λ (less more : ℕ). if same_name y.debtor other then sum_of c.self.inside.payables other - less + more else sum_of c.self.inside.payables other) c.counted-less.ensures c.counted-more.ensures);
+      owed_to = sums_follow (λ (r : ClaimFact). r.key.creditor) facts c.self.inside.receivables place x y c.self.invariant.owed_to lt c.index.ensures creditor c.change-creditor.new.self c.change-creditor.ensures.known
+          (λ other. c.change-creditor.ensures.sums other ∙ ap₂ (λ (less more : ℕ). if same_name y.key.creditor other then sum_of c.self.inside.receivables other - less + more else sum_of c.self.inside.receivables other) c.counted-less.ensures c.counted-more.ensures);
+      owed_by = sums_follow (λ (r : ClaimFact). r.debtor) facts c.self.inside.payables place x y c.self.invariant.owed_by lt c.index.ensures debtor c.change-debtor.new.self c.change-debtor.ensures.known
+          (λ other. c.change-debtor.ensures.sums other ∙ ap₂ (λ (less more : ℕ). if same_name y.debtor other then sum_of c.self.inside.payables other - less + more else sum_of c.self.inside.payables other) c.counted-less.ensures c.counted-more.ensures);
     }

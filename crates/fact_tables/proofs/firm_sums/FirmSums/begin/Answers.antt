@@ -1,4 +1,4 @@
-use Rattle.std.proofs.Common.{not, ◌≡◌, ◌∙◌, sym, ap, subst, true, ◌++◌, ◌∷◌, []}
+use Rattle.std.proofs.Common.{not, ◌∙◌, sym, ap}
 use Rattle.std.specs.List.{list_any}
 use Rattle.setoff_model.specs.Same.{same_name}
 use Rattle.fact_tables.specs.Sums.{SumsView, has_sum}
