@@ -1,6 +1,7 @@
 //! What was asked and replied.
 ghost use Rattle.std.specs.Prelude.{◌≡◌};
 ghost use Rattle.claim_history.specs.History.{is_accepted};
+ghost use Rattle.claim_history.specs.Needs.{is_of_device};
 
 use crate::act::Act;
 use crate::fact::Position;
@@ -84,4 +85,11 @@ pub fn accepted(entry: &Entry) -> bool
     ensures { result ≡ is_accepted entry.now }
 {
     !matches!(&entry.reply, Reply::Refused(_))
+}
+
+/// Whether a reply tells of the device, which failed at an act that would be accepted.
+pub fn tells_of_device(reply: &Reply) -> bool
+    ensures { result ≡ is_of_device reply.now }
+{
+    matches!(reply, Reply::Refused(Why::Device { .. }))
 }

@@ -27,7 +27,7 @@ mod laws;
 pub use act::{Act, each_act_has_its_own_text};
 pub use act_text::write_act;
 pub use day::{Day, days_are_civil_dates};
-pub use entry::{Entry, Reply, Why, accepted};
+pub use entry::{Entry, Reply, Why, accepted, tells_of_device};
 pub use fact::{AccountFact, ClaimFact, Position, Status};
 pub use laws::{
     calls_bound_use_and_cuts, each_round_has_one_cut, full_register_refuses_claims,

@@ -6,8 +6,7 @@ ghost use Rattle.claim_history.specs.Laws.{IsReplyInRange};
 ghost use Rattle.entry_text.specs.Entries.{why_name, why_numbers, why_text, spaced, position_text, reply_text, entry_line};
 
 use claim_history::{Entry, Position, Reply, Why, write_act};
-use itoa::Buffer;
-use setoff_model::{put, write_number};
+use setoff_model::{put, write_sum, write_whole};
 
 // The number and name of a refusal.
 fn name_of(why: Why) -> &'static [u8]
@@ -35,21 +34,6 @@ fn name_of(why: Why) -> &'static [u8]
         Why::Device { .. } => b"18 device",
         Why::NotProved => b"19 not-proved",
     }
-}
-
-// Writes cents as `write_cents` of `setoff_model` does, and asks for no more room than they take.
-fn write_sum(buffer: &mut Vec<u8>, cents: u64)
-    requires small { cents < 10 ^ 18 }
-    requires spare { vec_len buffer.old + 19 ≤ vec_capacity buffer.old }
-    ensures text { buffer.new.items ≡ buffer.old.items ++ cents_text cents }
-    ensures len { vec_len buffer.new ≤ vec_len buffer.old + 19 }
-    ensures room { vec_capacity buffer.old ≤ vec_capacity buffer.new }
-{
-    let mut digits = Buffer::new();
-    put(buffer, digits.format(cents / 100).as_bytes());
-    let tens = b'0' + (cents % 100 / 10) as u8;
-    let ones = b'0' + (cents % 10) as u8;
-    put(buffer, &[b'.', tens, ones]);
 }
 
 fn write_balance(buffer: &mut Vec<u8>, cents: i64)
@@ -102,9 +86,8 @@ fn write_spaced(buffer: &mut Vec<u8>, number: u64)
     ensures len { vec_len buffer.new ≤ vec_len buffer.old + 21 }
     ensures room { vec_capacity buffer.old ≤ vec_capacity buffer.new }
 {
-    let mut digits = Buffer::new();
     put(buffer, b" ");
-    put(buffer, digits.format(number).as_bytes());
+    write_whole(buffer, number);
 }
 
 // A word, a space and the number of a round.
@@ -189,7 +172,7 @@ pub fn write_entry(buffer: &mut Vec<u8>, entry: &Entry)
     ensures len { vec_len buffer.new ≤ vec_len buffer.old + 200 }
     ensures room { vec_capacity buffer.old ≤ vec_capacity buffer.new }
 {
-    write_number(buffer, i128::from(entry.caller));
+    write_whole(buffer, u64::from(entry.caller));
     put(buffer, b" ");
     write_act(buffer, &entry.act);
     put(buffer, b" = ");

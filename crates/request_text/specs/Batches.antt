@@ -4,7 +4,7 @@ use Rattle.claim_history.specs.Acts.{is_request}
 use Rattle.request_text.specs.declared.request.Request.{Request}
 use Rattle.request_text.specs.Lanes.{IsLane}
 
--- the line numbers rise, each lane is 1 to 16, and each act is valid and no publication
+-- the line numbers rise, each lane is one, and each act is valid and no publication
 pub record AreInOrder (requests : List Request) : Type 0 where
   pub rising : AllPairs (λ a b. a.line < b.line) requests
   pub lanes : All (λ r. IsLane r.lane) requests

@@ -1,9 +1,13 @@
 -- Lanes, and the line between batches.
 use Rattle.std.specs.Prelude.{ℕ, ◌≤◌, List, ◌++◌, codes}
 
--- the lanes are 1 to 16
+-- the lanes of a batch
+abbrev pub most_lanes : ℕ
+most_lanes = 16
+
+-- they have the numbers from 1 on
 abbrev pub IsLane : ℕ → Type 0
-IsLane lane = (1 ≤ lane) × (lane ≤ 16)
+IsLane lane = (1 ≤ lane) × (lane ≤ most_lanes)
 
 -- the line that ends a batch, and the same with its end
 abbrev pub fence : List ℕ

@@ -11,35 +11,19 @@ ghost use Rattle.request_text.specs.Causes.{HasArgsCause, HasCause, HasForm, Has
 ghost use Rattle.request_text.specs.declared.verb.Verb.TheVariants as verbs;
 
 use crate::error::LineCause;
+use crate::request::MOST_LANES;
 use crate::verb::{Verb, verb_of};
 use claim_history::{Act, Day};
-use setoff_model::{Key, Kind, Name, read_amount, read_kind, read_number};
+use setoff_model::{Key, Kind, Name, read_amount, read_claim_amount, read_kind, read_number};
 use std::alloc::{AllocError, Global};
 use text_lines::{ended_lines_are_lines, fields_of, joined_fields_are_cut_again};
-
-// The name that a field is.
-fn name_at(field: &[u8]) -> Option<Name>
-    ensures found { IfSome result (λ name. (name ≡ field.now) × (is_name name ≡ true)) }
-    ensures none { IfNone result (HasForm named field.now → ⊥) }
-{
-    match Name::of(field) {
-        Some(name) => {
-            let _ = name.bytes();
-            Some(name)
-        }
-        None => None,
-    }
-}
 
 // The amount from 0.01 on that a field is.
 fn amount_at(field: &[u8]) -> Option<u64>
     ensures found { IfSome result (λ cents. (field.now ≡ cents_text cents) × (is_claim_amount cents ≡ true)) }
     ensures none { IfNone result (HasForm some_cents field.now → ⊥) }
 {
-    match read_amount(field) {
-        Some(cents) if 1 <= cents => Some(cents),
-        _ => None,
-    }
+    read_claim_amount(field)
 }
 
 // The amount from 0.00 on that a field is.
@@ -77,10 +61,10 @@ fn key_at(creditor: &[u8], invoice: &[u8]) -> Result<Key, LineCause>
     ensures found { IfOk result (λ key. (key.creditor ≡ creditor.now) × (key.invoice ≡ invoice.now) × (is_key key ≡ true)) }
     ensures bad { IfErr result (HasArgsCause (named ∷ named ∷ []) (creditor.now ∷ invoice.now ∷ [])) }
 {
-    let Some(creditor) = name_at(creditor) else {
+    let Some(creditor) = Name::of(creditor) else {
         return Err(LineCause::Field(1));
     };
-    let Some(invoice) = name_at(invoice) else {
+    let Some(invoice) = Name::of(invoice) else {
         return Err(LineCause::Field(2));
     };
     Ok(Key { creditor, invoice })
@@ -94,7 +78,7 @@ fn firm_act(args: &[&[u8]]) -> Result<Act, LineCause>
     let [firm] = args else {
         return Err(LineCause::Fields);
     };
-    let Some(firm) = name_at(firm) else {
+    let Some(firm) = Name::of(firm) else {
         return Err(LineCause::Field(1));
     };
     Ok(Act::Firm { firm })
@@ -122,7 +106,7 @@ fn filed(
     ensures bad { IfErr result (HasArgsCause (forms_of verbs.File) (creditor.now ∷ invoice.now ∷ debtor.now ∷ amount.now ∷ due.now ∷ [])) }
 {
     let key = key_at(creditor, invoice)?;
-    let Some(debtor) = name_at(debtor) else {
+    let Some(debtor) = Name::of(debtor) else {
         return Err(LineCause::Field(3));
     };
     let Some(amount) = amount_at(amount) else {
@@ -155,7 +139,7 @@ fn confirmed(creditor: &[u8], invoice: &[u8], debtor: &[u8]) -> Result<Act, Line
     ensures bad { IfErr result (HasArgsCause (forms_of verbs.Confirm) (creditor.now ∷ invoice.now ∷ debtor.now ∷ [])) }
 {
     let key = key_at(creditor, invoice)?;
-    let Some(debtor) = name_at(debtor) else {
+    let Some(debtor) = Name::of(debtor) else {
         return Err(LineCause::Field(3));
     };
     Ok(Act::Confirm { key, debtor })
@@ -177,7 +161,7 @@ fn disputed(creditor: &[u8], invoice: &[u8], debtor: &[u8]) -> Result<Act, LineC
     ensures bad { IfErr result (HasArgsCause (forms_of verbs.Dispute) (creditor.now ∷ invoice.now ∷ debtor.now ∷ [])) }
 {
     let key = key_at(creditor, invoice)?;
-    let Some(debtor) = name_at(debtor) else {
+    let Some(debtor) = Name::of(debtor) else {
         return Err(LineCause::Field(3));
     };
     Ok(Act::Dispute { key, debtor })
@@ -239,7 +223,7 @@ fn funded(firm: &[u8], amount: &[u8]) -> Result<Act, LineCause>
     ensures found { IfOk result (AreArgs (codes "FUND") (firm.now ∷ amount.now ∷ [])) }
     ensures bad { IfErr result (HasArgsCause (forms_of verbs.Fund) (firm.now ∷ amount.now ∷ [])) }
 {
-    let Some(firm) = name_at(firm) else {
+    let Some(firm) = Name::of(firm) else {
         return Err(LineCause::Field(1));
     };
     let Some(amount) = amount_at(amount) else {
@@ -263,7 +247,7 @@ fn drawn(firm: &[u8], amount: &[u8]) -> Result<Act, LineCause>
     ensures found { IfOk result (AreArgs (codes "DRAW") (firm.now ∷ amount.now ∷ [])) }
     ensures bad { IfErr result (HasArgsCause (forms_of verbs.Draw) (firm.now ∷ amount.now ∷ [])) }
 {
-    let Some(firm) = name_at(firm) else {
+    let Some(firm) = Name::of(firm) else {
         return Err(LineCause::Field(1));
     };
     let Some(amount) = amount_at(amount) else {
@@ -287,7 +271,7 @@ fn limited(firm: &[u8], credit: &[u8], ceiling: &[u8]) -> Result<Act, LineCause>
     ensures found { IfOk result (AreArgs (codes "LIMIT") (firm.now ∷ credit.now ∷ ceiling.now ∷ [])) }
     ensures bad { IfErr result (HasArgsCause (forms_of verbs.Limit) (firm.now ∷ credit.now ∷ ceiling.now ∷ [])) }
 {
-    let Some(firm) = name_at(firm) else {
+    let Some(firm) = Name::of(firm) else {
         return Err(LineCause::Field(1));
     };
     let Some(credit) = limit_at(credit) else {
@@ -318,7 +302,7 @@ fn offered(firm: &[u8], amount: &[u8]) -> Result<Act, LineCause>
     ensures found { IfOk result (AreArgs (codes "OFFER") (firm.now ∷ amount.now ∷ [])) }
     ensures bad { IfErr result (HasArgsCause (forms_of verbs.Offer) (firm.now ∷ amount.now ∷ [])) }
 {
-    let Some(firm) = name_at(firm) else {
+    let Some(firm) = Name::of(firm) else {
         return Err(LineCause::Field(1));
     };
     let Some(amount) = limit_at(amount) else {
@@ -335,7 +319,7 @@ fn position_act(args: &[&[u8]]) -> Result<Act, LineCause>
     let [firm] = args else {
         return Err(LineCause::Fields);
     };
-    let Some(firm) = name_at(firm) else {
+    let Some(firm) = Name::of(firm) else {
         return Err(LineCause::Field(1));
     };
     Ok(Act::Position { firm })
@@ -418,7 +402,7 @@ fn lane_at(field: &[u8]) -> Option<u32>
     ensures none { IfNone result ((lane : ℕ) → IsLane lane → field.now ≡ decimal lane → ⊥) }
 {
     match read_number(field) {
-        Some(lane) if 1 <= lane && lane <= 16 => Some(lane as u32),
+        Some(lane) if 1 <= lane && lane <= MOST_LANES as u64 => Some(lane as u32),
         _ => None,
     }
 }

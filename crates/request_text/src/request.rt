@@ -4,11 +4,17 @@ ghost use Rattle.std.specs.Prelude.{◌≡◌};
 use claim_history::Act;
 use std::marker::Model;
 
-/// One line that asks something: its number from 1, its lane from 1 to 16, and the act.
+/// The most lanes that serve a batch. A lane is a number from 1 to this one.
+pub const MOST_LANES: usize = 16;
+
+/// One line that asks something of a lane.
 #[derive(Drop)]
 pub struct Request {
+    /// The number of the line, from 1.
     pub line: u64,
+    /// The lane, from 1 to `MOST_LANES`.
     pub lane: u32,
+    /// What is asked of the lane.
     pub act: Act,
 }
 
@@ -40,8 +46,7 @@ impl Batch {
         Batch { requests }
     }
 
-    /// The requests, by rising line numbers; each lane is 1 to 16, and each act is valid and no
-    /// publication.
+    /// The requests, by rising line numbers. Each lane is from 1 to `MOST_LANES`, and each act is valid and no publication.
     pub fn requests(&self) -> &[Request]
         ensures requests { result.now ≡ self.now }
         ensures in_order { AreInOrder self.now }

@@ -17,6 +17,10 @@ most_amount = 999999999999
 abbrev pub most_window : ℕ
 most_window = 2000000000000000
 
+-- the numbers of rounds, from 1: 2^32 - 1
+abbrev pub most_rounds : ℕ
+most_rounds = 4294967295
+
 -- the ceiling of an account until a limit is set, in cents
 abbrev pub first_ceiling : ℕ
 first_ceiling = 1000000000000000

@@ -31,6 +31,20 @@ pub fn read_amount(text: &[u8]) -> Option<u64>
     read_cents(text, 10_000_000_000)
 }
 
+/// Reads an amount of a claim, and gives its cents: 1 to 999,999,999,999.
+///
+/// It is spelled as every amount is. `None` comes exactly where the text is no amount, or is `0.00`.
+#[tactic(auto, using(crate::proofs::Spelling::same_cents_text))]
+pub fn read_claim_amount(text: &[u8]) -> Option<u64>
+    ensures found { IfSome result (λ c. (text.now ≡ cents_text c) × (1 ≤ c) × (c ≤ most_amount)) }
+    ensures none { IfNone result ((c : ℕ) → 1 ≤ c → c ≤ most_amount → text.now ≡ cents_text c → ⊥) }
+{
+    match read_amount(text) {
+        None | Some(0) => None,
+        Some(cents) => Some(cents),
+    }
+}
+
 /// Reads a sum of amounts, and gives its cents: 0 to 10^18 - 1.
 ///
 /// A sum is spelled as an amount is, with 1 to 16 digits before the point.

@@ -31,10 +31,12 @@ mod window;
 
 pub use cut::{Cut, CutClaim, Party};
 pub use duality::{proofs_are_decided, slackness, squeezing_keeps_proofs, weak_duality};
-pub use field::{read_amount, read_kind, read_number, read_price, read_sum};
+pub use field::{read_amount, read_claim_amount, read_kind, read_number, read_price, read_sum};
 pub use kind::Kind;
 pub use name::{Key, Name};
 pub use outcome::{Outcome, sum_of, total};
 pub use same::{same_keys, same_names};
-pub use text::{each_text_has_one_value, put, write_cents, write_number, write_signed};
+pub use text::{
+    each_text_has_one_value, put, write_cents, write_number, write_signed, write_sum, write_whole,
+};
 pub use window::windows_follow_balances;

@@ -1,16 +1,19 @@
-//! The bureau's limits, by name. Clauses name them by the words of `specs/Limits.antt`.
+//! The bureau's limits, by name. Clauses name them by the same words in small letters, which stand in `specs/Limits.antt`.
 
-/// The most parties of a round: 2^14.
+/// The most parties of a round, and the most firms of a bureau: 2^14.
 pub const MOST_FIRMS: usize = 16_384;
 
-/// The most claims of a round: 2^18.
+/// The most claims of a round, and the most claims of a bureau: 2^18.
 pub const MOST_CLAIMS: usize = 262_144;
 
-/// The most cents of an amount in a request: 9999999999.99.
+/// The most cents of an amount in a request: 999,999,999,999, which is written 9999999999.99.
 pub const MOST_AMOUNT: u64 = 999_999_999_999;
 
 /// The most cents by which a balance may fall or rise in a round: 2 * 10^15, which no account's spend or room reaches.
 pub const MOST_WINDOW: u64 = 2_000_000_000_000_000;
+
+/// The highest number of a round: 2^32 - 1.
+pub const MOST_ROUNDS: u32 = 4_294_967_295;
 
 /// The ceiling of an account until a limit is set for it, in cents: 10^15.
 pub const FIRST_CEILING: u64 = 1_000_000_000_000_000;

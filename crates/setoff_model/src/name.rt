@@ -1,5 +1,5 @@
 //! Names of firms and invoices.
-ghost use Rattle.std.specs.Prelude.{◌≡◌, ◌≤◌, length, true};
+ghost use Rattle.std.specs.Prelude.{◌≡◌, ◌≤◌, IfSome, IfNone, length, true, false};
 ghost use Rattle.std.specs.List.{list_all};
 ghost use Rattle.setoff_model.specs.Names.{is_letter, is_name_byte, is_name, name_of};
 
@@ -69,7 +69,9 @@ fn is_a_name(text: &[u8]) -> bool
 impl Name {
     /// The name that the bytes spell. `None` comes exactly where they are no name.
     pub fn of(text: &[u8]) -> Option<Name>
-        ensures { result ≡ name_of text.now }
+        ensures value { result ≡ name_of text.now }
+        ensures found { IfSome result (λ name. (name ≡ text.now) × (is_name name ≡ true)) }
+        ensures none { IfNone result (is_name text.now ≡ false) }
     {
         if !is_a_name(text) {
             return None;

@@ -1,6 +1,7 @@
 -- Statements: a cut and its outcome as lines of text.
 use Rattle.std.specs.Prelude.{◌≡◌, ℕ, ◌+◌, ◌<◌, ◌≤◌, ◌^◌, ◌⊎◌, true, List, [], ◌∷◌, ◌++◌, length, map, slice_index_or, flat_map, codes, All, ℤ, unsigned_abs}
 use Rattle.std.specs.Str.Lines.{lines}
+use Rattle.setoff_model.specs.Limits.{most_rounds}
 use Rattle.setoff_model.specs.declared.cut.Party.{Party}
 use Rattle.setoff_model.specs.declared.cut.CutClaim.{CutClaim}
 use Rattle.setoff_model.specs.Names.{is_name}
@@ -47,7 +48,7 @@ statement_bytes cut outcome = flat_map (λ text. text ++ codes "\n") (statement_
 pub record CanBeStated (cut : CutView) (outcome : OutcomeView) : Type 0 where
   pub well_formed : WellFormed cut
   pub round_from : 1 ≤ cut.round
-  pub round_below : cut.round < 2 ^ 32
+  pub round_below : cut.round ≤ most_rounds
   pub firms : All (λ f. is_name f.firm ≡ true) cut.parties
   pub invoices : All (λ c. is_name c.key.invoice ≡ true) cut.claims
   pub price_each : length outcome.prices ≡ length cut.parties

@@ -1,13 +1,15 @@
 //! The line that a text is, read by its fields.
 ghost use Rattle.std.specs.Prelude.{◌≡◌, ◌↔◌, ◌∷◌, ◌<◌, ◌≤◌, ◌^◌, ℕ, [], codes, decimal, map, true, false, IfOk, IfSome, IfNone, unsigned_abs};
-ghost use Rattle.setoff_model.specs.Limits.{most_amount, most_window};
+ghost use Rattle.setoff_model.specs.Limits.{most_rounds, most_window};
 ghost use Rattle.setoff_model.specs.Names.{is_name};
 ghost use Rattle.setoff_model.specs.Texts.{cents_text};
 ghost use Rattle.statement_text.specs.Lines.{AreFields, AreNoFields, IsLine, IsNoLine};
 
 use crate::line::Line;
-use setoff_model::limits::MOST_WINDOW;
-use setoff_model::{Key, Name, Party, read_amount, read_kind, read_number, read_price, read_sum};
+use setoff_model::limits::{MOST_ROUNDS, MOST_WINDOW};
+use setoff_model::{
+    Key, Name, Party, read_claim_amount, read_kind, read_number, read_price, read_sum,
+};
 use std::alloc::{AllocError, Global};
 use text_lines::{fields_of, joined_fields_are_cut_again};
 
@@ -15,25 +17,11 @@ use text_lines::{fields_of, joined_fields_are_cut_again};
 #[tactic(auto, using(crate::proofs::Words::same_number))]
 fn round_at(field: &[u8]) -> Option<u32>
     ensures found { IfSome result (λ n. (field.now ≡ decimal n) × (1 ≤ n)) }
-    ensures none { IfNone result ((n : ℕ) → 1 ≤ n → n < 2 ^ 32 → field.now ≡ decimal n → ⊥) }
+    ensures none { IfNone result ((n : ℕ) → 1 ≤ n → n ≤ most_rounds → field.now ≡ decimal n → ⊥) }
 {
     match read_number(field) {
-        Some(number) if 1 <= number && number <= 4_294_967_295 => Some(number as u32),
+        Some(number) if 1 <= number && number <= u64::from(MOST_ROUNDS) => Some(number as u32),
         _ => None,
-    }
-}
-
-// The name that a field is.
-fn name_at(field: &[u8]) -> Option<Name>
-    ensures found { IfSome result (λ name. (name ≡ field.now) × (is_name name ≡ true)) }
-    ensures none { IfNone result (is_name field.now ≡ false) }
-{
-    match Name::of(field) {
-        Some(name) => {
-            let _ = name.bytes();
-            Some(name)
-        }
-        None => None,
     }
 }
 
@@ -46,18 +34,6 @@ fn window_at(field: &[u8]) -> Option<u64>
     match read_sum(field) {
         Some(cents) if cents <= MOST_WINDOW => Some(cents),
         _ => None,
-    }
-}
-
-// The amount from 0.01 on that a field is.
-#[tactic(auto, using(crate::proofs::Words::same_cents))]
-fn amount_at(field: &[u8]) -> Option<u64>
-    ensures found { IfSome result (λ c. (field.now ≡ cents_text c) × (1 ≤ c) × (c ≤ most_amount)) }
-    ensures none { IfNone result ((c : ℕ) → 1 ≤ c → c ≤ most_amount → field.now ≡ cents_text c → ⊥) }
-{
-    match read_amount(field) {
-        None | Some(0) => None,
-        Some(cents) => Some(cents),
     }
 }
 
@@ -108,7 +84,7 @@ fn read_party(firm: &[u8], spend: &[u8], room: &[u8], price: &[u8]) -> Option<Li
     ensures found { IfSome result (AreFields (codes "PARTY" ∷ firm.now ∷ spend.now ∷ room.now ∷ price.now ∷ [])) }
     ensures none { IfNone result (AreNoFields (codes "PARTY" ∷ firm.now ∷ spend.now ∷ room.now ∷ price.now ∷ [])) }
 {
-    let firm = name_at(firm)?;
+    let firm = Name::of(firm)?;
     let spend = window_at(spend)?;
     let room = window_at(room)?;
     let price = read_price(price)?;
@@ -138,10 +114,10 @@ fn read_claim(
     ensures found { IfSome result (AreFields (codes "CLAIM" ∷ creditor.now ∷ invoice.now ∷ debtor.now ∷ amount.now ∷ discharge.now ∷ [])) }
     ensures none { IfNone result (AreNoFields (codes "CLAIM" ∷ creditor.now ∷ invoice.now ∷ debtor.now ∷ amount.now ∷ discharge.now ∷ [])) }
 {
-    let creditor = name_at(creditor)?;
-    let invoice = name_at(invoice)?;
-    let debtor = name_at(debtor)?;
-    let amount = amount_at(amount)?;
+    let creditor = Name::of(creditor)?;
+    let invoice = Name::of(invoice)?;
+    let debtor = Name::of(debtor)?;
+    let amount = read_claim_amount(amount)?;
     let discharge = read_sum(discharge)?;
     Some(Line::Claim {
         key: Key { creditor, invoice },
