@@ -48,7 +48,8 @@ AtRest net x = (v : ℕ) → v < length net.supplies → has net x v ≡ owes ne
 
 -- an arc with gain above 0 is full, and one with gain below 0 is empty
 pub record ArcSlack (arcs : Arcs) (x : List ℕ) (p : List ℤ) : Type 0 where
-  pub full : (a : ℕ) → a < length arcs.capacities → pos 0 <ℤ arc_gain arcs p a → slice_index x a ≡ slice_index arcs.capacities a
+  pub full : (a : ℕ) → a < length arcs.capacities → pos 0 <ℤ arc_gain arcs p a →
+      slice_index x a ≡ slice_index arcs.capacities a
   pub empty : (a : ℕ) → a < length arcs.capacities → arc_gain arcs p a <ℤ pos 0 → slice_index x a ≡ 0
 
 -- each arc joins two of so many nodes, and a unit on it counts 1 or nothing
@@ -56,7 +57,8 @@ pub record AreArcsAmong (nodes : ℕ) (arcs : Arcs) : Type 0 where
   pub tail : (a : ℕ) → a < length arcs.capacities → slice_index arcs.tails a < nodes
   pub head : (a : ℕ) → a < length arcs.capacities → slice_index arcs.heads a < nodes
   pub apart : (a : ℕ) → a < length arcs.capacities → slice_index arcs.tails a ≢ slice_index arcs.heads a
-  pub reward : (a : ℕ) → a < length arcs.capacities → (slice_index arcs.rewards a ≡ 0) ⊎ (slice_index arcs.rewards a ≡ 1)
+  pub reward : (a : ℕ) → a < length arcs.capacities → (slice_index arcs.rewards a ≡ 0)
+      ⊎ (slice_index arcs.rewards a ≡ 1)
 
 -- d is moved from s to t
 pub record IsMoved (old new : ℕ → ℤ) (s t d : ℕ) : Type 0 where

@@ -14,7 +14,8 @@ pub record IsNetworkOf (o : Obligations) (net : Network) : Type 0 where
   pub counts : (c : ℕ) → c < length o.amounts → slice_index net.arcs.rewards c ≡ 1
   pub party : (f : ℕ) → f < length o.spends → slice_index net.arcs.tails (length o.amounts + f) ≡ f
   pub ground : (f : ℕ) → f < length o.spends → slice_index net.arcs.heads (length o.amounts + f) ≡ length o.spends
-  pub window : (f : ℕ) → f < length o.spends → slice_index net.arcs.capacities (length o.amounts + f) ≡ slice_index o.spends f + slice_index o.rooms f
+  pub window : (f : ℕ) → f < length o.spends →
+      slice_index net.arcs.capacities (length o.amounts + f) ≡ slice_index o.spends f + slice_index o.rooms f
   pub free : (f : ℕ) → f < length o.spends → slice_index net.arcs.rewards (length o.amounts + f) ≡ 0
   pub nodes : length net.supplies ≡ length o.spends + 1
   pub supply : (f : ℕ) → f < length o.spends → slice_index net.supplies f ≡ slice_index o.spends f

@@ -13,7 +13,7 @@ use Rattle.residual_network.specs.Network.{Network, IsFlow, ArcSlack, AreArcsAmo
 use Rattle.residual_network.specs.NetworkOf.{IsNetworkOf, empty_flow, full_flow}
 use Rattle.residual_network.proofs.Sums.{sum_below-split}
 use Rattle.residual_network.proofs.Beginning.{nothing, empty_claim, empty_window, full_claim, full_window, network_law}
-use Rattle.residual_state.specs.declared.edge.Edge.{Edge}
+use Rattle.residual_network.specs.declared.edge.Edge.{Edge}
 use Rattle.residual_state.specs.declared.state.State.{State}
 use Rattle.residual_state.specs.Edges.{AreAmong, capacities, network_of, graph}
 use Rattle.residual_state.specs.Starts.{IsDifference}

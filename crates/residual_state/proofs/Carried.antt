@@ -7,12 +7,12 @@ use Rattle.std.proofs.lemmas.List.{length-map}
 use Rattle.setoff_model.specs.Sums.{sum_below, above_zero}
 use Rattle.setoff_model.specs.Setoff.{Obligations, price_at}
 use Rattle.residual_network.specs.Network.{Arcs, arc_gain, brought, IsFlow, IsMoved, excess_at}
-use Rattle.residual_network.proofs.Push.{push_law, surplus_law}
-use Rattle.residual_state.specs.declared.edge.Edge.{Edge}
+use Rattle.residual_network.proofs.Pushes.{push_law, surplus_law}
+use Rattle.residual_network.specs.declared.edge.Edge.{Edge}
 use Rattle.residual_state.specs.declared.state.State.{State}
 use Rattle.residual_state.specs.Edges.{network_of, graph, capacities}
 use Rattle.residual_state.specs.States.{IsStateOf}
-use Rattle.residual_state.specs.declared.carrying.Push.{Push}
+use Rattle.residual_network.specs.declared.push.Push.{Push}
 use Rattle.residual_state.specs.declared.carrying.Step.{Step}
 use Rattle.residual_state.proofs.Settling.{both_moved}
 use Rattle.residual_state.specs.Carries.{IsStep, IsFit, IsCarried, AreCarried, IsNoWorse}

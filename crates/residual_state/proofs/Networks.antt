@@ -8,7 +8,7 @@ use Rattle.setoff_model.specs.CutView.{spends, rooms}
 use Rattle.netting_graph.specs.declared.arc.Arc.{Arc}
 use Rattle.netting_graph.specs.NetView.{NetView, IsNet, IsArcAmong, obligations_of_arcs, obligations_of_net, arc_amounts}
 use Rattle.residual_network.specs.NetworkOf.{IsNetworkOf, IsAmongParties}
-use Rattle.residual_state.specs.declared.edge.Edge.{Edge}
+use Rattle.residual_network.specs.declared.edge.Edge.{Edge}
 use Rattle.residual_state.specs.Edges.{tails, heads, capacities, rewards, network_of, claim_edge, AreWindows}
 use Rattle.residual_state.proofs.Labelling.{by_last}
 use Rattle.residual_state.proofs.Pushed.{pushed_kept, pushed_last}

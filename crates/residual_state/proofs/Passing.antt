@@ -11,7 +11,7 @@ use Rattle.residual_network.specs.Network.{arc_gain}
 use Rattle.residual_network.specs.Labels.{mark, NoCandidate, IsRaised, IsBelowRaises}
 use Rattle.residual_network.specs.Steps.{LeadsOut, IsLink}
 use Rattle.residual_network.proofs.Cut.{raise_exists}
-use Rattle.residual_state.specs.declared.edge.Edge.{Edge}
+use Rattle.residual_network.specs.declared.edge.Edge.{Edge}
 use Rattle.residual_state.specs.declared.label.Labels.{Labels}
 use Rattle.residual_state.specs.declared.scan.Next.{Next}
 use Rattle.residual_state.specs.declared.state.State.{State}

@@ -6,8 +6,8 @@ use Rattle.std.proofs.lemmas.Int.{ints}
 use Rattle.setoff_model.specs.Sums.{sum_below, above_zero}
 use Rattle.setoff_model.specs.Setoff.{Obligations, price_at}
 use Rattle.residual_network.specs.Network.{arc_gain, IsFlow, ArcSlack, IsMoved, excess_at}
-use Rattle.residual_network.proofs.Push.{push_law, surplus_law}
-use Rattle.residual_state.specs.declared.edge.Edge.{Edge}
+use Rattle.residual_network.proofs.Pushes.{push_law, surplus_law}
+use Rattle.residual_network.specs.declared.edge.Edge.{Edge}
 use Rattle.residual_state.specs.declared.label.Label.{Label}
 use Rattle.residual_state.specs.declared.state.State.{State}
 use Rattle.residual_state.specs.Edges.{AreAmong, network_of, graph}

@@ -10,7 +10,7 @@ use Rattle.residual_network.specs.Labels.{mark, IsRaised, IsBelowRaises}
 use Rattle.residual_network.specs.Steps.{LeadsOut}
 use Rattle.residual_network.proofs.Gains.{raise_law, squeezing_law}
 use Rattle.residual_state.specs.declared.crossing.Crossing.{Crossing}
-use Rattle.residual_state.specs.declared.edge.Edge.{Edge}
+use Rattle.residual_network.specs.declared.edge.Edge.{Edge}
 use Rattle.residual_state.specs.declared.label.Label.{Label}
 use Rattle.residual_state.specs.declared.label.Labels.{Labels}
 use Rattle.residual_state.specs.declared.state.State.{State}

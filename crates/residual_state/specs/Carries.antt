@@ -8,14 +8,16 @@ use Rattle.residual_state.specs.Excesses.{excess_of}
 use Rattle.residual_state.specs.declared.state.State.{State}
 use Rattle.residual_state.specs.Edges.{graph}
 use Rattle.residual_state.specs.States.{IsStateOf, IsRepriced, surplus}
-use Rattle.residual_state.specs.declared.carrying.Push.{Push}
+use Rattle.residual_network.specs.declared.push.Push.{Push}
 use Rattle.residual_state.specs.declared.carrying.Step.{Step}
 
 -- the amount is moved along the arc, which then has more, or against it, which then has less
 abbrev pub IsStep : Arcs → List ℕ → ℕ → Bool → ℕ → Step → Type 0
 IsStep arcs x a along amount step =
-    ((along ≡ true) × (slice_index arcs.tails a ≡ step.from) × (slice_index arcs.heads a ≡ step.to) × (step.flow ≡ slice_index x a + amount) × (step.flow ≤ slice_index arcs.capacities a))
-    ⊎ ((along ≡ false) × (slice_index arcs.heads a ≡ step.from) × (slice_index arcs.tails a ≡ step.to) × (step.flow ≡ slice_index x a - amount) × (amount ≤ slice_index x a))
+    ((along ≡ true) × (slice_index arcs.tails a ≡ step.from) × (slice_index arcs.heads a ≡ step.to)
+    × (step.flow ≡ slice_index x a + amount) × (step.flow ≤ slice_index arcs.capacities a))
+    ⊎ ((along ≡ false) × (slice_index arcs.heads a ≡ step.from) × (slice_index arcs.tails a ≡ step.to)
+    × (step.flow ≡ slice_index x a - amount) × (amount ≤ slice_index x a))
 
 -- between two nodes, where one has the amount or the other wants it, and neither is far from 0
 pub record IsFit (e : List ℤ) (step : Step) (amount : ℕ) : Type 0 where
@@ -55,7 +57,8 @@ IsCarried old push new =
 -- the first m pushes were made one after another, each where it may be
 abbrev pub AreCarried : Push → State → List Push → ℕ → State → Type 0
 AreCarried none old pushes zero new = new ≡ old
-AreCarried none old pushes (suc m) new = (mid : State) × AreCarried none old pushes m mid × IsCarried mid (slice_index_or pushes m none) new
+AreCarried none old pushes (suc m) new =
+    (mid : State) × AreCarried none old pushes m mid × IsCarried mid (slice_index_or pushes m none) new
 
 -- the prices as they are, or squeezed
 abbrev pub IsDrawn : List ℤ → List ℤ → Type 0

@@ -4,7 +4,7 @@ use Rattle.setoff_model.specs.declared.cut.Party.{Party}
 use Rattle.setoff_model.specs.CutView.{spends, rooms}
 use Rattle.netting_graph.specs.declared.arc.Arc.{Arc}
 use Rattle.residual_network.specs.Network.{Arcs, Network}
-use Rattle.residual_state.specs.declared.edge.Edge.{Edge}
+use Rattle.residual_network.specs.declared.edge.Edge.{Edge}
 
 -- the nodes that the arcs leave
 abbrev pub tails : List Edge → List ℕ
@@ -48,7 +48,8 @@ pub record AreWindows (parties : List Party) (m : ℕ) (edges : List Edge) : Typ
   pub one_each : length edges ≡ m
   pub tail : (f : ℕ) → f < m → slice_index (tails edges) f ≡ f
   pub head : (f : ℕ) → f < m → slice_index (heads edges) f ≡ length parties
-  pub capacity : (f : ℕ) → f < m → slice_index (capacities edges) f ≡ slice_index (spends parties) f + slice_index (rooms parties) f
+  pub capacity : (f : ℕ) → f < m →
+      slice_index (capacities edges) f ≡ slice_index (spends parties) f + slice_index (rooms parties) f
   pub reward : (f : ℕ) → f < m → slice_index (rewards edges) f ≡ 0
 
 -- the arc at place a

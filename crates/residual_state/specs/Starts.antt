@@ -21,4 +21,6 @@ pub record AreInRange (nodes : ℕ) (arcs : List Arc) : Type 0 where
 -- of each node, what the first m arcs bring it less what they take from it
 abbrev pub IsDifference : List Arc → List ℤ → ℕ → Type 0
 IsDifference arcs e m =
-    (v : ℕ) → v < length e → excess_of e v ≡ pos (flow_at m (arc_creditors arcs) (arc_amounts arcs) v) -ℤ pos (flow_at m (arc_debtors arcs) (arc_amounts arcs) v)
+    (v : ℕ) → v < length e →
+    excess_of e v
+    ≡ pos (flow_at m (arc_creditors arcs) (arc_amounts arcs) v) -ℤ pos (flow_at m (arc_debtors arcs) (arc_amounts arcs) v)

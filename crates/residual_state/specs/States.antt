@@ -28,7 +28,8 @@ pub record IsStateOf (o : Obligations) (w : State) : Type 0 where
   pub network : IsNetworkOf o (network_of o.spends w.edges.items)
   pub among : IsAmongParties o
   pub node_each : length w.excess.items ≡ length o.spends + 1
-  pub balanced : (v : ℕ) → v < length w.excess.items → excess_of w.excess.items v ≡ excess_at (network_of o.spends w.edges.items) w.flows.items v
+  pub balanced : (v : ℕ) → v < length w.excess.items →
+      excess_of w.excess.items v ≡ excess_at (network_of o.spends w.edges.items) w.flows.items v
 
 -- the labels are a search at this state
 abbrev pub IsSearchOf : State → Labels → Type 0

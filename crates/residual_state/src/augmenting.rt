@@ -29,7 +29,8 @@ pub fn augment(alloc: Global, state: &mut State) -> Result<bool, AllocError>
     requires { (o : Obligations) × IsStateOf o state.old }
     ensures state { OnOk result ((o : Obligations) → IsStateOf o state.old → IsStateOf o state.new) }
     ensures falls { IfOk result (λ moved. IsTrue moved → surplus state.new.excess.items < surplus state.old.excess.items) }
-    ensures rest { IfOk result (λ moved. (IsTrue moved → ⊥) → (v : ℕ) → v < length state.new.excess.items → excess_of state.new.excess.items v ≤ℤ pos 0) }
+    ensures rest { IfOk result (λ moved. (IsTrue moved → ⊥) →
+        (v : ℕ) → v < length state.new.excess.items → excess_of state.new.excess.items v ≤ℤ pos 0) }
 {
     let mut labels = labels_at_surplus(alloc, &state.excess)?;
     if labels.found.is_empty() {
@@ -69,7 +70,8 @@ fn label_all(state: &State, labels: &mut Labels) -> Result<Option<usize>, AllocE
     requires unmet { IsUnmet state.now.excess.items labels.old }
     ensures search { OnOk result (IsSearchOf state.now labels.new) }
     ensures grown { OnOk result (IsGrown labels.old labels.new) }
-    ensures met { IfOk result (λ r. MatchOption r (IsUnmet state.now.excess.items labels.new) (IsWanting state.now.excess.items labels.new)) }
+    ensures met { IfOk result (λ r. MatchOption r
+        (IsUnmet state.now.excess.items labels.new) (IsWanting state.now.excess.items labels.new)) }
 {
     for place in 0..state.excess.len() {
         if place < labels.found.len() {
@@ -89,7 +91,8 @@ fn label_from(state: &State, labels: &mut Labels, place: usize) -> Result<Option
     requires unmet { IsUnmet state.now.excess.items labels.old }
     ensures search { OnOk result (IsSearchOf state.now labels.new) }
     ensures grown { OnOk result (IsGrown labels.old labels.new) }
-    ensures met { IfOk result (λ r. MatchOption r (IsUnmet state.now.excess.items labels.new) (IsWanting state.now.excess.items labels.new)) }
+    ensures met { IfOk result (λ r. MatchOption r
+        (IsUnmet state.now.excess.items labels.new) (IsWanting state.now.excess.items labels.new)) }
 {
     let node = label_at(&labels.found, place).node;
     for &arc in state.around.at(node) {
@@ -107,7 +110,8 @@ fn label_over(state: &State, labels: &mut Labels, arc: usize) -> Result<Option<u
     requires unmet { IsUnmet state.now.excess.items labels.old }
     ensures search { OnOk result (IsSearchOf state.now labels.new) }
     ensures grown { OnOk result (IsGrown labels.old labels.new) }
-    ensures met { IfOk result (λ r. MatchOption r (IsUnmet state.now.excess.items labels.new) (IsWanting state.now.excess.items labels.new)) }
+    ensures met { IfOk result (λ r. MatchOption r
+        (IsUnmet state.now.excess.items labels.new) (IsWanting state.now.excess.items labels.new)) }
 {
     if state.edges.len() <= arc || gain_of(&state.edges, &state.prices, arc) != 0 {
         return Ok(None);
@@ -125,8 +129,11 @@ fn label_far(state: &State, labels: &mut Labels, arc: usize) -> Result<Option<us
     requires even { arc_gain (graph state.now.edges.items) state.now.prices.items arc ≡ pos 0 }
     ensures search { OnOk result (IsSearchOf state.now labels.new) }
     ensures grown { OnOk result (IsGrown labels.old labels.new) }
-    ensures fewer { OnOk result (LeadsOut (graph state.now.edges.items) state.now.flows.items labels.old.labelled.items arc → unlabelled labels.new.labelled.items + 1 ≡ unlabelled labels.old.labelled.items) }
-    ensures met { IfOk result (λ r. MatchOption r (IsUnmet state.now.excess.items labels.new) (IsWanting state.now.excess.items labels.new)) }
+    ensures fewer { OnOk result (
+        LeadsOut (graph state.now.edges.items) state.now.flows.items labels.old.labelled.items arc →
+        unlabelled labels.new.labelled.items + 1 ≡ unlabelled labels.old.labelled.items) }
+    ensures met { IfOk result (λ r. MatchOption r
+        (IsUnmet state.now.excess.items labels.new) (IsWanting state.now.excess.items labels.new)) }
 {
     match crossing_at(&state.edges, &state.flows, &labels.labelled, arc) {
         Some(step) => {
@@ -158,7 +165,8 @@ fn raise_and_label(
     ensures search { OnOk result (IsSearchOf state.new labels.new) }
     ensures grown { OnOk result (IsGrown labels.old labels.new) }
     ensures fewer { OnOk result (unlabelled labels.new.labelled.items + 1 ≡ unlabelled labels.old.labelled.items) }
-    ensures met { IfOk result (λ r. MatchOption r (IsUnmet state.new.excess.items labels.new) (IsWanting state.new.excess.items labels.new)) }
+    ensures met { IfOk result (λ r. MatchOption r
+        (IsUnmet state.new.excess.items labels.new) (IsWanting state.new.excess.items labels.new)) }
 {
     match next_arc(&state.edges, &state.flows, &state.prices, &labels.labelled) {
         Some(next) => {
@@ -182,7 +190,8 @@ fn raise_prices(
     requires least { IsBelowRaises (graph state.old.edges.items) state.old.flows.items state.old.prices.items labelled.now amount }
     ensures repriced { OnOk result (IsRepriced state.old state.new) }
     ensures sound { OnOk result (IsSound state.new) }
-    ensures raised { OnOk result ((q : List ℤ) × IsRaised state.old.prices.items q labelled.now amount × IsSqueezed q state.new.prices.items) }
+    ensures raised { OnOk result ((q : List ℤ) × IsRaised state.old.prices.items q labelled.now amount
+        × IsSqueezed q state.new.prices.items) }
 {
     raise(&mut state.prices, labelled, amount);
     squeeze(alloc, &mut state.prices)?;

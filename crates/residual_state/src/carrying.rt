@@ -2,27 +2,17 @@
 ghost use Rattle.std.specs.Prelude.{◌≡◌, ◌<◌, ◌≤◌, ◌^◌, ℕ, pos, length, ◌↔◌, MatchOption, IsTrue, unsigned_abs};
 ghost use Rattle.setoff_model.specs.Setoff.{Obligations};
 ghost use Rattle.residual_network.specs.Network.{arc_gain};
+ghost use Rattle.residual_network.specs.declared.push.Push.{Push};
 ghost use Rattle.residual_state.specs.Edges.{graph};
 ghost use Rattle.residual_state.specs.States.{IsStateOf};
-ghost use Rattle.residual_state.specs.declared.carrying.Push.{Push};
 ghost use Rattle.residual_state.specs.declared.carrying.Step.{Step};
 ghost use Rattle.residual_state.specs.Carries.{IsStep, IsFit, CanCarry, IsStepped, IsCarried, AreCarried, IsNoWorse};
 
-use crate::edge::{Edge, edge_at};
+use crate::edge::edge_at;
 use crate::excess::move_excess;
 use crate::price::gain_of;
 use crate::state::State;
-
-/// More flow along an arc, or less where it goes against it.
-#[derive(Clone, Copy, Debug)]
-pub struct Push {
-    /// The place of the arc among the arcs of the state.
-    pub arc: u32,
-    /// Whether its flow grows by the amount, and does not fall by it.
-    pub along: bool,
-    /// The cents of the push.
-    pub amount: u64,
-}
+use residual_network::{Edge, Push};
 
 // The node that excess is moved from, the node that it is moved to, and the flow of the arc after that.
 #[derive(Clone, Copy)]
@@ -68,7 +58,9 @@ fn carry(state: &mut State, push: Push)
 fn step_over(edges: &[Edge], flows: &[u64], arc: usize, push: Push) -> Option<Step>
     requires within { arc < length edges.now }
     requires one_each { length flows.now ≡ length edges.now }
-    ensures { MatchOption result ((step : Step) → IsStep (graph edges.now) flows.now arc push.along push.amount step → ⊥) (IsStep (graph edges.now) flows.now arc push.along push.amount) }
+    ensures { MatchOption result
+        ((step : Step) → IsStep (graph edges.now) flows.now arc push.along push.amount step → ⊥)
+        (IsStep (graph edges.now) flows.now arc push.along push.amount) }
 {
     let edge = edge_at(edges, arc);
     let flow = flows[arc];

@@ -4,7 +4,8 @@ ghost use Rattle.residual_network.specs.Steps.{LeadsOut};
 ghost use Rattle.residual_state.specs.Edges.{AreAmong, graph};
 ghost use Rattle.residual_state.specs.Crossings.{IsCrossing};
 
-use crate::edge::{Edge, edge_at};
+use crate::edge::edge_at;
+use residual_network::Edge;
 
 // A step of a label over an arc, and how much flow can be moved that way.
 #[derive(Clone, Copy)]
@@ -25,7 +26,9 @@ pub(crate) fn crossing_at(
     requires within { arc < length edges.now }
     requires one_each { length flows.now ≡ length edges.now }
     requires among { AreAmong (length labelled.now) edges.now }
-    ensures { MatchOption result (LeadsOut (graph edges.now) flows.now labelled.now arc → ⊥) (IsCrossing (graph edges.now) flows.now labelled.now arc) }
+    ensures { MatchOption result
+        (LeadsOut (graph edges.now) flows.now labelled.now arc → ⊥)
+        (IsCrossing (graph edges.now) flows.now labelled.now arc) }
 {
     let edge = edge_at(edges, arc);
     let flow = flows[arc];

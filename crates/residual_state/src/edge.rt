@@ -7,21 +7,9 @@ ghost use Rattle.residual_network.specs.NetworkOf.{IsNetworkOf};
 ghost use Rattle.residual_state.specs.Edges.{IsEdgeAt, AreWindows, claim_edge, network_of};
 
 use netting_graph::{Arc, Net};
+use residual_network::Edge;
 use setoff_model::Party;
 use std::alloc::{AllocError, Global};
-
-/// An arc from one node to another: how much it holds, and what a unit of flow on it counts.
-#[derive(Clone, Copy, Debug)]
-pub struct Edge {
-    /// The node that it goes from: a party by its place among the parties, or the ground, which is the place after them.
-    pub tail: usize,
-    /// The node that it goes to, by its place too.
-    pub head: usize,
-    /// The most cents of its flow.
-    pub capacity: u64,
-    /// What a cent of its flow counts: 1 on an arc of claims, and 0 on an arc to the ground.
-    pub reward: u32,
-}
 
 // The arcs of the net, from debtor to creditor, and then one from each party to the ground.
 //

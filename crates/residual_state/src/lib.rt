@@ -28,8 +28,7 @@ mod state;
 
 pub use around::Around;
 pub use augmenting::augment;
-pub use carrying::{Push, carry_all};
-pub use edge::Edge;
+pub use carrying::carry_all;
 pub use measuring::surplus_of;
 pub use repricing::reprice;
 pub use state::{State, state_at_start};

@@ -8,7 +8,8 @@ ghost use Rattle.residual_network.specs.Labels.{IsRaised};
 ghost use Rattle.residual_state.specs.Edges.{AreAmong, graph};
 ghost use Rattle.residual_state.specs.Shifts.{IsShifted};
 
-use crate::edge::{Edge, edge_at};
+use crate::edge::edge_at;
+use residual_network::Edge;
 
 // The price of a node. That of the ground, which stands past the last, is 0.
 fn price_of(prices: &[i64], node: usize) -> i64

@@ -8,10 +8,11 @@ ghost use Rattle.residual_state.specs.Edges.{AreAmong, graph};
 ghost use Rattle.residual_state.specs.States.{IsStateOf};
 ghost use Rattle.residual_state.specs.Carries.{IsFactKept, IsDrawn, IsTaken, IsNoWorse};
 
-use crate::edge::{Edge, edge_at};
+use crate::edge::edge_at;
 use crate::price::gain_of;
 use crate::state::State;
 use price_squeezing::squeeze;
+use residual_network::Edge;
 use setoff_model::limits::MOST_FIRMS;
 use std::alloc::{AllocError, Global};
 

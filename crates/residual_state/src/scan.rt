@@ -6,8 +6,8 @@ ghost use Rattle.residual_state.specs.Edges.{AreAmong, graph};
 ghost use Rattle.residual_state.specs.Crossings.{IsBest};
 
 use crate::crossing::crossing_at;
-use crate::edge::Edge;
 use crate::price::raise_over;
+use residual_network::Edge;
 
 // An arc over which labels pass after a raise of the labelled nodes.
 #[derive(Clone, Copy)]

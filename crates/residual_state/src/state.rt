@@ -4,9 +4,10 @@ ghost use Rattle.netting_graph.specs.NetView.{obligations_of_net};
 ghost use Rattle.residual_state.specs.States.{IsStateOf};
 
 use crate::around::{Around, arcs_around};
-use crate::edge::{Edge, edges_of};
+use crate::edge::edges_of;
 use crate::start::{excess_at_start, flows_at_start};
 use netting_graph::Net;
+use residual_network::Edge;
 use std::alloc::{AllocError, Global};
 
 /// The arcs with a flow on each, the excess of each node and the price of each party.

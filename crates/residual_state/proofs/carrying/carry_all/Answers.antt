@@ -1,6 +1,6 @@
 use Rattle.std.proofs.Common.{subst}
 use Rattle.std.proofs.lemmas.List.{get_or_default}
-use Rattle.residual_state.specs.declared.carrying.Push.{Push}
+use Rattle.residual_network.specs.declared.push.Push.{Push}
 use Rattle.residual_state.specs.Carries.{IsCarried}
 use Rattle.residual_state.proofs.Carried.{worse_never, carried_more}
 use Rattle.residual_state.proofs.carrying.carry_all.Goals as goal

@@ -5,7 +5,7 @@ use Rattle.std.specs.Prelude.{map}
 use Rattle.std.proofs.lemmas.Grind.{common_steps}
 use Rattle.netting_graph.specs.NetView.{obligations_of_net}
 use Rattle.residual_network.specs.NetworkOf.{IsNetworkOf}
-use Rattle.residual_state.specs.declared.edge.Edge.{Edge}
+use Rattle.residual_network.specs.declared.edge.Edge.{Edge}
 use Rattle.residual_state.specs.Edges.{network_of, AreWindows, claim_edge}
 use Rattle.residual_state.proofs.Networks.{network_is}
 use Rattle.residual_state.proofs.edge.edges_of.Goals as goal
