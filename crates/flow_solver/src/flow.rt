@@ -9,7 +9,7 @@ use netting_graph::Net;
 use residual_state::State;
 use std::marker::Model;
 
-/// One flow for each arc of a net, in cents, and one price for each party.
+/// What a solver found: one flow for each arc of a net, in cents, and one price for each party.
 #[derive(Debug, Drop)]
 pub struct Flow {
     flows: Vec<u64>,
@@ -25,7 +25,9 @@ impl Model for Flow {
 }
 
 impl Flow {
-    /// These flows, by the places of the arcs, and these prices, by the places of the parties.
+    /// These flows, one for each arc in its order and in cents, and these prices, one for each party in its order.
+    ///
+    /// A solver makes its answer by it. Nothing is tested here: what the two have to be, `Solver::solve` says.
     pub fn new(flows: Vec<u64>, prices: Vec<i64>) -> Flow
         ensures { result ≡ record { flows = flows.items; prices = prices.items } }
     {
@@ -46,7 +48,7 @@ impl Flow {
         &self.prices
     }
 
-    /// The flows and the prices. It takes no memory.
+    /// The flows and the prices, for whoever makes an outcome of them. It takes no memory.
     pub fn into_parts(self) -> (Vec<u64>, Vec<i64>)
         ensures flows { result.0.items ≡ self.flows }
         ensures prices { result.1.items ≡ self.prices }
@@ -55,7 +57,9 @@ impl Flow {
     }
 }
 
-/// What a state at rest has found of its net. It takes no memory.
+/// What a state at rest has found of its net: the flows on the arcs of the net, and the prices.
+///
+/// It is how a solver ends that takes steps until no node has an excess above 0. It takes no memory.
 pub fn flow_at_rest(net: &Net, state: State) -> Flow
     requires state { IsStateOf (obligations_of_net net.now) state }
     requires rest { (v : ℕ) → v < length state.excess.items → excess_of state.excess.items v ≤ℤ pos 0 }

@@ -18,10 +18,13 @@ pub record IsOnArc (claims arcs : Obligations) (c a : ℕ) : Type 0 where
 -- one arc for each debtor and creditor of the first m claims, in order of the first claim, with the sum of the amounts
 pub record IsMerged (m : ℕ) (claims arcs : Obligations) : Type 0 where
   pub apart : (a b : ℕ) → a < b → b < length arcs.amounts → IsOnArc arcs arcs a b → ⊥
-  pub amount : (a : ℕ) → a < length arcs.amounts → slice_index arcs.amounts a ≡ flow_between m claims.debtors claims.creditors claims.amounts (slice_index arcs.debtors a) (slice_index arcs.creditors a)
+  pub amount : (a : ℕ) → a < length arcs.amounts →
+      slice_index arcs.amounts a
+      ≡ flow_between m claims.debtors claims.creditors claims.amounts (slice_index arcs.debtors a) (slice_index arcs.creditors a)
   pub arc_of : (c : ℕ) → c < m → (a : ℕ) × (a < length arcs.amounts) × IsOnArc claims arcs c a
   pub claim_of : (a : ℕ) → a < length arcs.amounts → (c : ℕ) × (c < m) × IsOnArc claims arcs c a
-  pub in_order : (a b c : ℕ) → a < b → b < length arcs.amounts → c < m → IsOnArc claims arcs c b → (e : ℕ) × (e < c) × IsOnArc claims arcs e a
+  pub in_order : (a b c : ℕ) → a < b → b < length arcs.amounts → c < m → IsOnArc claims arcs c b →
+      (e : ℕ) × (e < c) × IsOnArc claims arcs e a
 
 -- the net has the parties of the cut, and the claims of the cut merged
 pub record IsNetOf (cut : CutView) (net : NetView) : Type 0 where
@@ -37,5 +40,8 @@ merged cut net d =
 pub record IsSpread (cut : CutView) (net : NetView) (flows d : List ℕ) : Type 0 where
   pub one_each : length d ≡ length cut.claims
   pub within : (c : ℕ) → c < length cut.claims → slice_index d c ≤ slice_index (amounts cut.claims) c
-  pub sums : (a : ℕ) → a < length net.arcs → flow_between (length cut.claims) (debtors cut.claims) (creditors cut.claims) d (slice_index (arc_debtors net.arcs) a) (slice_index (arc_creditors net.arcs) a) ≡ slice_index flows a
+  pub sums : (a : ℕ) → a < length net.arcs →
+      flow_between (length cut.claims) (debtors cut.claims) (creditors cut.claims) d
+      (slice_index (arc_debtors net.arcs) a) (slice_index (arc_creditors net.arcs) a)
+      ≡ slice_index flows a
   pub oldest_first : IsOldestFirst (obligations cut) d

@@ -49,8 +49,10 @@ grown arc cents = record { debtor = arc.debtor; creditor = arc.creditor; amount 
 -- the cents are added to the arc of their debtor and creditor, or to a new one at the end where they have none
 abbrev pub IsAdded : List Arc → ℕ → ℕ → ℕ → List Arc → Type 0
 IsAdded old debtor creditor cents new =
-    ((a : ℕ) × IsPairAt (pairs_of old) debtor creditor a × ((none : Arc) → new ≡ slice_set old a (grown (slice_index_or old a none) cents)))
-    ⊎ (((a : ℕ) → IsPairAt (pairs_of old) debtor creditor a → ⊥) × (new ≡ old ++ record { debtor = debtor; creditor = creditor; amount = cents } ∷ []))
+    ((a : ℕ) × IsPairAt (pairs_of old) debtor creditor a
+    × ((none : Arc) → new ≡ slice_set old a (grown (slice_index_or old a none) cents)))
+    ⊎ (((a : ℕ) → IsPairAt (pairs_of old) debtor creditor a → ⊥)
+    × (new ≡ old ++ record { debtor = debtor; creditor = creditor; amount = cents } ∷ []))
 
 -- the arc goes between two parties and has cents
 pub record IsArcAmong (parties : List Party) (a : Arc) : Type 0 where

@@ -61,7 +61,10 @@ pub(crate) fn judge(
 // The first claim whose discharge is above its amount.
 fn first_over(claims: &[CutClaim], discharges: &[u64]) -> Option<usize>
     requires { length discharges.now ≡ length claims.now }
-    ensures { MatchOption result ((c : ℕ) → c < length claims.now → slice_index discharges.now c ≤ slice_index (amounts claims.now) c) (λ c. (c < length claims.now) × (slice_index (amounts claims.now) c < slice_index discharges.now c) × ((k : ℕ) → k < c → slice_index discharges.now k ≤ slice_index (amounts claims.now) k)) }
+    ensures { MatchOption result
+        ((c : ℕ) → c < length claims.now → slice_index discharges.now c ≤ slice_index (amounts claims.now) c)
+        (λ c. (c < length claims.now) × (slice_index (amounts claims.now) c < slice_index discharges.now c)
+        × ((k : ℕ) → k < c → slice_index discharges.now k ≤ slice_index (amounts claims.now) k)) }
 {
     for (place, claim) in claims.iter().enumerate() {
         if discharges[place] > claim.amount {
@@ -103,8 +106,10 @@ fn sum_flows(claims: &[CutClaim], discharges: &[u64], inflows: &mut [u64], outfl
     requires fits { sum discharges.now < 2 ^ 64 }
     requires creditors { All (λ c. c.creditor < length inflows.old) claims.now }
     requires debtors { All (λ c. c.debtor < length outflows.old) claims.now }
-    ensures inflows { (f : ℕ) → f < length inflows.new → slice_index inflows.new f ≡ flow_at (length claims.now) (creditors claims.now) discharges.now f }
-    ensures outflows { (f : ℕ) → f < length outflows.new → slice_index outflows.new f ≡ flow_at (length claims.now) (debtors claims.now) discharges.now f }
+    ensures inflows { (f : ℕ) → f < length inflows.new →
+        slice_index inflows.new f ≡ flow_at (length claims.now) (creditors claims.now) discharges.now f }
+    ensures outflows { (f : ℕ) → f < length outflows.new →
+        slice_index outflows.new f ≡ flow_at (length claims.now) (debtors claims.now) discharges.now f }
 {
     inflows.fill(0);
     outflows.fill(0);
@@ -119,7 +124,14 @@ fn sum_flows(claims: &[CutClaim], discharges: &[u64], inflows: &mut [u64], outfl
 fn first_outside(parties: &[Party], inflows: &[u64], outflows: &[u64]) -> Option<usize>
     requires inflows { length inflows.now ≡ length parties.now }
     requires outflows { length outflows.now ≡ length parties.now }
-    ensures { MatchOption result ((f : ℕ) → f < length parties.now → InWindow (slice_index inflows.now f) (slice_index outflows.now f) (slice_index (spends parties.now) f) (slice_index (rooms parties.now) f)) (λ f. (f < length parties.now) × (InWindow (slice_index inflows.now f) (slice_index outflows.now f) (slice_index (spends parties.now) f) (slice_index (rooms parties.now) f) → ⊥) × ((k : ℕ) → k < f → InWindow (slice_index inflows.now k) (slice_index outflows.now k) (slice_index (spends parties.now) k) (slice_index (rooms parties.now) k))) }
+    ensures { MatchOption result
+        ((f : ℕ) → f < length parties.now → InWindow (slice_index inflows.now f) (slice_index outflows.now f)
+        (slice_index (spends parties.now) f) (slice_index (rooms parties.now) f))
+        (λ f. (f < length parties.now)
+        × (InWindow (slice_index inflows.now f) (slice_index outflows.now f)
+        (slice_index (spends parties.now) f) (slice_index (rooms parties.now) f) → ⊥)
+        × ((k : ℕ) → k < f → InWindow (slice_index inflows.now k) (slice_index outflows.now k)
+        (slice_index (spends parties.now) k) (slice_index (rooms parties.now) k))) }
 {
     for (place, party) in parties.iter().enumerate() {
         let inflow = inflows[place] as u128;
@@ -133,7 +145,10 @@ fn first_outside(parties: &[Party], inflows: &[u64], outflows: &[u64]) -> Option
 
 // The first price that is not from -limit to limit.
 fn first_far(prices: &[i64], limit: u64) -> Option<usize>
-    ensures { MatchOption result ((f : ℕ) → f < length prices.now → unsigned_abs (price_at prices.now f) ≤ limit) (λ f. (f < length prices.now) × (limit < unsigned_abs (price_at prices.now f)) × ((k : ℕ) → k < f → unsigned_abs (price_at prices.now k) ≤ limit)) }
+    ensures { MatchOption result
+        ((f : ℕ) → f < length prices.now → unsigned_abs (price_at prices.now f) ≤ limit)
+        (λ f. (f < length prices.now) × (limit < unsigned_abs (price_at prices.now f))
+        × ((k : ℕ) → k < f → unsigned_abs (price_at prices.now k) ≤ limit)) }
 {
     for (place, price) in prices.iter().enumerate() {
         if price.unsigned_abs() > limit {
