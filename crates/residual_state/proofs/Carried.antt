@@ -1,7 +1,7 @@
 -- A step over an arc with gain 0, and what it leaves.
 use Rattle.std.specs.Prelude.{Bool, slice_index, slice_index_or, ℤ, pos, unsigned_abs}
-use Rattle.std.proofs.Common.{◌≡◌, ◌≢◌, ℕ, suc, ◌+◌, ◌<◌, ◌≤◌, ◌^◌, List, length, set, ◌∙◌, ap, subst, inl, inr, arith}
-use Rattle.std.proofs.lemmas.Bool.{cases_eq}
+use Rattle.std.proofs.Common.{◌≡◌, ◌≢◌, ℕ, suc, ◌+◌, ◌<◌, ◌≤◌, ◌^◌, List, length, set, sym, ◌∙◌, ap, subst, inl, inr, arith}
+use Rattle.std.proofs.lemmas.Bool.{cases_eq, true≢false}
 use Rattle.std.proofs.lemmas.Int.{ints}
 use Rattle.std.proofs.lemmas.List.{length-map}
 use Rattle.setoff_model.specs.Sums.{sum_below, above_zero}
@@ -27,6 +27,33 @@ small_after e f step d v few fit moved small lt =
         | inr vt ↦ let a = moved.others v vs vt in let c = small v lt in omega (arith, ints, a, c)
       ]
     ]
+
+-- two steps over one arc are between the same nodes
+same_ends : (arcs : Arcs) (x : List ℕ) (a d : ℕ) (along : Bool) (s t : Step) → IsStep arcs x a along d s → IsStep arcs x a along d t → (s.from ≡ t.from) × (s.to ≡ t.to)
+same_ends arcs x a d along s t one two =
+    elim one as (λ _. (s.from ≡ t.from) × (s.to ≡ t.to)) [
+      | inl o ↦ elim two as (λ _. (s.from ≡ t.from) × (s.to ≡ t.to)) [
+        | inl w ↦ (sym o.1 ∙ w.1, sym o.2 ∙ w.2)
+        | inr w ↦ absurd (true≢false (sym o.0 ∙ w.0))
+      ]
+      | inr o ↦ elim two as (λ _. (s.from ≡ t.from) × (s.to ≡ t.to)) [
+        | inl w ↦ absurd (true≢false (sym w.0 ∙ o.0))
+        | inr w ↦ (sym o.1 ∙ w.1, sym o.2 ∙ w.2)
+      ]
+    ]
+
+-- where one fits, so does the other
+pub fit_alike : (arcs : Arcs) (x : List ℕ) (a d : ℕ) (along : Bool) (s t : Step) (e : List ℤ) → IsStep arcs x a along d s → IsStep arcs x a along d t → IsFit e t d → IsFit e s d
+fit_alike arcs x a d along s t e one two fit =
+    let ends = same_ends arcs x a d along s t one two in
+    record {
+      apart = rw (ends.0, ends.1) fit.apart;
+      from = rw ends.0 fit.from;
+      to = rw ends.1 fit.to;
+      above = rw ends.0 fit.above;
+      below = rw ends.1 fit.below;
+      level = rw (ends.0, ends.1) fit.level;
+    }
 
 -- the step fits the arc, and moves the amount
 fits_arc : (arcs : Arcs) (x : List ℕ) (a d : ℕ) (along : Bool) (step : Step) → IsFlow arcs x → a < length arcs.capacities → IsStep arcs x a along d step → step.flow ≤ slice_index arcs.capacities a

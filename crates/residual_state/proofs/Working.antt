@@ -1,12 +1,13 @@
 -- The solver's steps, at its state.
-use Rattle.std.specs.Prelude.{slice_index, unsigned_abs, Bool, ℤ, pos, ◌≤ℤ◌, ◌<ℤ◌}
-use Rattle.std.proofs.Common.{◌≡◌, ℕ, ◌+◌, ◌<◌, List, length, ◌∙◌, ap, inl, inr, arith, length-append}
+use Rattle.std.specs.Prelude.{slice_index, slice_set, unsigned_abs, Bool, true, false, ℤ, pos, ◌≤ℤ◌, ◌<ℤ◌}
+use Rattle.std.proofs.Common.{◌≡◌, ℕ, ◌+◌, ◌<◌, List, length, sym, ◌∙◌, ap, subst, inl, inr, arith, length-append}
+use Rattle.std.proofs.lemmas.Bool.{cases_eq}
 use Rattle.std.proofs.lemmas.Int.{ints}
-use Rattle.std.proofs.lemmas.List.{length-map}
+use Rattle.std.proofs.lemmas.List.{length-map, get_or-set_other}
 use Rattle.setoff_model.specs.Setoff.{price_at}
 use Rattle.setoff_model.specs.Squeezing.{IsSqueezed}
 use Rattle.residual_network.specs.Network.{arc_gain, ArcSlack, AreArcsAmong}
-use Rattle.residual_network.specs.Labels.{mark, IsRaised, IsBelowRaises}
+use Rattle.residual_network.specs.Labels.{mark, one_if, IsRaised, IsBelowRaises}
 use Rattle.residual_network.specs.Steps.{LeadsOut}
 use Rattle.residual_network.proofs.Gains.{raise_law, squeezing_law}
 use Rattle.residual_state.specs.declared.crossing.Crossing.{Crossing}
@@ -16,7 +17,7 @@ use Rattle.residual_state.specs.declared.label.Labels.{Labels}
 use Rattle.residual_state.specs.declared.state.State.{State}
 use Rattle.residual_state.specs.Crossings.{IsCrossing}
 use Rattle.residual_state.specs.Edges.{AreAmong, tails, heads, capacities, graph}
-use Rattle.residual_state.specs.Labels.{nodes, IsLabelled, IsWanting, unlabelled}
+use Rattle.residual_state.specs.Labels.{nodes, IsLabelled, IsUnmet, IsWanting, unlabelled}
 use Rattle.residual_state.specs.States.{IsSound, IsSearchOf, IsGrown}
 use Rattle.residual_state.proofs.Pushed.{pushed_last}
 use Rattle.residual_state.proofs.Growing.{grown, grown_fewer}
@@ -50,6 +51,16 @@ module _ (w : State) (old new : Labels) (a : ℕ) (s : Crossing) (is : IsSearchO
         within = omega (arith, more_found, e);
         wants = omega (arith, ints, at, low);
       }
+
+  pub far_unmet : IsUnmet w.excess.items old → pos 0 ≤ℤ price_at w.excess.items s.to → IsUnmet w.excess.items new
+  far_unmet unmet here v marked =
+      elim (cases_eq v s.to) as (λ _. pos 0 ≤ℤ price_at w.excess.items v) [
+        | inl same ↦ subst (λ (k : ℕ). pos 0 ≤ℤ price_at w.excess.items k) (sym same) here
+        | inr ne ↦
+            let other = ap one_if (get_or-set_other old.labelled.items s.to v true false ne) in
+            let put_mark = ap (λ (l : List Bool). mark l v) put.labelled in
+            unmet v (sym other ∙ sym put_mark ∙ marked)
+      ]
 
 -- ---- raised and squeezed prices
 

@@ -14,6 +14,9 @@ use crate::price::gain_of;
 use crate::state::State;
 use residual_network::{Edge, Push};
 
+// 2^80 cents: no excess that a push may change is farther from 0.
+const FAR: i128 = 1_208_925_819_614_629_174_706_176;
+
 // The node that excess is moved from, the node that it is moved to, and the flow of the arc after that.
 #[derive(Clone, Copy)]
 struct Step {
@@ -43,14 +46,25 @@ fn carry(state: &mut State, push: Push)
     ensures no_worse { IsNoWorse state.old state.new }
     ensures carried { IsCarried state.old push state.new }
 {
+    if let Some(step) = step_of(state, push) {
+        make_step(state, push, step);
+    }
+}
+
+// The step of a push. None where it may not be made.
+fn step_of(state: &State, push: Push) -> Option<Step>
+    requires { (o : Obligations) × IsStateOf o state.now }
+    ensures { MatchOption result ((step : Step) → CanCarry state.now push step → ⊥) (CanCarry state.now push) }
+{
     let arc = push.arc as usize;
     if state.edges.len() <= arc || gain_of(&state.edges, &state.prices, arc) != 0 {
-        return;
+        return None;
     }
-    if let Some(step) = step_over(&state.edges, &state.flows, arc, push) {
-        if fits(&state.excess, step, push.amount) {
-            make_step(state, push, step);
-        }
+    let step = step_over(&state.edges, &state.flows, arc, push)?;
+    if fits(&state.excess, step, push.amount) {
+        Some(step)
+    } else {
+        None
     }
 }
 
@@ -92,8 +106,7 @@ fn fits(excess: &[i128], step: Step, amount: u64) -> bool
     if step.from == step.to || excess.len() <= step.from || excess.len() <= step.to {
         return false;
     }
-    let most = 1_208_925_819_614_629_174_706_176;
-    if excess[step.from] < -most || most < excess[step.to] {
+    if excess[step.from] < -FAR || FAR < excess[step.to] {
         return false;
     }
     if amount as i128 <= excess[step.from] {
