@@ -83,10 +83,10 @@ pub enum Act {
 }
 
 impl Act {
-    /// Whether every field is in its range. The amounts of a File, a Receive, a Fund and a Draw are 1 to 999,999,999,999
-    /// cents, those of a Limit and an Offer 0 to 999,999,999,999 cents. A Publish has a round from 1 on, at most 262,144
-    /// discharges of 0 to 999,999,999,999 cents, and at most 16,384 prices, each from -n to n for n prices. Names and days
-    /// are in their ranges by their types.
+    /// Whether every field is in its range. The amounts of a File, a Receive, a Fund and a Draw are 1 to
+    /// 999,999,999,999 cents, those of a Limit and an Offer 0 to 999,999,999,999 cents. A Publish has a round from 1
+    /// on, at most 262,144 discharges of 0 to 999,999,999,999 cents, and at most 16,384 prices, each from -n to n for n
+    /// prices. Names and days are in their ranges by their types.
     pub fn valid(&self) -> bool
         ensures { result ≡ is_valid self.now }
     {

@@ -8,7 +8,7 @@ ghost use Rattle.claim_history.specs.Acts.{is_valid, act_text};
 
 use crate::act::Act;
 use crate::day::Day;
-use setoff_model::{Key, Kind, Name, put, write_cents, write_number};
+use setoff_model::{Key, Kind, Name, put, write_cents, write_whole};
 
 /// Writes the verb and its fields with single spaces between them, and no line's end: at most 80 bytes, into a buffer
 /// that has room. Of a publication the number of its round is written alone. It takes no memory.
@@ -164,7 +164,7 @@ fn write_publish(buffer: &mut Vec<u8>, round: u32)
     ensures room { vec_capacity buffer.old ≤ vec_capacity buffer.new }
 {
     put(buffer, b"PUBLISH ");
-    write_number(buffer, i128::from(round));
+    write_whole(buffer, u64::from(round));
 }
 
 // Creditor and invoice.

@@ -102,7 +102,8 @@ pub fn days_are_civil_dates()
     ensures texts { DayTextsLaw }
 {}
 
-// The civil date of the years 0 to 9999 that a text `YYYY-MM-DD` names, with two digits each for century, year, month and day.
+// The civil date of the years 0 to 9999 that a text `YYYY-MM-DD` names, with two digits each for century, year, month
+// and day.
 fn read_date(text: &[u8]) -> Option<Date>
     ensures found { IfSome result (λ d. text.now ≡ date_text (civil (unsigned_abs d.year) d.month d.day)) }
     ensures from { IfSome result (λ d. pos 0 ≤ℤ d.year) }

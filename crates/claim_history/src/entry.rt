@@ -43,8 +43,8 @@ pub enum Why {
     NoRound,
     /// The open round has another owner.
     NotOwner { round: u32 },
-    /// The act would be accepted, and the device failed: its count of faults stood at the first number before, and at the
-    /// second after.
+    /// The act would be accepted, and the device failed: its count of faults stood at the first number before, and at
+    /// the second after.
     Device { before: u64, after: u64 },
     /// The prices do not prove the discharges for the cut of the round.
     NotProved,

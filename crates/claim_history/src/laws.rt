@@ -4,8 +4,8 @@ ghost use Rattle.claim_history.specs.Needs.{RoomLaw, EndingsLaw, RecordsLaw, Use
 ghost use Rattle.claim_history.specs.Bounds.{CutBoundLaw, UseBoundLaw};
 ghost use Rattle.claim_history.specs.Register.{FullRegister};
 
-/// What a history comes to is that of its entries: its acts are the accepted ones, newest first, and its open round has the cut
-/// of the entries before its opening. As many rounds were opened as entries open one.
+/// What a history comes to is that of its entries: its acts are the accepted ones, newest first, and its open round has
+/// the cut of the entries before its opening. As many rounds were opened as entries open one.
 pub fn state_is_of_the_history()
     ensures acts { ActsLaw }
     ensures cut { CutLaw }
@@ -17,24 +17,24 @@ pub fn each_round_has_one_cut()
     ensures { OneCutLaw }
 {}
 
-/// A round is open from its opening until a publication or an Abandon is accepted: exactly where none comes later. So no round
-/// is open exactly where one comes behind each opening.
+/// A round is open from its opening until a publication or an Abandon is accepted: exactly where none comes later. So
+/// no round is open exactly where one comes behind each opening.
 pub fn round_is_open_until_its_end()
     ensures open { OpenLaw }
     ensures none { NoneOpenLaw }
 {}
 
-/// A legal history stays legal with one more entry whose reply is the history's one reply or tells of a device, and each list
-/// of calls, replayed, gives a legal history.
+/// A legal history stays legal with one more entry whose reply is the history's one reply or tells of a device, and
+/// each list of calls, replayed, gives a legal history.
 pub fn legal_history_grows()
     ensures growth { GrowthLaw }
     ensures replay { ReplayLaw }
 {}
 
-/// After every legal history each account is within its limits, and of no claim is more received and discharged than its amount.
-/// Where the acts are valid too, every balance is within 10^15 cents of zero, and nobody is owed or owes more than 262,144
-/// amounts of 10^12 cents, so the replies are in range. The limits, the windows of a cut, and the tests of the refusals that
-/// speak of them, are the formulas that they are named for.
+/// After every legal history each account is within its limits, and of no claim is more received and discharged than
+/// its amount. Where the acts are valid too, every balance is within 10^15 cents of zero, and nobody is owed or owes
+/// more than 262,144 amounts of 999,999,999,999 cents, so the replies are in range. The limits, the windows of a cut,
+/// and the tests of the refusals that speak of them, are the formulas that they are named for.
 pub fn limits_hold()
     ensures limits { LimitsLaw }
     ensures sizes { SizesLaw }
@@ -42,12 +42,14 @@ pub fn limits_hold()
     ensures replies { RepliesLaw }
 {}
 
-/// While a round is open, each claim of its cut is confirmed with the cut's amount open, and each window of its cut is today's.
+/// While a round is open, each claim of its cut is confirmed with the cut's amount open, and each window of its cut is
+/// today's.
 pub fn open_cut_is_frozen()
     ensures { FrozenLaw }
 {}
 
-/// After an accepted CLOSE its round stays open with its cut as long as neither its owner nor the bureau itself asks anything.
+/// After an accepted CLOSE its round stays open with its cut as long as neither its owner nor the bureau itself asks
+/// anything.
 pub fn owned_round_stays_open()
     ensures { OwnedLaw }
 {}
@@ -57,25 +59,25 @@ pub fn publication_keeps_net_positions()
     ensures { PublicationLaw }
 {}
 
-/// The prices of each published entry prove its discharges for the cut of its round, and so no lawful set-off of that cut
-/// discharges more.
+/// The prices of each published entry prove its discharges for the cut of its round, and so no lawful set-off of that
+/// cut discharges more.
 pub fn publications_are_greatest()
     ensures { GreatestLaw }
 {}
 
-/// While a round is open in a legal history, where each act was within the limits when it was asked, there is room for both
-/// endings of the round: for two entries, and for the bytes of its publication and of an abandonment. So neither of them is
-/// above a limit where it would be accepted. These bytes are those of the two records.
+/// While a round is open in a legal history, where each act was within the limits when it was asked, there is room for
+/// both endings of the round: for two entries, and for the bytes of its publication and of an abandonment. So neither
+/// of them is above a limit where it would be accepted. These bytes are those of the two records.
 pub fn room_for_endings_is_kept()
     ensures room { RoomLaw }
     ensures endings { EndingsLaw }
     ensures records { RecordsLaw }
 {}
 
-/// With each entry a history uses one entry more, unless its reply tells of a device, and the bytes of its record where it is
-/// accepted, and it stays within the limits where the act is. A list of calls uses an entry for each, and a record for each
-/// where all are accepted. An act needs what the history uses with it and its reply, and both endings of the round that is open
-/// then. It is full exactly where one of the two needs is above its limit.
+/// With each entry a history uses one entry more, unless its reply tells of a device, and the bytes of its record where
+/// it is accepted, and it stays within the limits where the act is. A list of calls uses an entry for each, and a
+/// record for each where all are accepted. An act needs what the history uses with it and its reply, and both endings
+/// of the round that is open then. It is full exactly where one of the two needs is above its limit.
 pub fn use_is_counted()
     ensures growth { UseLaw }
     ensures calls { CallsLaw }
@@ -83,8 +85,9 @@ pub fn use_is_counted()
     ensures full { FullLaw }
 {}
 
-/// The calls bound what a history uses, whatever their replies: an entry for each, and the bytes of their records. They bound the
-/// cut of each round too: it has at most as many claims as calls file one, and as many parties as calls register a firm.
+/// The calls bound what a history uses, whatever their replies: an entry for each, and the bytes of their records. They
+/// bound the cut of each round too: it has at most as many claims as calls file one, and as many parties as calls
+/// register a firm.
 pub fn calls_bound_use_and_cuts()
     ensures use_of_calls { UseBoundLaw }
     ensures cut { CutBoundLaw }

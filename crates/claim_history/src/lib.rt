@@ -1,20 +1,23 @@
 //! The history of the bureau: acts, replies, and the one reply of a history to each act.
 //!
-//! An entry is what a caller asked, and what was replied. A history is a list of entries in order of time; a past is the same
-//! list, newest first, and definitions go over pasts. What a history comes to is its state: the accepted acts, the rounds that
-//! were published, how many were opened, and the open round. Everything that is known of claims and accounts is a filter or a
-//! sum over the accepted acts and the published rounds.
+//! An entry is what a caller asked, and what was replied. A history is a list of entries in order of time; a past is
+//! the same list, newest first, and definitions go over pasts. What a history comes to is its state: the accepted acts,
+//! the rounds that were published, how many were opened, and the open round. Everything that is known of claims and
+//! accounts is a filter or a sum over the accepted acts and the published rounds.
 //!
 //! - The one reply to an act is given by rows of refusals, tried in order; where none applies, the act is accepted.
-//! - A history is legal where each reply is the one that is due, or tells that the device failed at an act that would be
-//!   accepted. A refusal changes nothing.
-//! - A CLOSE opens a round, whose cut is made of the entries before it. The round is open until a publication or an Abandon is
-//!   accepted. While it is open its cut is frozen: the claims of the cut, and in a FUNDED round the accounts of its parties.
+//! - A history is legal where each reply is the one that is due, or tells that the device failed at an act that would
+//!   be accepted. A refusal changes nothing.
+//! - A CLOSE opens a round, whose cut is made of the entries before it. The round is open until a publication or an
+//!   Abandon is accepted. While it is open its cut is frozen: the claims of the cut, and in a FUNDED round the accounts
+//!   of its parties.
 //! - A publication is accepted where its prices prove its discharges greatest for the cut.
-//! - Two limits, of entries and of the bytes of a journal, are counted so that both endings of an open round always have room.
+//! - Two limits, of entries and of the bytes of a journal, are counted so that both endings of an open round always
+//!   have room.
 //!
-//! The crate holds the types, their texts and the definitions. Its other functions are laws: each says by its contract what holds of
-//! every history, and does nothing when it is called. Days are civil dates by their numbers. Amounts are cents.
+//! The crate holds the types, their texts and the definitions. Its other functions are laws: each says by its contract
+//! what holds of every history, and does nothing when it is called. Days are civil dates by their numbers. Amounts are
+//! cents.
 #![tactic(auto)]
 
 mod act;
@@ -35,6 +38,3 @@ pub use laws::{
     publication_keeps_net_positions, publications_are_greatest, room_for_endings_is_kept,
     round_is_open_until_its_end, state_is_of_the_history, use_is_counted,
 };
-
-#[cfg(test)]
-mod tests;

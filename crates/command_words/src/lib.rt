@@ -1,12 +1,13 @@
 //! The words of the program's command line.
 //!
-//! A command is a first word and the values that it takes: `run`, `check`, `audit`, `positions`, `notices DATE`, `import LANE` or
-//! `trial FIRMS CLAIMS SEED`. The words are exactly such a list, or are refused.
+//! A command is a first word and the values that it takes: `run`, `check`, `audit`, `positions`, `notices DATE`,
+//! `import LANE` or `trial FIRMS CLAIMS SEED`. The words are exactly such a list, or are refused.
 //!
 //! - A word that begins with `-` is refused before the parse.
-//! - `clap` decides which command the first word names, and how many values there are. It has no `help` here, and no flags.
-//! - What a value may be is decided by the readers of the product: a day, or decimal digits without a superfluous leading zero, in the
-//!   range of the value.
+//! - `clap` decides which command the first word names, and how many values there are. It has no `help` here, and no
+//!   flags.
+//! - What a value may be is decided by the readers of the product: a day, or decimal digits without a superfluous
+//!   leading zero, in the range of the value.
 #![tactic(auto)]
 
 ghost use Rattle.command_words.specs.Words.{OneCommandLaw};
@@ -15,8 +16,6 @@ mod command;
 mod error;
 mod program;
 mod reading;
-#[cfg(test)]
-mod tests;
 mod usage;
 
 use claim_history::days_are_civil_dates;

@@ -16,6 +16,7 @@ use crate::program::program;
 use claim_history::Day;
 use clap::error::ErrorKind;
 use clap::{ArgMatches, Error};
+use request_text::MOST_LANES;
 use setoff_model::limits::{MOST_CLAIMS, MOST_FIRMS};
 use setoff_model::read_number;
 use std::alloc::Global;
@@ -88,7 +89,7 @@ fn given(name: &str, values: &ArgMatches) -> Option<Command>
             today: day_at(values, "DATE")?,
         }),
         "import" => Some(Command::Import {
-            lane: number_at(values, "LANE", 1, 16)?,
+            lane: number_at(values, "LANE", 1, MOST_LANES as u32)?,
         }),
         "trial" => trial_at(values),
         _ => None,

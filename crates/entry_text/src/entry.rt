@@ -139,8 +139,8 @@ fn write_refusal(buffer: &mut Vec<u8>, why: Why)
     write_numbers(buffer, why);
 }
 
-/// Writes the text of a reply, which takes at most 90 bytes. The caller gives 90 bytes of room behind what the buffer has, and so
-/// there is no error.
+/// Writes the text of a reply, which takes at most 90 bytes. The caller gives 90 bytes of room behind what the buffer
+/// has, and so there is no error.
 ///
 /// The amounts of a position, and the total of a publication, are below 10^18 cents in size.
 pub fn write_reply(buffer: &mut Vec<u8>, reply: &Reply)
@@ -161,9 +161,10 @@ pub fn write_reply(buffer: &mut Vec<u8>, reply: &Reply)
     }
 }
 
-/// Writes the line `caller REQUEST = REPLY` of an entry, with its line feed, into a buffer that has room.
+/// Writes the line `caller REQUEST = REPLY` of an entry, with its line feed: at most 200 bytes. The caller gives 200 bytes
+/// of room behind what the buffer has, and so there is no error.
 ///
-/// The amounts of a position, and the total of a publication, are below 10^18 cents in size. The line takes at most 200 bytes.
+/// The amounts of a position, and the total of a publication, are below 10^18 cents in size.
 pub fn write_entry(buffer: &mut Vec<u8>, entry: &Entry)
     requires valid { is_valid entry.now.act ≡ true }
     requires range { IsReplyInRange entry.now.reply }

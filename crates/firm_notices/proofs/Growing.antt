@@ -9,7 +9,7 @@ use Rattle.std.proofs.lemmas.List.Elements.{filter-append}
 use Rattle.std.proofs.lemmas.List.Concat.{flat_map-cons}
 use Rattle.std.proofs.lemmas.Grind.{flat_map-append}
 use Rattle.csv.specs.Writing.{row_text, default_writer}
-use Rattle.firm_notices.specs.Tables.{csv_text, Holds}
+use Rattle.firm_notices.specs.Tables.{csv_text, HoldsText}
 
 abbrev row : List (List ℕ) → List ℕ
 row fields = row_text default_writer fields
@@ -48,7 +48,7 @@ left_out p f names xs i x lt is fails =
     ∙ ap (λ ys. csv_text (names ∷ map f ys)) (filter-append p (take i xs) (x ∷ []) ∙ ap (λ ys. filter p (take i xs) ++ ys) none ∙ append-nil (filter p (take i xs)))
 
 -- the bytes of a text that is held are that text
-pub whole : (result : Result (Vec ℕ Global) AllocError) (table : Writer (Vec ℕ Global)) (text : List ℕ) → IfOk result (λ bytes. (held : List ℕ) → Holds table held → bytes.items ≡ held)
-    → Holds table text → IfOk result (λ bytes. bytes.items ≡ text)
+pub whole : (result : Result (Vec ℕ Global) AllocError) (table : Writer (Vec ℕ Global)) (text : List ℕ) → IfOk result (λ bytes. (held : List ℕ) → HoldsText table held → bytes.items ≡ held)
+    → HoldsText table text → IfOk result (λ bytes. bytes.items ≡ text)
 whole (Ok bytes) table text h holds = h text holds
 whole (Err e) table text h holds = tt

@@ -1,8 +1,9 @@
 -- The notices: the open claims, with the days that each is overdue.
-use Rattle.std.specs.Prelude.{ℕ, ◌-◌, Bool, true, false, not, ◌&&◌, nat_lt, List, [], ◌∷◌, map, filter, codes, decimal}
+use Rattle.std.specs.Prelude.{ℕ, ◌-◌, Bool, not, ◌&&◌, nat_lt, List, [], ◌∷◌, map, filter, codes, decimal}
 use Rattle.setoff_model.specs.Texts.{cents_text}
 use Rattle.claim_history.specs.Days.{day_text}
 use Rattle.claim_history.specs.Facts.{Ledger, claim_facts}
+use Rattle.claim_history.specs.History.{is_withdrawn}
 use Rattle.claim_history.specs.declared.fact.ClaimFact.{ClaimFact}
 use Rattle.claim_history.specs.declared.fact.Status.{Status}
 use Rattle.claim_history.specs.declared.fact.Status.TheVariants as status
@@ -14,10 +15,6 @@ status_text status.Filed = codes "filed"
 status_text status.Confirmed = codes "confirmed"
 status_text status.Disputed = codes "disputed"
 status_text status.Withdrawn = codes "withdrawn"
-
-abbrev pub is_withdrawn : Status → Bool
-is_withdrawn status.Withdrawn = true
-is_withdrawn _ = false
 
 -- the claim is not withdrawn, and its open amount is above 0
 abbrev pub is_open : ClaimFact → Bool

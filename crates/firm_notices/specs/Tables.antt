@@ -9,7 +9,7 @@ abbrev pub csv_text : List (List (List ℕ)) → List ℕ
 csv_text rows = flat_map (row_text default_writer) rows
 
 -- the writer has written this text and stands between two rows
-pub record Holds (table : Writer (Vec ℕ Global)) (text : List ℕ) : Type 0 where
+pub record HoldsText (table : Writer (Vec ℕ Global)) (text : List ℕ) : Type 0 where
   pub written : text_written (λ v. Some v.items) table ≡ Some text
   pub between : fields_written table ≡ 0
   pub clean : has_written table ≡ false

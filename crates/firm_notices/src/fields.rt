@@ -5,7 +5,7 @@ ghost use Rattle.claim_history.specs.Days.{day_text};
 ghost use Rattle.firm_notices.specs.Notices.{status_text};
 
 use claim_history::{Day, Status};
-use setoff_model::{write_cents, write_number, write_signed};
+use setoff_model::{write_cents, write_signed, write_whole};
 use std::alloc::{AllocError, Global};
 
 // The bytes that a number of any kind may take.
@@ -41,7 +41,7 @@ pub(crate) fn overdue_field(alloc: Global, due: Day, today: Day) -> Result<Vec<u
 {
     let days = today.number().saturating_sub(due.number());
     let mut text = Vec::with_capacity(alloc, ROOM)?;
-    write_number(&mut text, i128::from(days));
+    write_whole(&mut text, u64::from(days));
     Ok(text)
 }
 

@@ -3,7 +3,7 @@ ghost use Rattle.std.specs.Prelude.{◌≡◌, ◌∷◌, [], ◌++◌, ℕ, Lis
 ghost use Rattle.csv.specs.Writing.{row_text, default_writer};
 ghost use Rattle.claim_book.specs.Book.{ledger_of};
 ghost use Rattle.claim_history.specs.Facts.{account_facts};
-ghost use Rattle.firm_notices.specs.Tables.{Holds};
+ghost use Rattle.firm_notices.specs.Tables.{HoldsText};
 ghost use Rattle.firm_notices.specs.Positions.{position_fields, positions_text};
 
 use crate::fields::{cents_field, signed_field};
@@ -13,7 +13,8 @@ use claim_history::{AccountFact, Position};
 use csv::Writer;
 use std::alloc::{AllocError, Global};
 
-/// The account and the position of each firm of a book as CSV, in order of registration. The only error is that memory is missing.
+/// The account and the position of each firm of a book as CSV, in order of registration. The only error is that memory
+/// is missing.
 pub fn positions(alloc: Global, book: &Book) -> Result<Vec<u8>, AllocError>
     ensures { IfOk result (λ text. text.items ≡ positions_text (ledger_of book.now.history)) }
 {
@@ -57,7 +58,7 @@ fn put_position(
     account: &AccountFact,
     position: &Position,
 ) -> Result<(), AllocError>
-    ensures { OnOk result ((text : List ℕ) → Holds table.old text → Holds table.new (text ++ row_text default_writer (position_fields account.now position.now))) }
+    ensures { OnOk result ((text : List ℕ) → HoldsText table.old text → HoldsText table.new (text ++ row_text default_writer (position_fields account.now position.now))) }
 {
     let sums = Sums {
         balance: signed_field(alloc, account.balance)?,
@@ -75,7 +76,7 @@ fn put_sums<'a>(
     account: &'a AccountFact,
     sums: &'a Sums,
 ) -> Result<(), AllocError>
-    ensures { OnOk result ((text : List ℕ) → Holds table.old text → Holds table.new (text ++ row_text default_writer (account.now.firm ∷ sums.now.balance.items ∷ sums.now.credit.items ∷ sums.now.ceiling.items ∷ sums.now.offer.items ∷ sums.now.receivable.items ∷ sums.now.payable.items ∷ []))) }
+    ensures { OnOk result ((text : List ℕ) → HoldsText table.old text → HoldsText table.new (text ++ row_text default_writer (account.now.firm ∷ sums.now.balance.items ∷ sums.now.credit.items ∷ sums.now.ceiling.items ∷ sums.now.offer.items ∷ sums.now.receivable.items ∷ sums.now.payable.items ∷ []))) }
 {
     put_row(
         table,

@@ -9,7 +9,7 @@ ghost use Rattle.firm_notices.specs.Invoices.{IsInvoice, HasCause, invoice_names
 use crate::error::RowCause;
 use claim_history::{Act, Day};
 use csv::ByteRecord;
-use setoff_model::{Key, Name, read_amount};
+use setoff_model::{Key, Name, read_claim_amount};
 
 /// The FILE that a row stands for, or the first cause why it stands for none.
 pub(crate) fn invoice_of(row: &ByteRecord) -> Result<Act, RowCause>
@@ -76,7 +76,7 @@ fn filing(
     let Some(debtor) = Name::of(debtor) else {
         return Err(RowCause::Field(3));
     };
-    let Some(amount) = claim_amount(amount) else {
+    let Some(amount) = read_claim_amount(amount) else {
         return Err(RowCause::Field(4));
     };
     let Some(due) = Day::read(due) else {
@@ -89,15 +89,4 @@ fn filing(
         amount,
         due,
     })
-}
-
-// The amount from 0.01 on that a field is.
-fn claim_amount(field: &[u8]) -> Option<u64>
-    ensures found { IfSome result (λ cents. (field.now ≡ cents_text cents) × (is_claim_amount cents ≡ true)) }
-    ensures none { IfNone result (HasForm some_cents field.now → ⊥) }
-{
-    match read_amount(field) {
-        Some(cents) if 1 <= cents => Some(cents),
-        _ => None,
-    }
 }

@@ -15,9 +15,10 @@ use std::alloc::Global;
 
 /// Reads invoices as CSV, and gives the lines of a lane that file them, one for each invoice in order.
 ///
-/// The first row has the names `creditor,invoice,debtor,amount,due`, and every other row these fields of an invoice. A byte order mark
-/// at the start, quoted fields, and rows that end with a carriage return and a line feed are read as spreadsheets write them. `BadRow`
-/// tells the first row that is not as it has to be, and its first cause. The lane is 1 to 16.
+/// The first row has the names `creditor,invoice,debtor,amount,due`, and every other row these fields of an invoice. A
+/// byte order mark at the start, quoted fields, and rows that end with a carriage return and a line feed are read as
+/// spreadsheets write them. `BadRow` tells the first row that is not as it has to be, and its first cause. The lane is
+/// 1 to 16.
 pub fn import(alloc: Global, input: &[u8], lane: u32) -> Result<Vec<u8>, ImportError>
     requires { IsLane lane }
     ensures read { IfOk result (λ text. (filings : List Act) × IsInvoiceText input.now filings × (text.items ≡ import_text lane filings)) }
@@ -48,7 +49,8 @@ pub fn invoices_have_one_reading()
     ensures law { OneReadingLaw }
 {}
 
-/// What `import` writes is read back as requests of the FILEs that the invoices spell. A law, which does nothing when it is called.
+/// What `import` writes is read back as requests of the FILEs that the invoices spell. A law, which does nothing when
+/// it is called.
 pub fn filed_invoices_are_read_back()
     ensures law { FiledLaw }
 {}

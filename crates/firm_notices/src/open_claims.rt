@@ -2,7 +2,7 @@
 ghost use Rattle.std.specs.Prelude.{◌≡◌, ◌∷◌, [], ◌++◌, ℕ, List, IfOk, OnOk};
 ghost use Rattle.csv.specs.Writing.{row_text, default_writer};
 ghost use Rattle.claim_book.specs.Book.{ledger_of};
-ghost use Rattle.firm_notices.specs.Tables.{Holds};
+ghost use Rattle.firm_notices.specs.Tables.{HoldsText};
 ghost use Rattle.firm_notices.specs.Notices.{is_open, notice_fields, notices_text};
 
 use crate::fields::{cents_field, day_field, overdue_field, status_field};
@@ -62,7 +62,7 @@ fn put_notice(
     claim: &ClaimFact,
     today: Day,
 ) -> Result<(), AllocError>
-    ensures { OnOk result ((text : List ℕ) → Holds table.old text → Holds table.new (text ++ row_text default_writer (notice_fields today claim.now))) }
+    ensures { OnOk result ((text : List ℕ) → HoldsText table.old text → HoldsText table.new (text ++ row_text default_writer (notice_fields today claim.now))) }
 {
     let figures = Figures {
         amount: cents_field(alloc, claim.amount)?,
@@ -79,7 +79,7 @@ fn put_claim<'a>(
     status: &'a [u8],
     figures: &'a Figures,
 ) -> Result<(), AllocError>
-    ensures { OnOk result ((text : List ℕ) → Holds table.old text → Holds table.new (text ++ row_text default_writer (claim.now.debtor ∷ claim.now.key.creditor ∷ claim.now.key.invoice ∷ status.now ∷ figures.now.amount.items ∷ figures.now.open.items ∷ figures.now.due.items ∷ figures.now.overdue.items ∷ []))) }
+    ensures { OnOk result ((text : List ℕ) → HoldsText table.old text → HoldsText table.new (text ++ row_text default_writer (claim.now.debtor ∷ claim.now.key.creditor ∷ claim.now.key.invoice ∷ status.now ∷ figures.now.amount.items ∷ figures.now.open.items ∷ figures.now.due.items ∷ figures.now.overdue.items ∷ []))) }
 {
     put_row(
         table,

@@ -1,8 +1,8 @@
 //! Requests as text.
 //!
-//! A line is `FENCE`, which ends a batch, or a request: a lane from 1 to `MOST_LANES`, a verb and its fields, with single
-//! spaces between them. It ends at a line feed, or at a carriage return and a line feed; the last line may end with the
-//! input. A batch may be empty, and an input with no fence is one.
+//! A line is `FENCE`, which ends a batch, or a request: a lane from 1 to `MOST_LANES`, a verb and its fields, with
+//! single spaces between them. It ends at a line feed, or at a carriage return and a line feed; the last line may end
+//! with the input. A batch may be empty, and an input with no fence is one.
 //!
 //! - A text has one reading, or is refused with the number of its first bad line and the first cause in the order of
 //!   `LineCause` that applies to it.
@@ -15,8 +15,6 @@ mod error;
 mod fields;
 mod reading;
 mod request;
-#[cfg(test)]
-mod tests;
 mod verb;
 mod writing;
 
@@ -25,7 +23,8 @@ pub use reading::read_requests;
 pub use request::{Batch, MOST_LANES, Request};
 pub use writing::write_request;
 
-/// What is written of batches is read back as these batches, and as no others. A law, which does nothing when it is called.
+/// What is written of batches is read back as these batches, and as no others. A law, which does nothing when it is
+/// called.
 pub fn written_requests_are_read_back()
     ensures law { ReadBackLaw }
 {}

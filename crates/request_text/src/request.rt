@@ -46,7 +46,8 @@ impl Batch {
         Batch { requests }
     }
 
-    /// The requests, by rising line numbers. Each lane is from 1 to `MOST_LANES`, and each act is valid and no publication.
+    /// The requests, by rising line numbers. Each lane is from 1 to `MOST_LANES`, and each act is valid and no
+    /// publication.
     pub fn requests(&self) -> &[Request]
         ensures requests { result.now ≡ self.now }
         ensures in_order { AreInOrder self.now }

@@ -1,14 +1,14 @@
 //! Writing requests.
-ghost use Rattle.std.specs.Prelude.{◌≡◌, ◌+◌, ◌≤◌, ◌++◌, decimal, true, vec_len, vec_capacity};
+ghost use Rattle.std.specs.Prelude.{◌≡◌, ◌+◌, ◌≤◌, ◌++◌, true, vec_len, vec_capacity};
 ghost use Rattle.claim_history.specs.Acts.{is_request};
 ghost use Rattle.request_text.specs.Grammar.{request_line};
 ghost use Rattle.request_text.specs.Lanes.{IsLane};
 
 use claim_history::{Act, write_act};
-use setoff_model::{put, write_number};
+use setoff_model::{put, write_whole};
 
-/// Writes the line `lane VERB fields` of what is asked of a lane with its line feed: at most 200 bytes, into a buffer that has room.
-/// It takes no memory.
+/// Writes the line `lane VERB fields` of what is asked of a lane with its line feed: at most 200 bytes, into a buffer
+/// that has room. It takes no memory.
 pub fn write_request(buffer: &mut Vec<u8>, lane: u32, act: &Act)
     requires lane { IsLane lane }
     requires valid { is_request act.now ≡ true }
@@ -17,17 +17,8 @@ pub fn write_request(buffer: &mut Vec<u8>, lane: u32, act: &Act)
     ensures len { vec_len buffer.new ≤ vec_len buffer.old + 200 }
     ensures room { vec_capacity buffer.old ≤ vec_capacity buffer.new }
 {
-    write_lane(buffer, lane);
+    write_whole(buffer, u64::from(lane));
     put(buffer, b" ");
     write_act(buffer, act);
     put(buffer, b"\n");
-}
-
-fn write_lane(buffer: &mut Vec<u8>, lane: u32)
-    requires spare { vec_len buffer.old + 60 ≤ vec_capacity buffer.old }
-    ensures text { buffer.new.items ≡ buffer.old.items ++ decimal lane }
-    ensures len { vec_len buffer.new ≤ vec_len buffer.old + 20 }
-    ensures room { vec_capacity buffer.old ≤ vec_capacity buffer.new }
-{
-    write_number(buffer, i128::from(lane));
 }

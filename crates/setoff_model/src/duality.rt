@@ -18,8 +18,8 @@ pub fn weak_duality()
     ensures bounded { SumsAreBounded }
 {}
 
-/// The test `is_proved`, which computes, is true exactly where prices prove discharges. A law, which does nothing when it is
-/// called.
+/// The test `is_proved`, which computes, is true exactly where prices prove discharges. A law, which does nothing when
+/// it is called.
 pub fn proofs_are_decided()
     ensures { ProofTestLaw }
 {}
@@ -27,8 +27,8 @@ pub fn proofs_are_decided()
 /// The law by which a solver knows its end: complementary slackness, for circulations.
 ///
 /// A call does nothing. By its clause the total of a lawful set-off equals the bound of prices exactly where each claim
-/// with `1 + price of the debtor - price of the creditor` above 0 is discharged whole, each claim where that is below 0 not
-/// at all, each party with a price above 0 has used its room, and each with a price below 0 its spend.
+/// with `1 + price of the debtor - price of the creditor` above 0 is discharged whole, each claim where that is below 0
+/// not at all, each party with a price above 0 has used its room, and each with a price below 0 its spend.
 pub fn slackness()
     ensures { Slackness }
 {}

@@ -1,4 +1,5 @@
-//! The bureau's limits, by name. Clauses name them by the same words in small letters, which stand in `specs/Limits.antt`.
+//! The bureau's limits, by name. Clauses name them by the same words in small letters, which stand in
+//! `specs/Limits.antt`.
 
 /// The most parties of a round, and the most firms of a bureau: 2^14.
 pub const MOST_FIRMS: usize = 16_384;

@@ -45,7 +45,8 @@ impl Outcome {
 
 /// The sum of the discharges, in cents.
 ///
-/// There are at most as many of them as a round has claims, each at most an amount of a request, as of every lawful set-off of a well-formed cut.
+/// There are at most as many of them as a round has claims, each at most an amount of a request, as of every lawful
+/// set-off of a well-formed cut.
 pub fn total(outcome: &Outcome) -> u64
     requires few { length outcome.now.discharges ≤ most_claims }
     requires small { All (λ d. d ≤ most_amount) outcome.now.discharges }

@@ -177,13 +177,14 @@ fn begin_text(alloc: Global, text: &[u8]) -> Result<Draft, StatementError>
     }
 }
 
-/// The cut and the outcome that a statement says. Its lines are `ROUND r KIND`, the parties' `PARTY firm spend room price`,
-/// the claims' `CLAIM creditor invoice debtor amount discharged` and `END`; a line ends at a line feed, with or without a
-/// carriage return before it.
+/// The cut and the outcome that a statement says. Its lines are `ROUND r KIND`, the parties'
+/// `PARTY firm spend room price`, the claims' `CLAIM creditor invoice debtor amount discharged` and `END`; a line ends
+/// at a line feed, with or without a carriage return before it.
 ///
-/// The cut is well formed, and the outcome has a price for each party and a discharge for each claim. `BadLine` comes exactly
-/// where the input is no statement, with the first line, counted from 1, up to which no statement begins like the input, or
-/// one past the last line where some statement goes on from there, and with the first cause that applies there.
+/// The cut is well formed, and the outcome has a price for each party and a discharge for each claim. `BadLine` comes
+/// exactly where the input is no statement, with the first line, counted from 1, up to which no statement begins like
+/// the input, or one past the last line where some statement goes on from there, and with the first cause that applies
+/// there.
 pub fn read_statement(alloc: Global, input: &[u8]) -> Result<(Cut, Outcome), StatementError>
     ensures found { IfOk result (λ read. IsStatement (lines input.now) read.0 read.1) }
     ensures bad { IfErr result (OnBadLine (λ number. IsFirstBadLine (lines input.now) number × IsNoStatement (lines input.now))) }

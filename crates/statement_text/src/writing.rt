@@ -8,9 +8,11 @@ ghost use Rattle.setoff_model.specs.Texts.{cents_text};
 ghost use Rattle.statement_text.specs.Lines.{head_fields, party_fields, claim_fields};
 ghost use Rattle.statement_text.specs.Statements.{firm_at};
 
-use setoff_model::{Cut, Key, Kind, Name, Party, put, write_cents, write_number};
+use setoff_model::{Cut, Key, Kind, Name, Party, put, write_number, write_sum, write_whole};
 
-/// Writes the line `ROUND r KIND`, with its line feed, into a buffer that has 200 bytes spare. Rounds are numbered from 1.
+/// Writes the line `ROUND r KIND`, with its line feed, into a buffer that has 200 bytes spare.
+///
+/// Rounds are numbered from 1.
 pub fn write_head(buffer: &mut Vec<u8>, round: u32, kind: Kind)
     requires round { 1 ≤ round }
     requires spare { vec_len buffer.old + 200 ≤ vec_capacity buffer.old }
@@ -19,7 +21,7 @@ pub fn write_head(buffer: &mut Vec<u8>, round: u32, kind: Kind)
     ensures room { vec_capacity buffer.old ≤ vec_capacity buffer.new }
 {
     put(buffer, b"ROUND ");
-    write_number(buffer, i128::from(round));
+    write_whole(buffer, u64::from(round));
     put(buffer, b" ");
     match kind {
         Kind::Plain => put(buffer, b"PLAIN\n"),
@@ -48,8 +50,8 @@ pub fn write_party(buffer: &mut Vec<u8>, party: &Party, price: i64)
     put(buffer, b"\n");
 }
 
-/// Writes the line `CLAIM creditor invoice debtor amount discharged` of the claim at a place of a well-formed cut, with its
-/// line feed, into a buffer that has 200 bytes spare. The discharge is below 10^18 cents.
+/// Writes the line `CLAIM creditor invoice debtor amount discharged` of the claim at a place of a well-formed cut, with
+/// its line feed, into a buffer that has 200 bytes spare. The discharge is below 10^18 cents.
 pub fn write_claim(buffer: &mut Vec<u8>, cut: &Cut, place: u32, discharge: u64)
     requires cut { WellFormed cut.now }
     requires place { place < length cut.now.claims }
@@ -112,7 +114,7 @@ fn put_sums(buffer: &mut Vec<u8>, first: u64, second: u64)
     ensures len { vec_len buffer.new ≤ vec_len buffer.old + 39 }
     ensures room { vec_capacity buffer.old ≤ vec_capacity buffer.new }
 {
-    write_cents(buffer, u128::from(first));
+    write_sum(buffer, first);
     put(buffer, b" ");
-    write_cents(buffer, u128::from(second));
+    write_sum(buffer, second);
 }

@@ -1,9 +1,12 @@
-use crate::StatementCause::{After, Limit, NoEnd, NoParty, Repeat, Round, SameFirm, Shape, Window};
-use crate::{
+//! Statements as text.
+use setoff_model::{Cut, Kind, Name, Party};
+use statement_text::StatementCause::{
+    After, Limit, NoEnd, NoParty, Repeat, Round, SameFirm, Shape, Window,
+};
+use statement_text::{
     StatementCause, StatementError, each_statement_has_one_reading, read_statement, write_claim,
     write_end, write_head, write_party,
 };
-use setoff_model::{Cut, Kind, Name, Party};
 use std::alloc::{AllocError, Global};
 
 const TRIANGLE: &[u8] = b"ROUND 1 PLAIN

@@ -1,8 +1,9 @@
+//! The lines of entries.
 ghost use Rattle.std.specs.Prelude.{IsTrue};
 ghost use Rattle.claim_history.specs.Laws.{IsReplyInRange};
 
-use crate::write_entry;
 use claim_history::{Act, Entry, Position, Reply, Why};
+use entry_text::write_entry;
 use setoff_model::Name;
 use std::alloc::{AllocError, Global};
 

@@ -1,5 +1,6 @@
-use crate::{fields_of, next_line};
+//! Lines and fields.
 use std::test::Fail;
+use text_lines::{fields_of, next_line};
 
 #[test]
 fn lines_of_a_text(rt: HostRuntime) -> Result<(), Fail> {

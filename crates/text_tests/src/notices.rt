@@ -1,6 +1,7 @@
-use crate::{ImportError, RowCause, import, notices, positions};
+//! Notices, positions and invoices as CSV.
 use claim_book::Book;
 use claim_history::{Act, Day, Entry, Reply};
+use firm_notices::{ImportError, RowCause, import, notices, positions};
 use request_text::read_requests;
 use std::alloc::{AllocError, Global};
 
@@ -22,21 +23,20 @@ fn ask(book: &mut Book, caller: u32, act: Act) -> Option<()> {
     Some(())
 }
 
-// The book in which these requests were asked one after another.
-fn book_of(alloc: Global, requests: &[u8]) -> Option<Book> {
+// Asks the book for these requests one after another. None where the memory is missing.
+fn ask_all(alloc: Global, book: &mut Book, requests: &[u8]) -> Option<()> {
     let Ok(batches) = read_requests(alloc, requests) else {
         return None;
     };
-    let mut book = Book::new(alloc);
     for batch in &batches {
         for request in batch.requests() {
             let Ok(act) = request.act.clone() else {
                 return None;
             };
-            ask(&mut book, request.lane, act)?;
+            ask(book, request.lane, act)?;
         }
     }
-    Some(book)
+    Some(())
 }
 
 fn is_text(text: Result<Vec<u8>, AllocError>, expected: &[u8]) -> bool {
@@ -54,10 +54,13 @@ fn are_told(
     noticed: &[u8],
     positioned: &[u8],
 ) -> bool {
-    let (Some(book), Some(today)) = (book_of(alloc, requests), Day::read(today)) else {
+    let Some(today) = Day::read(today) else {
         return false;
     };
-    is_text(notices(alloc, &book, today), noticed) && is_text(positions(alloc, &book), positioned)
+    let mut book = Book::new(alloc);
+    ask_all(alloc, &mut book, requests).is_some()
+        && is_text(notices(alloc, &book, today), noticed)
+        && is_text(positions(alloc, &book), positioned)
 }
 
 #[test]

@@ -1,5 +1,6 @@
-use crate::{LineCause, RequestError, read_requests, write_request};
+//! Requests as text.
 use claim_history::Act;
+use request_text::{LineCause, RequestError, read_requests, write_request};
 use std::test::Fail;
 
 #[test]

@@ -1,5 +1,6 @@
-use crate::{Command, USAGE, WordsError, command_of};
+//! The words of commands.
 use claim_history::Day;
+use command_words::{Command, USAGE, WordsError, command_of};
 use std::alloc::Global;
 
 // What is told of these words.

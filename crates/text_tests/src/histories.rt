@@ -1,4 +1,5 @@
-use crate::{
+//! Acts, their texts and their ranges, and the laws of histories.
+use claim_history::{
     Act, Day, Entry, Reply, Why, accepted, full_register_refuses_claims, legal_history_grows,
     limits_hold, open_cut_is_frozen, owned_round_stays_open, publication_keeps_net_positions,
     publications_are_greatest, room_for_endings_is_kept, state_is_of_the_history, use_is_counted,
