@@ -67,7 +67,7 @@ impl<D: Disk> Desk<D> {
                 });
             }
         };
-        match replay(alloc, &records) {
+        match replay(alloc, records) {
             Ok(book) => begun(RecordedBook::new(alloc, journal, book), Vec::new(alloc)),
             Err(stop) => Err(DeskRefused {
                 disk: journal.close(),
@@ -84,7 +84,7 @@ impl<D: Disk> Desk<D> {
         ensures quiet { IsQuiet (D.seen disk.old) (D.seen disk.new) }
     {
         match read_records(alloc, disk) {
-            Ok(records) => match replay(alloc, &records) {
+            Ok(records) => match replay(alloc, records) {
                 Ok(book) => Ok(book.into_book()),
                 Err(stop) => Err(replay_cause(stop)),
             },

@@ -13,19 +13,29 @@ abbrev pub first_of : Option (Vec ℕ Global) → List ℕ → List ℕ
 first_of None bytes = bytes
 first_of (Some start) bytes = start.items
 
--- what it was at the start, what a read gives, what each moment was, which calls fail, and how many calls, faults and refused growths there were
+-- What contracts see of a disk in memory.
 pub record MemoryState : Type 0 where
+  -- its bytes at the start, and those that a read gives now
   pub first : List ℕ
   pub bytes : List ℕ
+  -- what came about at each moment
   pub steps : List Step
+  -- the numbers of the calls that fail
   pub fails : List ℕ
+  -- how many calls, faults and refused growths there were, each up to the last u64
   pub calls : ℕ
   pub faults : ℕ
   pub refused : ℕ
 
 -- what contracts see of it: a moment for each step, with what a crash may leave after the first so many
 abbrev pub seen_in : MemoryState → Seen
-seen_in s = record { tells = true; reads = s.bytes; moment = length s.steps; image = λ moment. images_from s.first (take moment s.steps); count = s.faults }
+seen_in s = record {
+  tells = true;
+  reads = s.bytes;
+  moment = length s.steps;
+  image = λ moment. images_from s.first (take moment s.steps);
+  count = s.faults;
+}
 
 abbrev pub new_state : List ℕ → List ℕ → ℕ → MemoryState
 new_state bytes fails faults = record { first = bytes; bytes = bytes; steps = []; fails = fails; calls = 0; faults = faults; refused = 0 }
@@ -44,15 +54,27 @@ after_quiet ended s = record s { steps = s.steps ++ Waited ∷ ended ∷ []; cal
 
 -- after a write that did not fail: it keeps a copy of its piece
 abbrev pub after_write : ℕ → Vec ℕ Global → MemoryState → MemoryState
-after_write at piece s = record s { bytes = overlay at piece.items s.bytes; steps = s.steps ++ Wrote at piece ∷ Waited ∷ []; calls = next_count s.calls }
+after_write at piece s = record s {
+  bytes = overlay at piece.items s.bytes;
+  steps = s.steps ++ Wrote at piece ∷ Waited ∷ [];
+  calls = next_count s.calls;
+}
 
 -- after a call that was named: a fault, and two moments in which nothing comes about
 abbrev pub after_named : MemoryState → MemoryState
-after_named s = record s { steps = s.steps ++ Waited ∷ Waited ∷ []; calls = next_count s.calls; faults = next_count s.faults }
+after_named s = record s {
+  steps = s.steps ++ Waited ∷ Waited ∷ [];
+  calls = next_count s.calls;
+  faults = next_count s.faults;
+}
 
 -- after a call for which a growth was refused: a fault, and no moment
 abbrev pub after_refused : MemoryState → MemoryState
-after_refused s = record s { calls = next_count s.calls; faults = next_count s.faults; refused = next_count s.refused }
+after_refused s = record s {
+  calls = next_count s.calls;
+  faults = next_count s.faults;
+  refused = next_count s.refused;
+}
 
 -- a call failed: it was named, or a growth was refused
 abbrev pub HasFailed : MemoryState → MemoryState → Type 0

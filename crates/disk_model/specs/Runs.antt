@@ -2,7 +2,8 @@
 use Rattle.std.specs.Prelude.{◌≡◌, ◌≤◌, ℕ, List, [], ◌∷◌, length, take}
 use Rattle.disk_model.specs.Calls.{Seen, IsPresent, Torn, After, Only, Passes}
 
--- What matters of a call: it changed no byte; it wrote so many bytes at an offset, failed or not; or it was a sync that succeeded where the disk read so.
+-- What matters of a call: it changed no byte; it wrote so many bytes at an offset, failed or not; or it was a sync that succeeded
+-- where the disk read so.
 pub data Call : Type 0 where
   looked : Call
   wrote : ℕ → ℕ → Call
@@ -37,8 +38,10 @@ abbrev pub calls_of : {D : Type 0} → List (Call × D) → List Call
 calls_of [] = []
 calls_of (step ∷ run) = step.0 ∷ calls_of run
 
--- A crash at a moment since the start of a run leaves what some of its calls may leave, and one now what all of them may leave. The images of the moments before stay.
+-- A crash at a moment since the start of a run leaves what some of its calls may leave, and one now what all of them may leave. The
+-- images of the moments before stay.
 abbrev pub RunLaw : {D : Type 0} → (D → Seen) → Type 0
 RunLaw {D} seen =
     (start : D) (run : List (Call × D)) (now : D) → IsRun seen start run now
-    → Passes (seen start) (seen now) (left_within (IsPresent (seen start)) (calls_of run)) × ((c : List ℕ) → IsPresent (seen now) c → left_after (IsPresent (seen start)) (calls_of run) c)
+    → Passes (seen start) (seen now) (left_within (IsPresent (seen start)) (calls_of run))
+    × ((c : List ℕ) → IsPresent (seen now) c → left_after (IsPresent (seen start)) (calls_of run) c)

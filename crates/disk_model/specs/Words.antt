@@ -19,7 +19,8 @@ abbrev pub BeginWithin : ℕ → List (ℕ × ℕ) → Type 0
 BeginWithin n [] = Unit {0}
 BeginWithin n (write ∷ writes) = (write.0 ≤ n) × BeginWithin (max n (write.0 + write.1)) writes
 
--- The length is any one from the old to the new one, and a byte outside all ranges stays. Of the others nothing is said: they are any bytes.
+-- The length is any one from the old to the new one, and a byte outside all ranges stays. Of the others nothing is said: they are
+-- any bytes.
 pub record MayLeave (writes : List (ℕ × ℕ)) (old new : List ℕ) : Type 0 where
   pub no_shorter : length old ≤ length new
   pub no_longer : length new ≤ longest (length old) writes
@@ -39,4 +40,6 @@ WritesLaw = (file : List ℕ) (writes : List (ℕ × ℕ)) (c : List ℕ) → le
 
 -- and all that they allow
 abbrev pub AnyBytesLaw : Type 0
-AnyBytesLaw = (file : List ℕ) (writes : List (ℕ × ℕ)) (c : List ℕ) → BeginWithin (length file) writes → MayLeave writes file c → left_by file writes c
+AnyBytesLaw =
+    (file : List ℕ) (writes : List (ℕ × ℕ)) (c : List ℕ) → BeginWithin (length file) writes → MayLeave writes file c
+    → left_by file writes c

@@ -1,8 +1,8 @@
 -- The steps of a replay.
 use Rattle.std.specs.Prelude.{reverse}
-use Rattle.std.proofs.Common.{◌≡◌, ℕ, ◌+◌, ◌<◌, Bool, true, false, not, ◌||◌, List, [], ◌∷◌, ◌++◌, length, get_or, take, drop, map, All, refl, sym, ◌∙◌, ap, ap₂, subst, true≢false, take-append-drop, append_assoc}
+use Rattle.std.proofs.Common.{◌≡◌, ℕ, Bool, true, false, not, ◌||◌, List, [], ◌∷◌, ◌++◌, map, All, refl, sym, ◌∙◌, ap, ap₂, subst, true≢false}
 use Rattle.std.proofs.lemmas.Bool.{false_from_ne_true}
-use Rattle.std.proofs.lemmas.List.{map-append, reverse-append, reverse-reverse, take_more}
+use Rattle.std.proofs.lemmas.List.{map-append, reverse-append, reverse-reverse}
 use Rattle.std.proofs.lemmas.List.Elements.{All-push}
 use Rattle.setoff_model.specs.declared.kind.Kind.{Kind}
 use Rattle.setoff_model.specs.CutView.{OutcomeView}
@@ -40,14 +40,14 @@ no_publication (act.Publish number outcome) other = absurd (other number outcome
 no_publication a other = refl
 
 -- a publication that is accepted is within the limits
-pub published_so : (known history kept new : List Entry) (caller number : ℕ) (outcome made : OutcomeView) (r : Reply) → new ≡ kept ++ entry_of caller (act.Publish number made) r ∷ [] → kept ≡ history → made ≡ outcome
+pub published_so : (known history kept new : List Entry) (caller number : ℕ) (outcome : OutcomeView) (r : Reply) → new ≡ kept ++ entry_of caller (act.Publish number outcome) r ∷ [] → kept ≡ history
     → known ≡ history → IsLegal known → r ≡ answer_of known caller (act.Publish number outcome) → is_no_refusal r ≡ true → IsWithinLimits history → IsReplayed history new caller (act.Publish number outcome)
-published_so known history kept new caller number outcome made r is same copied known_is legal_known due_known accepted within =
+published_so known history kept new caller number outcome r is same known_is legal_known due_known accepted within =
     let legal = subst IsLegal known_is legal_known in
     let due : r ≡ answer_of history caller (act.Publish number outcome) = due_known ∙ ap (λ (h : List Entry). answer_of h caller (act.Publish number outcome)) known_is in
     let fits_due : is_no_refusal (answer_of history caller (act.Publish number outcome)) ≡ true = sym (ap is_no_refusal due) ∙ accepted in
-    let entry : entry_of caller (act.Publish number made) r ≡ entry_of caller (act.Publish number outcome) (answer_of history caller (act.Publish number outcome)) =
-    ap₂ (λ (o : OutcomeView) (x : Reply). entry_of caller (act.Publish number o) x) copied due in
+    let entry : entry_of caller (act.Publish number outcome) r ≡ entry_of caller (act.Publish number outcome) (answer_of history caller (act.Publish number outcome)) =
+    ap (entry_of caller (act.Publish number outcome)) due in
     record {
       history = is ∙ ap₂ (λ (h : List Entry) (e : Entry). h ++ e ∷ []) same entry;
       accepted = fits_due;
@@ -108,23 +108,13 @@ first_stop records before after r (Overfull at) parts sound tells = record {
 
 -- ---- the loop
 
--- the records up to this one
-item_more : (records : List Record) (i : ℕ) (r : Record) → i < length records → r ≡ get_or records i r → take (i + 1) records ≡ take i records ++ r ∷ []
-item_more records i r inside is = take_more records i r inside ∙ ap (λ (x : Record). take i records ++ x ∷ []) (sym is)
+pub replayed_more : (before : List Record) (r : Record) (history new : List Entry) → history ≡ history_of before → AreSound before → IsReplayed history new r.caller r.act
+    → (new ≡ history_of (before ++ r ∷ [])) × AreSound (before ++ r ∷ [])
+replayed_more before r history new same sound done =
+    let here : IsReplayed (history_of before) new r.caller r.act = subst (λ (h : List Entry). IsReplayed h new r.caller r.act) same done in
+    (here.history ∙ sym (history_more before r), sound_more before r new sound here)
 
-pub replayed_more : (records : List Record) (i : ℕ) (r : Record) (history new : List Entry) → i < length records → r ≡ get_or records i r → history ≡ history_of (take i records) → AreSound (take i records)
-    → IsReplayed history new r.caller r.act → (new ≡ history_of (take (i + 1) records)) × AreSound (take (i + 1) records)
-replayed_more records i r history new inside is same sound done =
-    let here : IsReplayed (history_of (take i records)) new r.caller r.act = subst (λ (h : List Entry). IsReplayed h new r.caller r.act) same done in
-    let items = item_more records i r inside is in (
-      here.history ∙ sym (history_more (take i records) r) ∙ ap history_of (sym items),
-      subst AreSound (sym items) (sound_more (take i records) r new sound here),
-    )
-
-pub stopped_at : (records : List Record) (i : ℕ) (r : Record) (history : List Entry) (stop : ReplayStop) → i < length records → r ≡ get_or records i r → history ≡ history_of (take i records) → AreSound (take i records)
+pub stopped_at : (records before after : List Record) (r : Record) (history : List Entry) (stop : ReplayStop) → records ≡ before ++ r ∷ after → history ≡ history_of before → AreSound before
     → Tells history r.offset r.caller r.act stop → StopsFirst records stop
-stopped_at records i r history stop inside is same sound tells =
-    let rest = drop (i + 1) records in
-    let parts : records ≡ take i records ++ r ∷ rest =
-    sym (take-append-drop (i + 1) records) ∙ ap (λ (rs : List Record). rs ++ rest) (item_more records i r inside is) ∙ append_assoc (take i records) (r ∷ []) rest in
-    first_stop records (take i records) rest r stop parts sound (subst (λ (h : List Entry). Tells h r.offset r.caller r.act stop) same tells)
+stopped_at records before after r history stop parts same sound tells =
+    first_stop records before after r stop parts sound (subst (λ (h : List Entry). Tells h r.offset r.caller r.act stop) same tells)

@@ -15,18 +15,18 @@ use claim_history::{Act, Day, Entry, Reply};
 use limited_book::{LimitedBook, publication_reply};
 use round_journal::Record;
 use setoff_model::{Kind, Outcome};
-use std::alloc::{AllocError, Global};
+use std::alloc::Global;
 
 /// The book of the calls of records in turn, each with its one reply. The calls can be kept in a journal.
 ///
 /// Where it is Ok, each call is accepted and was within the limits. `BadAct` and `Overfull` come exactly where there is a first
 /// record that is refused by those before it or above the limits: `BadAct` where it is refused, with the reply, and `Overfull`
-/// where it is not. `Memory` comes where memory is missing.
-pub fn replay(alloc: Global, records: &[Record]) -> Result<LimitedBook, ReplayStop>
-    requires keepable { AreKeepable records.now }
-    ensures history { IfOk result (λ book. book.history ≡ history_of records.now) }
-    ensures sound { IfOk result (λ _. AreSound records.now) }
-    ensures stopped { IfErr result (StopsFirst records.now) }
+/// where it is not. `Memory` comes where memory is missing. The acts of the records are moved into the book.
+pub fn replay(alloc: Global, records: Vec<Record>) -> Result<LimitedBook, ReplayStop>
+    requires keepable { AreKeepable records.items }
+    ensures history { IfOk result (λ book. book.history ≡ history_of records.items) }
+    ensures sound { IfOk result (λ _. AreSound records.items) }
+    ensures stopped { IfErr result (StopsFirst records.items) }
 {
     let mut book = LimitedBook::new(alloc);
     for kept in records {
@@ -36,33 +36,33 @@ pub fn replay(alloc: Global, records: &[Record]) -> Result<LimitedBook, ReplaySt
 }
 
 // Puts the call of a record at the end, where it is accepted and within the limits.
-fn replay_one(alloc: Global, book: &mut LimitedBook, kept: &Record) -> Result<(), ReplayStop>
-    requires keepable { is_keepable kept.now.caller kept.now.act ≡ true }
-    ensures done { OnOk result (IsReplayed book.old.history book.new.history kept.now.caller kept.now.act) }
-    ensures stopped { IfErr result (Tells book.old.history kept.now.offset kept.now.caller kept.now.act) }
+fn replay_one(alloc: Global, book: &mut LimitedBook, kept: Record) -> Result<(), ReplayStop>
+    requires keepable { is_keepable kept.caller kept.act ≡ true }
+    ensures done { OnOk result (IsReplayed book.old.history book.new.history kept.caller kept.act) }
+    ensures stopped { IfErr result (Tells book.old.history kept.offset kept.caller kept.act) }
 {
-    let offset = kept.offset;
-    let caller = kept.caller;
-    match &kept.act {
+    let Record {
+        offset,
+        caller,
+        act,
+    } = kept;
+    match act {
         Act::Publish { round, outcome } => {
-            replay_publication(alloc, book, offset, caller, *round, outcome)
+            replay_publication(alloc, book, offset, caller, round, outcome)
         }
-        Act::Close { kind, horizon } => {
-            replay_close(alloc, book, offset, caller, *kind, *horizon)
-        }
+        Act::Close { kind, horizon } => replay_close(alloc, book, offset, caller, kind, horizon),
         act => replay_act(book, offset, caller, act),
     }
 }
 
 // The same of an act that is no Close and no publication.
-fn replay_act(book: &mut LimitedBook, offset: u64, caller: u32, act: &Act) -> Result<(), ReplayStop>
-    requires valid { is_valid act.now ≡ true }
-    requires apart { is_publication act.now ≡ false }
-    requires other { is_close act.now ≡ false }
-    ensures done { OnOk result (IsReplayed book.old.history book.new.history caller act.now) }
-    ensures stopped { IfErr result (Tells book.old.history offset caller act.now) }
+fn replay_act(book: &mut LimitedBook, offset: u64, caller: u32, act: Act) -> Result<(), ReplayStop>
+    requires valid { is_valid act ≡ true }
+    requires apart { is_publication act ≡ false }
+    requires other { is_close act ≡ false }
+    ensures done { OnOk result (IsReplayed book.old.history book.new.history caller act) }
+    ensures stopped { IfErr result (Tells book.old.history offset caller act) }
 {
-    let act = act.clone()?;
     book.reserve(&act)?;
     let reply = book.answer(caller, &act);
     put_reply(book, offset, Entry { caller, act, reply })
@@ -146,30 +146,22 @@ fn replay_publication(
     offset: u64,
     caller: u32,
     round: u32,
-    outcome: &Outcome,
+    outcome: Outcome,
 ) -> Result<(), ReplayStop>
-    requires valid { is_valid (acts.Publish round outcome.now) ≡ true }
-    ensures done { OnOk result (IsReplayed book.old.history book.new.history caller (acts.Publish round outcome.now)) }
-    ensures stopped { IfErr result (Tells book.old.history offset caller (acts.Publish round outcome.now)) }
+    requires valid { is_valid (acts.Publish round outcome) ≡ true }
+    ensures done { OnOk result (IsReplayed book.old.history book.new.history caller (acts.Publish round outcome)) }
+    ensures stopped { IfErr result (Tells book.old.history offset caller (acts.Publish round outcome)) }
 {
     let known = book.book();
     let _history = known.history();
-    let reply = publication_reply(alloc, known, caller, round, outcome)?;
+    let reply = publication_reply(alloc, known, caller, round, &outcome)?;
     if !accepts(reply) {
         return Err(ReplayStop::BadAct { offset, reply });
     }
-    let outcome = copy_of(outcome)?;
     let act = Act::Publish { round, outcome };
     book.reserve(&act)?;
     let _cut = book.apply_publish(Entry { caller, act, reply });
     Ok(())
-}
-
-// A copy of an outcome.
-fn copy_of(outcome: &Outcome) -> Result<Outcome, AllocError>
-    ensures { IfOk result (λ copy. copy ≡ outcome.now) }
-{
-    outcome.clone()
 }
 
 fn accepts(reply: Reply) -> bool

@@ -59,8 +59,8 @@ fn position_of_a(book: &Book) -> Option<Position> {
 }
 
 // What is told of the book of these records, or why their replay stops.
-fn replayed(alloc: Global, records: &[Record]) -> Result<Told, ReplayStop>
-    requires { AreKeepable records.now }
+fn replayed(alloc: Global, records: Vec<Record>) -> Result<Told, ReplayStop>
+    requires { AreKeepable records.items }
 {
     let book = replay(alloc, records)?;
     Ok(tell(&book))
@@ -79,7 +79,7 @@ fn acted(alloc: Global, acts: Vec<Act>) -> Option<Result<Told, ReplayStop>> {
         records.push(record).ok()?;
     }
     if are_keepable(&records) {
-        Some(replayed(alloc, &records))
+        Some(replayed(alloc, records))
     } else {
         None
     }

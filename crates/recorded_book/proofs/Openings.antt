@@ -125,7 +125,7 @@ records_opened seen disk journal records spare is sound =
             rises = λ i low high. omega arith;
             below = λ i low high. turned.ended;
             spans = λ i t c low high since until there. absurd (omega (arith, since, until));
-            last = λ t c since le there. all_holds history c (subst (λ (bs : List (List ℕ)). Rattle.round_journal.specs.Bytes.Holds c bs) (sym bodies) (turned.late t c since le there (bodies_of records) (is.found.reading told_old).0));
+            last = λ t c since le there. all_holds history c (subst (λ (bs : List (List ℕ)). Rattle.round_journal.specs.Bytes.HoldsBodies c bs) (sym bodies) (turned.late t c since le there (bodies_of records) (is.found.reading told_old).0));
           } in
           record {
             kept = (None, subst (λ (bs : List (List ℕ)). IsKept seen journal bs None) (sym bodies) (is.kept told_old), tt);

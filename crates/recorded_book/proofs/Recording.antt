@@ -15,6 +15,7 @@ use Rattle.claim_history.proofs.Room.{accepted_owns, use_law}
 use Rattle.act_bodies.specs.Bodies.{body_of, is_keepable}
 use Rattle.round_journal.specs.Bytes.{StandsFor}
 use Rattle.round_journal.specs.Kept.{JournalView, IsKept, IsLast, HoldsOne}
+use Rattle.round_journal.specs.Appends.{HasAppended, HasNotAppended, HasTried}
 use Rattle.claim_history.specs.Callers.{call_of, accepted_calls}
 use Rattle.recorded_book.specs.Calls.{bodies_of_calls, HoldsDuring}
 use Rattle.recorded_book.specs.Moments.{HoldsAt, HasMoments}
@@ -144,79 +145,74 @@ module _ {D : Type 0} (seen : D → Seen) where
       (has : Records seen (view_at j spare opened opened_with cleared cleared_with) history)
       (can : is_keepable e.caller e.act ≡ true)
       (body_is : body ≡ body_of e.caller e.act)
-      (same_opened : j'.at_first_sync ≡ j.at_first_sync)
-      (same_tells : (seen j'.disk).tells ≡ (seen j.disk).tells)
-      (counts : (seen j.disk).count ≤ (seen j'.disk).count)
-      (crash : (bodies : List (List ℕ)) (last : Option (List ℕ)) → IsKept seen j bodies last → Passes (seen j.disk) (seen j'.disk) (HoldsOne bodies last body)) where
+      (tried : HasTried seen j j' body) where
     was_told : IsTrue (seen j'.disk).tells → IsRecorded seen (view_at j spare opened opened_with cleared cleared_with) history
-    was_told told = has.recorded (subst (λ (b : Bool). IsTrue b) same_tells told)
+    was_told told = has.recorded (subst (λ (b : Bool). IsTrue b) tried.tells told)
 
     -- what a crash leaves while it goes on
     pub append_goes : IsTrue (seen j.disk).tells → Passes (seen j.disk) (seen j'.disk) (HoldsDuring history (call_of e))
     append_goes told =
         let kept = (has.recorded told).kept in
-        passes_wide (seen j.disk) (seen j'.disk) (HoldsOne (bodies_of_calls (accepted_calls history)) kept.0 body) (HoldsDuring history (call_of e)) (crash (bodies_of_calls (accepted_calls history)) kept.0 kept.1)
+        passes_wide (seen j.disk) (seen j'.disk) (HoldsOne (bodies_of_calls (accepted_calls history)) kept.0 body) (HoldsDuring history (call_of e)) (tried.crash (bodies_of_calls (accepted_calls history)) kept.0 kept.1)
         (λ c one. during_of_one history kept.0 (call_of e) c kept.2 (subst (λ (b : List ℕ). HoldsOne (bodies_of_calls (accepted_calls history)) kept.0 b c) body_is one))
 
-    pub records_accepted : is_accepted e ≡ true → j'.gate ≡ j.gate + 5 + length body → length body ≡ body_length_of e.act
-        → ((bodies : List (List ℕ)) (last : Option (List ℕ)) → IsKept seen j bodies last → IsKept seen j' (bodies ++ body ∷ []) None)
+    pub records_accepted : is_accepted e ≡ true → length body ≡ body_length_of e.act → HasAppended seen j j' body
         → Records seen (view_at j' spare' opened opened_with cleared cleared_with) (history ++ e ∷ [])
-    records_accepted accepted gate length_is done =
+    records_accepted accepted length_is done =
         let uses = use_law history e in
         let long : length (history ++ e ∷ []) ≡ length history + 1 = length-append history (e ∷ []) in
         let undevice = accepted_is_no_device e.reply accepted in
         record {
-          place = omega (arith, has.place, gate, length_is, uses.bytes, accepted_owns e.act e.reply accepted);
+          place = omega (arith, has.place, done.gate, length_is, uses.bytes, accepted_owns e.act e.reply accepted);
           opened_few = omega (arith, has.opened_few, long);
           cleared_few = omega (arith, has.cleared_few, long);
           keepable = All-push (λ (x : Entry). is_keepable x.caller x.act ≡ true) history e has.keepable can;
-          counted = omega (arith, count_more history e, accepted_count e.reply accepted, has.counted, counts);
-          same = same_tells ∙ has.same;
-          later = omega (arith, has.later, counts);
-          between = between_more (seen opened).count (seen j.disk).count (seen j'.disk).count history e counts has.between (no_counts (seen opened).count (seen j'.disk).count e undevice);
+          counted = omega (arith, count_more history e, accepted_count e.reply accepted, has.counted, tried.counts);
+          same = tried.tells ∙ has.same;
+          later = omega (arith, has.later, tried.counts);
+          between = between_more (seen opened).count (seen j.disk).count (seen j'.disk).count history e tried.counts has.between (no_counts (seen opened).count (seen j'.disk).count e undevice);
           recorded = λ told.
               let was = was_told told in
-              let told_old = subst (λ (b : Bool). IsTrue b) same_tells told in
+              let told_old = subst (λ (b : Bool). IsTrue b) tried.tells told in
               let goes = append_goes told_old in
               let same : bodies_of_calls (accepted_calls history) ++ body ∷ [] ≡ bodies_of_calls (accepted_calls (history ++ e ∷ [])) =
               ap (λ (b : List ℕ). bodies_of_calls (accepted_calls history) ++ b ∷ []) body_is ∙ sym (ap bodies_of_calls (accepted_more history e accepted) ∙ bodies_append (accepted_calls history) (call_of e ∷ [])) in
-              let kept : IsKept seen j' (bodies_of_calls (accepted_calls (history ++ e ∷ []))) None = subst (λ (bs : List (List ℕ)). IsKept seen j' bs None) same (done (bodies_of_calls (accepted_calls history)) was.kept.0 was.kept.1) in
+              let kept : IsKept seen j' (bodies_of_calls (accepted_calls (history ++ e ∷ []))) None = subst (λ (bs : List (List ℕ)). IsKept seen j' bs None) same (done.kept (bodies_of_calls (accepted_calls history)) was.kept.0 was.kept.1) in
               let holds : (c : List ℕ) → HoldsDuring history (call_of e) c → HoldsAt (history ++ e ∷ []) (length (accepted_calls history)) c = λ c during. during_accepted history e c accepted during in
               record {
                 kept = (None, kept, tt);
-                moments = subst (λ (d : D). HasMoments (seen j'.disk) (seen d).moment opened_with (history ++ e ∷ [])) (sym same_opened)
+                moments = subst (λ (d : D). HasMoments (seen j'.disk) (seen d).moment opened_with (history ++ e ∷ [])) (sym tried.opened)
                     (moments_grow (seen j.disk) (seen j'.disk) (seen j.at_first_sync).moment opened_with history e (HoldsDuring history (call_of e)) was.moments goes holds accepted
                     (λ c now. all_holds (history ++ e ∷ []) c (inl (record { short = kept.short; ends = kept.images c now }))));
                 since = held_on (seen j.disk) (seen j'.disk) (seen cleared).moment cleared_with history e (HoldsDuring history (call_of e)) has.cleared_few was.since goes holds;
               };
         }
 
-    pub records_failed : is_accepted e ≡ false → is_of_device e.reply ≡ true → j'.gate ≡ j.gate → second_count e.reply ≤ (seen j'.disk).count → IsBetween (seen j.disk).count (seen j'.disk).count e
-        → ((bodies : List (List ℕ)) (last : Option (List ℕ)) → IsKept seen j bodies last → (after : Option (List ℕ)) × IsLast last body after × IsKept seen j' bodies after)
+    pub records_failed : is_accepted e ≡ false → is_of_device e.reply ≡ true → second_count e.reply ≤ (seen j'.disk).count → IsBetween (seen j.disk).count (seen j'.disk).count e → HasNotAppended seen j j' body
         → Records seen (view_at j' spare' opened opened_with cleared cleared_with) (history ++ e ∷ [])
-    records_failed refused device gate second own failed =
+    records_failed refused device second own failed =
         let uses = use_law history e in
         let long : length (history ++ e ∷ []) ≡ length history + 1 = length-append history (e ∷ []) in
         record {
-          place = omega (arith, has.place, gate, uses.bytes, own_refused e.act e.reply refused);
+          place = omega (arith, has.place, failed.gate, uses.bytes, own_refused e.act e.reply refused);
           opened_few = omega (arith, has.opened_few, long);
           cleared_few = omega (arith, has.cleared_few, long);
           keepable = All-push (λ (x : Entry). is_keepable x.caller x.act ≡ true) history e has.keepable can;
-          counted = omega (arith, count_more history e, second, has.counted, counts);
-          same = same_tells ∙ has.same;
-          later = omega (arith, has.later, counts);
-          between = between_more (seen opened).count (seen j.disk).count (seen j'.disk).count history e counts has.between
+          counted = omega (arith, count_more history e, second, has.counted, tried.counts);
+          same = tried.tells ∙ has.same;
+          later = omega (arith, has.later, tried.counts);
+          between = between_more (seen opened).count (seen j.disk).count (seen j'.disk).count history e tried.counts has.between
               (λ before counted told. let here = own before counted told in (omega (arith, here.0, has.later), here.1, here.2));
           recorded = λ told.
               let was = was_told told in
-              let told_old = subst (λ (b : Bool). IsTrue b) same_tells told in
+              let told_old = subst (λ (b : Bool). IsTrue b) tried.tells told in
               let goes = append_goes told_old in
-              let after = failed (bodies_of_calls (accepted_calls history)) was.kept.0 was.kept.1 in
+              let after = failed.kept (bodies_of_calls (accepted_calls history)) was.kept.0 was.kept.1 in
               let last_is : IsLast was.kept.0 (body_of e.caller e.act) after.0 = subst (λ (b : List ℕ). IsLast was.kept.0 b after.0) body_is after.1 in
               let holds : (c : List ℕ) → HoldsDuring history (call_of e) c → HoldsAt (history ++ e ∷ []) (length (accepted_calls history)) c = λ c during. during_failed history e c device refused during in
               record {
                 kept = (after.0, subst (λ (calls : List Call). IsKept seen j' (bodies_of_calls calls) after.0) (sym (accepted_same history e refused)) after.2, tried_after history e was.kept.0 after.0 device refused was.kept.2 last_is);
-                moments = subst (λ (d : D). HasMoments (seen j'.disk) (seen d).moment opened_with (history ++ e ∷ [])) (sym same_opened)
+                moments = subst (λ (d : D). HasMoments (seen j'.disk) (seen d).moment opened_with (history ++ e ∷ [])) (sym tried.opened)
                     (moments_kept (seen j.disk) (seen j'.disk) (seen j.at_first_sync).moment opened_with history e (HoldsDuring history (call_of e)) was.moments goes holds refused);
                 since = held_on (seen j.disk) (seen j'.disk) (seen cleared).moment cleared_with history e (HoldsDuring history (call_of e)) has.cleared_few was.since goes holds;
               };

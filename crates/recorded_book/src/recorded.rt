@@ -12,7 +12,6 @@ ghost use Rattle.claim_history.specs.Acts.{is_valid, is_publication, is_day, is_
 ghost use Rattle.claim_history.specs.States.{state_of};
 ghost use Rattle.claim_history.specs.History.{answer_of, is_opening, is_accepted};
 ghost use Rattle.claim_history.specs.Needs.{body_length_of, is_full};
-ghost use Rattle.act_bodies.specs.Bodies.{is_keepable};
 ghost use Rattle.claim_book.specs.Book.{room_for, GivesCut, ledger_of, open_cut_of};
 ghost use Rattle.journal_replay.specs.Replays.{history_of, AreSound};
 ghost use Rattle.round_journal.specs.Opened.{IsOpen};
@@ -20,7 +19,7 @@ ghost use Rattle.round_journal.specs.declared.record.Record.{Record};
 ghost use Rattle.disk_model.specs.Calls.{Passes};
 ghost use Rattle.recorded_book.specs.Calls.{HoldsAbandoning};
 ghost use Rattle.recorded_book.specs.Recorded.{Records};
-ghost use Rattle.recorded_book.specs.Acting.{HasActed, IsActError, IsLater, IsUntouched, IsSpared, IsOutcomeDue, HasClosed, IsCloseDue, IsCutReply, IsNotAbandoned, IsOpenedHistory, entry_of};
+ghost use Rattle.recorded_book.specs.Acting.{HasActed, IsActError, MayBePut, IsLater, IsUntouched, IsSpared, IsOutcomeDue, HasClosed, IsCloseDue, IsCutReply, IsNotAbandoned, IsOpenedHistory, entry_of};
 
 use crate::act_error::ActError;
 use crate::cut_reply::CutReply;
@@ -137,13 +136,7 @@ impl<D: Disk> RecordedBook<D> {
     /// Keeps the reply that is due to an act, and puts its entry at the end. The act publishes nothing, and its reply opens no
     /// round. There is room for it, and it is within the limits.
     pub fn put(&mut self, caller: u32, act: Act, due: Reply) -> Reply
-        requires kept { is_keepable caller act ≡ true }
-        requires apart { is_publication act ≡ false }
-        requires no_opening { is_opening due ≡ false }
-        requires due { due ≡ answer_of self.old.book.history caller act }
-        requires fits { is_full self.old.book.history caller act ≡ false }
-        requires room { room_for (state_of self.old.book.history) act ≤ self.old.book.room }
-        requires spare { body_length_of act ≤ self.old.recorder.spare }
+        requires may { MayBePut self.old caller act due }
         ensures acted { HasActed D.seen self.old.recorder.journal.disk self.new.recorder.journal.disk self.old.book.history self.new.book.history caller act result }
         ensures room { self.old.book.room ≤ self.new.book.room + 1 }
         ensures later { IsLater D.seen self.old.recorder self.new.recorder }

@@ -2,7 +2,7 @@
 use Rattle.std.proofs.Common.{◌≡◌, ◌≢◌, ◌⊎◌, inl, inr, ⊎_elim, ℕ, List, [], ◌∷◌, ◌++◌, length, take, flat_map, All, refl, sym, ◌∙◌, ap, subst, arith, append_assoc}
 use Rattle.std.proofs.lemmas.List.{append_cancel_left, take_at}
 use Rattle.std.proofs.lemmas.List.Elements.{All-head, All-tail}
-use Rattle.round_journal.specs.Bytes.{header, measured, record_bytes, front, AreShort, StandsFor, Holds}
+use Rattle.round_journal.specs.Bytes.{header, measured, record_bytes, front, AreShort, StandsFor, HoldsBodies}
 use Rattle.round_journal.specs.Reading.{LacksHeader, OpensAt, HasRecord, IsShort, IsBad, OneReading}
 use Rattle.round_journal.specs.Reading.Reading.{bodies_are, no_header, short_at, bad_at}
 use Rattle.round_journal.proofs.Short.{held_short}
@@ -30,7 +30,7 @@ one_record a b rest has other =
     (same_record a b (has.gate ∷ has.more) (other.gate ∷ other.more) has.short other.short
     (ap (λ (l : List ℕ). 1 ∷ l) (sym has.spelled ∙ other.spelled))).0
 
-pub one_list : (bytes : List ℕ) (ds bs : List (List ℕ)) → Holds bytes ds → Holds bytes bs → ds ≡ bs
+pub one_list : (bytes : List ℕ) (ds bs : List (List ℕ)) → HoldsBodies bytes ds → HoldsBodies bytes bs → ds ≡ bs
 one_list bytes ds bs (inl one) (inl other) = unique bytes ds bs one other
 one_list bytes ds bs (inl one) (inr none) = absurd (none.1 ds one)
 one_list bytes ds bs (inr none) other = none.2 ∙ sym (held_short bytes bs none.0 other)
@@ -82,7 +82,7 @@ module _ (Good : List ℕ → Type 0) where
       (closed_open bodies opens.bodies stands.ends.gate stands.ends.rest rest stands.ends.closed stands.short opens.short good
       (unfront bodies opens.bodies (stands.ends.gate ∷ stands.ends.rest) (1 ∷ rest) (sym stands.ends.spelled ∙ opens.spelled)))
 
-  holds_faulty : (bytes rest : List ℕ) (bodies : List (List ℕ)) (offset : ℕ) → Holds bytes bodies → All Good bodies → OpensAt Good bytes offset rest → IsFaulty rest → ⊥
+  holds_faulty : (bytes rest : List ℕ) (bodies : List (List ℕ)) (offset : ℕ) → HoldsBodies bytes bodies → All Good bodies → OpensAt Good bytes offset rest → IsFaulty rest → ⊥
   holds_faulty bytes rest bodies offset (inl stands) good opens faulty = stands_faulty bytes rest bodies offset stands good opens faulty
   holds_faulty bytes rest bodies offset (inr none) good opens faulty = absurd (omega (arith, none.0, opens.long))
 
@@ -96,7 +96,7 @@ module _ (Good : List ℕ → Type 0) where
   header_of : (bodies : List (List ℕ)) (bytes rest : List ℕ) → bytes ≡ front bodies ++ rest → take 8 bytes ≡ header
   header_of bodies bytes rest is = ap (λ (l : List ℕ). take 8 l) (is ∙ append_assoc header (flat_map record_bytes bodies) rest) ∙ take_at header (flat_map record_bytes bodies ++ rest) 8 refl
 
-  no_header_holds : (bytes : List ℕ) (bodies : List (List ℕ)) → LacksHeader bytes → Holds bytes bodies → ⊥
+  no_header_holds : (bytes : List ℕ) (bodies : List (List ℕ)) → LacksHeader bytes → HoldsBodies bytes bodies → ⊥
   no_header_holds bytes bodies lacks (inl stands) = lacks.1 (header_of bodies bytes (stands.ends.gate ∷ stands.ends.rest) stands.ends.spelled)
   no_header_holds bytes bodies lacks (inr none) = absurd (omega (arith, none.0, lacks.0))
 

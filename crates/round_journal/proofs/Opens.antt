@@ -5,7 +5,7 @@ use Rattle.std.proofs.lemmas.Bool.{cases_lt}
 use Rattle.disk_model.specs.Calls.{Seen, IsPresent, Passes, Only, Torn, After}
 use Rattle.disk_model.specs.Calls.{Holds as Written}
 use Rattle.disk_model.proofs.Moments.{passes_wide, present_has}
-use Rattle.round_journal.specs.Bytes.{header, front, EndsClosed, StandsFor, Holds}
+use Rattle.round_journal.specs.Bytes.{header, front, EndsClosed, StandsFor, HoldsBodies}
 use Rattle.round_journal.specs.Kept.{IsKeptAt}
 use Rattle.round_journal.specs.Opened.{HoldsAs, Turns, HasTurned, IsSynced}
 use Rattle.round_journal.proofs.Short.{holds_short, held_short}
@@ -47,22 +47,22 @@ turns_on a b d turn P Q first then = record {
 pub read_on : (a b d : Seen) → Passes a b (IsPresent a) → Only a.reads (IsPresent b) → Passes b d (IsPresent b) → HasTurned a b.moment d
 read_on a b d first only then =
     turns a b d (HoldsAs a.reads) first only (λ bodies holds. holds)
-    (passes_wide b d (IsPresent b) (HoldsAs a.reads) then (λ c has. λ bodies holds. subst (λ (f : List ℕ). Holds f bodies) (sym (only c has)) holds))
+    (passes_wide b d (IsPresent b) (HoldsAs a.reads) then (λ c has. λ bodies holds. subst (λ (f : List ℕ). HoldsBodies f bodies) (sym (only c has)) holds))
 
 pub only_on : (b d : Seen) (file : List ℕ) → Only file (IsPresent b) → Passes b d (IsPresent b) → Only file (IsPresent d)
 only_on b d file only then = present_has b d (λ c. c ≡ file) (passes_wide b d (IsPresent b) (λ c. c ≡ file) then only) only
 
 -- at most nine bytes stay so while nine are written at the start
-pub short_torn : (a b : Seen) → length a.reads ≤ 9 → Only a.reads (IsPresent a) → Passes a b (After (Torn 0 9) (IsPresent a)) → Passes a b (λ c. Holds c [])
+pub short_torn : (a b : Seen) → length a.reads ≤ 9 → Only a.reads (IsPresent a) → Passes a b (After (Torn 0 9) (IsPresent a)) → Passes a b (λ c. HoldsBodies c [])
 short_torn a b short only goes =
-    passes_wide a b (After (Torn 0 9) (IsPresent a)) (λ c. Holds c []) goes
+    passes_wide a b (After (Torn 0 9) (IsPresent a)) (λ c. HoldsBodies c []) goes
     (λ c after. holds_short c (omega (arith, after.2.no_longer, ap length (only after.0 after.1), short)))
 
 -- while a journal is made of at most nine bytes, each image holds what they held
-pub made_as : (a b : Seen) (bytes : List ℕ) → length bytes ≤ 9 → Passes a b (λ c. Holds c []) → Passes a b (HoldsAs bytes)
+pub made_as : (a b : Seen) (bytes : List ℕ) → length bytes ≤ 9 → Passes a b (λ c. HoldsBodies c []) → Passes a b (HoldsAs bytes)
 made_as a b bytes short goes =
-    passes_wide a b (λ c. Holds c []) (HoldsAs bytes) goes
-    (λ c none. λ bodies holds. subst (λ (bs : List (List ℕ)). Holds c bs) (sym (held_short bytes bodies short holds)) none)
+    passes_wide a b (λ c. HoldsBodies c []) (HoldsAs bytes) goes
+    (λ c none. λ bodies holds. subst (λ (bs : List (List ℕ)). HoldsBodies c bs) (sym (held_short bytes bodies short holds)) none)
 
 created_is : (old new : List ℕ) → length old ≤ 9 → Written old 0 empty_journal new → new ≡ empty_journal
 created_is old new short holds = holds ∙ ap (λ (l : List ℕ). empty_journal ++ l) (drop_all 9 old (omega (arith, short)))

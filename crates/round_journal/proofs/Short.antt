@@ -4,7 +4,7 @@ use Rattle.std.proofs.lemmas.List.{drop_more, drop_all}
 use Rattle.std.proofs.lemmas.Bool.{cases_lt, cases_eq, cases_Bool}
 use Rattle.std.proofs.lemmas.Slice.Eq.{bytes_eq-Decides}
 use Rattle.std.specs.Str.{bytes_eq}
-use Rattle.round_journal.specs.Bytes.{header, record_bytes, front, StandsFor, StandsForNone, Holds}
+use Rattle.round_journal.specs.Bytes.{header, record_bytes, front, StandsFor, StandsForNone, HoldsBodies}
 
 pub length-record : (body : List ℕ) → length (record_bytes body) ≡ length body + 5
 length-record body = omega arith
@@ -53,15 +53,15 @@ stands_or_none c short = elim (cases_lt (length c) 9) [
   ]
 ]
 
-pub holds_short : (c : List ℕ) → length c ≤ 9 → Holds c []
+pub holds_short : (c : List ℕ) → length c ≤ 9 → HoldsBodies c []
 holds_short c short = ⊎_elim (λ stands. inl stands) (λ none. inr (short, none, refl)) (stands_or_none c short)
 
 -- of at most nine bytes
-pub held_short : (c : List ℕ) (bodies : List (List ℕ)) → length c ≤ 9 → Holds c bodies → bodies ≡ []
+pub held_short : (c : List ℕ) (bodies : List (List ℕ)) → length c ≤ 9 → HoldsBodies c bodies → bodies ≡ []
 held_short c bodies short holds = ⊎_elim (λ stands. stands_short c bodies short stands) (λ none. none.2) holds
 
-pub held : (c : List ℕ) (bodies : List (List ℕ)) → Holds c bodies ↔ (StandsFor c bodies ⊎ ((length c ≤ 9) × (bodies ≡ [])))
+pub held : (c : List ℕ) (bodies : List (List ℕ)) → HoldsBodies c bodies ↔ (StandsFor c bodies ⊎ ((length c ≤ 9) × (bodies ≡ [])))
 held c bodies = (
   λ holds. ⊎_elim (λ stands. inl stands) (λ none. inr (none.0, none.2)) holds,
-  λ has. ⊎_elim (λ stands. inl stands) (λ none. subst (λ (bs : List (List ℕ)). Holds c bs) (sym none.1) (holds_short c none.0)) has,
+  λ has. ⊎_elim (λ stands. inl stands) (λ none. subst (λ (bs : List (List ℕ)). HoldsBodies c bs) (sym none.1) (holds_short c none.0)) has,
 )

@@ -5,10 +5,6 @@ use Rattle.std.specs.Int.{w32, to_be_bytes}
 abbrev pub header : List ℕ
 header = codes "BUREAUJ1"
 
--- the bytes of the longest body of an act
-abbrev pub most_body : ℕ
-most_body = 2162705
-
 -- a length and a body, which stand behind a gate
 abbrev pub measured : List ℕ → List ℕ
 measured body = to_be_bytes w32 (length body) ++ body
@@ -41,5 +37,5 @@ abbrev pub StandsForNone : List ℕ → Type 0
 StandsForNone bytes = (bodies : List (List ℕ)) → StandsFor bytes bodies → ⊥
 
 -- the bytes stand for the bodies; or they are at most nine that stand for no list, and there are no bodies
-abbrev pub Holds : List ℕ → List (List ℕ) → Type 0
-Holds bytes bodies = StandsFor bytes bodies ⊎ ((length bytes ≤ 9) × StandsForNone bytes × (bodies ≡ []))
+abbrev pub HoldsBodies : List ℕ → List (List ℕ) → Type 0
+HoldsBodies bytes bodies = StandsFor bytes bodies ⊎ ((length bytes ≤ 9) × StandsForNone bytes × (bodies ≡ []))

@@ -1,7 +1,7 @@
 -- What an opening and a reading leave.
 use Rattle.std.specs.Prelude.{◌≡◌, ◌⊎◌, ◌<◌, ◌≤◌, ℕ, Bool, true, List, length, None, IsTrue}
 use Rattle.disk_model.specs.Calls.{Seen, IsPresent, Only, Passes}
-use Rattle.round_journal.specs.Bytes.{front, StandsForNone, Holds}
+use Rattle.round_journal.specs.Bytes.{front, StandsForNone, HoldsBodies}
 use Rattle.round_journal.specs.Kept.{JournalView, IsKept}
 use Rattle.round_journal.specs.Reading.{gates_from, IsReading}
 use Rattle.round_journal.specs.Reading.Reading.{bodies_are}
@@ -22,7 +22,7 @@ pub record Turns (old : Seen) (turn : ℕ) (new : Seen) (P Q : List ℕ → Type
 
 -- what one file holds, the other bytes hold
 abbrev pub HoldsAs : List ℕ → List ℕ → Type 0
-HoldsAs file bytes = (bodies : List (List ℕ)) → Holds file bodies → Holds bytes bodies
+HoldsAs file bytes = (bodies : List (List ℕ)) → HoldsBodies file bodies → HoldsBodies bytes bodies
 
 -- Until the turn, at which the first sync had succeeded, each image is one that a crash could have left at the start. From
 -- then on each holds what the disk read.

@@ -1,6 +1,6 @@
 -- What the bytes of a journal are read as: a list of bodies, or a fault.
 use Rattle.std.specs.Prelude.{◌≡◌, ◌≢◌, ◌+◌, ◌<◌, ◌^◌, ℕ, List, [], ◌∷◌, ◌++◌, length, take, All}
-use Rattle.round_journal.specs.Bytes.{header, measured, front, AreShort, Holds}
+use Rattle.round_journal.specs.Bytes.{header, measured, front, AreShort, HoldsBodies}
 
 -- the places of the gates of these bodies, the first of which is at this place
 abbrev pub gates_from : ℕ → List (List ℕ) → List ℕ
@@ -44,7 +44,7 @@ pub data Reading : Type 0 where
 
 -- which of them is right, where these bodies are good
 abbrev pub IsReading : (List ℕ → Type 0) → List ℕ → Reading → Type 0
-IsReading Good bytes (bodies_are bodies) = Holds bytes bodies × All Good bodies
+IsReading Good bytes (bodies_are bodies) = HoldsBodies bytes bodies × All Good bodies
 IsReading Good bytes no_header = LacksHeader bytes
 IsReading Good bytes (short_at offset) = (rest : List ℕ) × OpensAt Good bytes offset rest × IsShort rest
 IsReading Good bytes (bad_at offset) = (rest : List ℕ) × OpensAt Good bytes offset rest × IsBad Good rest

@@ -1,10 +1,8 @@
 //! An open journal.
-ghost use Rattle.std.specs.Prelude.{◌≡◌, ◌+◌, ◌≤◌, ℕ, List, [], ◌∷◌, ◌++◌, length, Option, None, IfErr, IfOk, OnOk, OnErr};
-ghost use Rattle.disk_model.specs.Calls.{Passes};
-ghost use Rattle.fault_count.specs.Counts.{HasRisen};
+ghost use Rattle.std.specs.Prelude.{◌≡◌, ◌+◌, ◌≤◌, length, IfErr, IfOk, OnOk, OnErr};
 ghost use Rattle.setoff_model.specs.Limits.{most_journal_bytes};
-ghost use Rattle.round_journal.specs.Bytes.{most_body};
-ghost use Rattle.round_journal.specs.Kept.{HasFailedIn, IsKept, IsLast, HoldsOne};
+ghost use Rattle.act_bodies.specs.Bodies.{most_body};
+ghost use Rattle.round_journal.specs.Appends.{HasAppended, HasNotAppended, HasTried, IsFaultOf};
 ghost use Rattle.round_journal.specs.Opened.{IsOpen, IsRefused};
 
 use crate::cause::JournalCause;
@@ -13,13 +11,11 @@ use crate::log::Log;
 use crate::open_refused::OpenRefused;
 use crate::opening::{Opening, open_disk};
 use crate::record::Record;
+use act_bodies::MOST_BODY;
 use disk_model::Disk;
 use std::alloc::Global;
 use std::marker::Model;
 use std::snapshot::Snapshot;
-
-// The bytes of the longest body of an act.
-const MOST_BODY: usize = 2_162_705;
 
 /// A journal on a disk. It keeps the records of its opening and of each append since then that succeeded.
 #[derive(Drop)]
@@ -30,7 +26,7 @@ pub struct Journal<D: Disk> {
 
 impl<D: Disk> Model for Journal<D> {
     ghost use Rattle.setoff_model.specs.Limits.{most_journal_bytes};
-    ghost use Rattle.round_journal.specs.Bytes.{most_body};
+    ghost use Rattle.act_bodies.specs.Bodies.{most_body};
     ghost use Rattle.round_journal.specs.Kept.{JournalView};
 
     ghost Value = { JournalView D };
@@ -75,7 +71,7 @@ impl<D: Disk> Journal<D> {
         }
     }
 
-    /// Appends a record with this body, of at most 2,162,705 bytes. It asks that the record ends within the first 2^30
+    /// Appends a record with this body, of at most `MOST_BODY` bytes. It asks that the record ends within the first 2^30
     /// bytes, and takes no memory. Four calls of the disk are made: length, body and a closed gate are written behind the
     /// record's gate and synced, and then this gate is opened and synced. Where an append that failed may have begun to
     /// open the gate, two calls before these close it again.
@@ -86,19 +82,10 @@ impl<D: Disk> Journal<D> {
     pub fn append(&mut self, body: &[u8]) -> Result<(), Device>
         requires short { length body.now ≤ most_body }
         requires near { self.old.gate + 5 + length body.now ≤ most_journal_bytes }
-        ensures done { OnOk result ((bodies : List (List ℕ)) (last : Option (List ℕ)) → IsKept D.seen self.old bodies last → IsKept D.seen self.new (bodies ++ body.now ∷ []) None) }
-        ensures failed { OnErr result ((bodies : List (List ℕ)) (last : Option (List ℕ)) → IsKept D.seen self.old bodies last
-            → (after : Option (List ℕ)) × IsLast last body.now after × IsKept D.seen self.new bodies after) }
-        ensures failed_in { OnErr result ((bodies : List (List ℕ)) (last : Option (List ℕ)) → IsKept D.seen self.old bodies last
-            → HasFailedIn D.seen self.old.disk self.new.disk self.new.gate self.new.unsettled bodies last body.now) }
-        ensures crash { (bodies : List (List ℕ)) (last : Option (List ℕ)) → IsKept D.seen self.old bodies last
-            → Passes (D.seen self.old.disk) (D.seen self.new.disk) (HoldsOne bodies last body.now) }
-        ensures gate { OnOk result (self.new.gate ≡ self.old.gate + 5 + length body.now) }
-        ensures gate_err { OnErr result (self.new.gate ≡ self.old.gate) }
-        ensures opened { self.new.at_first_sync ≡ self.old.at_first_sync }
-        ensures tells { (D.seen self.new.disk).tells ≡ (D.seen self.old.disk).tells }
-        ensures counts { (D.seen self.old.disk).count ≤ (D.seen self.new.disk).count }
-        ensures cause { IfErr result (λ e. (e.before ≡ (D.seen self.old.disk).count) × (e.after ≡ (D.seen self.new.disk).count) × HasRisen e.before e.after) }
+        ensures done { OnOk result (HasAppended D.seen self.old self.new body.now) }
+        ensures failed { OnErr result (HasNotAppended D.seen self.old self.new body.now) }
+        ensures tried { HasTried D.seen self.old self.new body.now }
+        ensures cause { IfErr result (IsFaultOf (D.seen self.old.disk) (D.seen self.new.disk)) }
     {
         let before = self.log.disk.faults();
         let Err(_) = self.log.append(body) else {
@@ -110,21 +97,22 @@ impl<D: Disk> Journal<D> {
         })
     }
 
-    /// The disk.
+    /// The disk. It takes no memory.
     pub fn disk(&self) -> &D
         ensures { result.now ≡ self.now.disk }
     {
         &self.log.disk
     }
 
-    /// The place of the next record's gate: the number of bytes of the header and of the records.
+    /// The place of the next record's gate: the number of bytes of the header and of the records. It takes no
+    /// memory.
     pub fn gate(&self) -> u64
         ensures { result ≡ self.now.gate }
     {
         self.log.gate
     }
 
-    /// Gives the disk back.
+    /// Gives the disk back. It takes no memory, and calls the disk no more.
     pub fn close(self) -> D
         ensures { result ≡ self.disk }
     {

@@ -3,7 +3,8 @@ ghost use Rattle.std.specs.Prelude.{◌≡◌, ◌+◌, ◌^◌, ◌<◌, ◌≤
 ghost use Rattle.disk_model.specs.Calls.{Passes};
 ghost use Rattle.setoff_model.specs.Limits.{most_journal_bytes};
 ghost use Rattle.fault_count.specs.Counts.{IsCounted};
-ghost use Rattle.round_journal.specs.Bytes.{front, most_body};
+ghost use Rattle.act_bodies.specs.Bodies.{most_body};
+ghost use Rattle.round_journal.specs.Bytes.{front};
 ghost use Rattle.round_journal.specs.Kept.{staged, HasBodies, HasFailedIn, HasStaged, IsKeptAt, IsStaged, IsLast, HoldsOne};
 
 use crate::written::write_and_sync;

@@ -1,4 +1,4 @@
-use Rattle.std.proofs.Common.{◌≡◌, ◌∙◌, Some, false, sym, ap}
+use Rattle.std.proofs.Common.{◌≡◌, ◌∙◌, Some, false, refl, rules, sym, ap}
 use Rattle.std.specs.Option.{option_map}
 use Rattle.claim_history.specs.declared.act.Act.TheVariants as act
 use Rattle.claim_history.specs.States.{OpenRound, State, state_of}
@@ -9,8 +9,18 @@ use Rattle.recorded_book.proofs.Acted.{keepable_of}
 use Rattle.recorded_book.proofs.Closes.{close_keeps, state_more}
 use Rattle.recorded_book.proofs.recorded.RecordedBook.continue_round.Goals as goal
 
-pub put-requires-clause-kept : goal.put-requires-clause-kept
-put-requires-clause-kept g c = keepable_of c.args.caller (act.Close c.args.kind c.args.horizon) c.requires.asked.other c.ranges.caller.fits c.requires.asked.day
+pub put-requires : goal.put-requires
+put-requires g c = record {
+  may = record {
+    keepable = keepable_of c.args.caller (act.Close c.args.kind c.args.horizon) c.requires.asked.other c.ranges.caller.fits c.requires.asked.day;
+    apart = refl;
+    no_opening = c.requires.no_opening;
+    answer = c.requires.asked.answer;
+    fits = search rules;
+    room = c.requires.asked.room;
+    spare = c.requires.asked.spare;
+  };
+}
 
 pub returns-in-Ok-Some-clause-closed : goal.returns-in-Ok-Some-clause-closed
 returns-in-Ok-Some-clause-closed g c =

@@ -1,11 +1,22 @@
+use Rattle.std.proofs.Common.{refl, rules}
 use Rattle.claim_history.specs.declared.act.Act.TheVariants as act
 use Rattle.claim_history.specs.History.{answer_of}
 use Rattle.recorded_book.proofs.Acted.{keepable_of}
 use Rattle.recorded_book.proofs.Closes.{got_refused}
 use Rattle.recorded_book.proofs.recorded.RecordedBook.refuse_round.Goals as goal
 
-pub put-reply-requires-clause-kept : goal.put-reply-requires-clause-kept
-put-reply-requires-clause-kept g c = keepable_of c.args.caller (act.Close c.args.kind c.args.horizon) c.requires.asked.other c.ranges.caller.fits c.requires.asked.day
+pub put-reply-requires : goal.put-reply-requires
+put-reply-requires g c = record {
+  may = record {
+    keepable = keepable_of c.args.caller (act.Close c.args.kind c.args.horizon) c.requires.asked.other c.ranges.caller.fits c.requires.asked.day;
+    apart = refl;
+    no_opening = refl;
+    answer = c.requires.asked.answer;
+    fits = search rules;
+    room = c.requires.asked.room;
+    spare = c.requires.asked.spare;
+  };
+}
 
 pub returns-clause-closed : goal.returns-clause-closed
 returns-clause-closed g c =

@@ -1,0 +1,35 @@
+-- What an append to a journal leaves.
+use Rattle.std.specs.Prelude.{◌≡◌, ◌+◌, ◌≤◌, ℕ, List, [], ◌∷◌, ◌++◌, length, Option, None}
+use Rattle.fault_count.specs.Counts.{HasRisen}
+use Rattle.disk_model.specs.Calls.{Seen, Passes}
+use Rattle.round_journal.specs.Kept.{JournalView, IsKept, IsLast, HasFailedIn, HoldsOne}
+use Rattle.round_journal.specs.declared.device.Device.{Device}
+
+-- It succeeded. Whatever bodies were kept, they are kept with the new one, and the next gate stands behind its record.
+pub record HasAppended {D : Type 0} (seen : D → Seen) (old new : JournalView D) (body : List ℕ) : Type 0 where
+  pub kept : (bodies : List (List ℕ)) (last : Option (List ℕ)) → IsKept seen old bodies last → IsKept seen new (bodies ++ body ∷ []) None
+  pub gate : new.gate ≡ old.gate + 5 + length body
+
+-- It failed. Whatever bodies were kept, they are kept, and perhaps a last one behind the gate, which is the same. How it failed
+-- is told, too.
+pub record HasNotAppended {D : Type 0} (seen : D → Seen) (old new : JournalView D) (body : List ℕ) : Type 0 where
+  pub kept : (bodies : List (List ℕ)) (last : Option (List ℕ)) → IsKept seen old bodies last
+      → (after : Option (List ℕ)) × IsLast last body after × IsKept seen new bodies after
+  pub way : (bodies : List (List ℕ)) (last : Option (List ℕ)) → IsKept seen old bodies last
+      → HasFailedIn seen old.disk new.disk new.gate new.unsettled bodies last body
+  pub gate : new.gate ≡ old.gate
+
+-- Whether it succeeded or failed: each image since its start holds the bodies that were kept, alone or with one more; the disk
+-- tells its bytes as before, and its count of faults has not fallen; and what is known of the opening is as it was.
+pub record HasTried {D : Type 0} (seen : D → Seen) (old new : JournalView D) (body : List ℕ) : Type 0 where
+  pub crash : (bodies : List (List ℕ)) (last : Option (List ℕ)) → IsKept seen old bodies last
+      → Passes (seen old.disk) (seen new.disk) (HoldsOne bodies last body)
+  pub tells : (seen new.disk).tells ≡ (seen old.disk).tells
+  pub counts : (seen old.disk).count ≤ (seen new.disk).count
+  pub opened : new.at_first_sync ≡ old.at_first_sync
+
+-- the disk failed: its count of faults was the first number before a call and is the second after it, and has risen
+pub record IsFaultOf (old new : Seen) (fault : Device) : Type 0 where
+  pub before : fault.before ≡ old.count
+  pub after : fault.after ≡ new.count
+  pub risen : HasRisen fault.before fault.after
