@@ -15,6 +15,3 @@ mod round;
 mod round_answer;
 
 pub use book::Book;
-
-#[cfg(test)]
-mod tests;

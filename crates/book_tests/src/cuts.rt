@@ -1,9 +1,10 @@
+//! Cuts of claims and accounts, and windows.
 ghost use Rattle.std.specs.Prelude.{◌≢◌, All, AllPairs, IsTrue};
 ghost use Rattle.round_cut.specs.Windows.{KeepsLimits};
 ghost use Rattle.round_cut.specs.CutOfFacts.{has_account as has, IsClaimOf, AreFacts};
 
-use crate::{build_cut, cut_of_a_history_is_of_its_facts, open_cut_is_well_formed, window};
 use claim_history::{AccountFact, ClaimFact, Day, Status};
+use round_cut::{build_cut, cut_of_a_history_is_of_its_facts, open_cut_is_well_formed, window};
 use setoff_model::limits::{FIRST_CEILING, MOST_CLAIMS, MOST_FIRMS};
 use setoff_model::{Cut, CutClaim, Key, Kind, Name, Party, same_names};
 use std::alloc::{AllocError, Global};

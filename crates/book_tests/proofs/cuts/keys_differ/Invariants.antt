@@ -1,6 +1,6 @@
 use Rattle.std.proofs.Common.{◌≢◌}
 use Rattle.setoff_model.proofs.Pairs.{PairsBelow}
-use Rattle.round_cut.proofs.tests.keys_differ.Given as goal
+use Rattle.book_tests.proofs.cuts.keys_differ.Given as goal
 
 -- no two of those so far are alike
 abbrev pub invariant-loop-place : goal.invariant-loop-place
