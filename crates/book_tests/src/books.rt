@@ -160,59 +160,54 @@ fn make_parts(rt: &impl Abort) -> Parts {
 fn goes(
     rt: &impl Abort,
     book: &mut Book,
-    key: &Key,
+    parts: &Parts,
     act: Act,
     due: Reply,
     status: Status,
     left: u64,
 ) {
-    assert!(rt; ask(rt, book, 1, act) == due);
-    let claim = book.claim(key).expect(rt, "a claim");
+    let reply = ask(rt, book, 1, act);
+    assert!(rt; reply == due);
+    let claim = book.claim(&parts.key).expect(rt, "a claim");
     assert!(rt; claim.status == status);
     assert!(rt; claim.left == left);
 }
 
 fn are_registered(rt: &impl Abort, book: &mut Book, parts: &Parts) {
-    assert!(rt; ask(rt, book, 1, Act::Firm { firm: parts.a }) == Reply::Done);
-    assert!(rt; ask(rt, book, 1, Act::Firm { firm: parts.b }) == Reply::Done);
+    let reply = ask(rt, book, 1, Act::Firm { firm: parts.a });
+    assert!(rt; reply == Reply::Done);
+    let reply = ask(rt, book, 1, Act::Firm { firm: parts.b });
+    assert!(rt; reply == Reply::Done);
     assert!(rt; book.claim(&parts.key).is_none());
     assert!(rt; book.claims().len() == 0);
 }
 
 fn is_confirmed_in_part(rt: &impl Abort, book: &mut Book, parts: &Parts) {
-    let key = parts.key;
-    let filed = file(key, parts.a, 1_000, parts.due);
-    goes(rt, book, &key, filed, Reply::Done, Status::Filed, 1_000);
-    let confirmed = confirm(key, parts.a);
+    let filed = file(parts.key, parts.a, 1_000, parts.due);
+    let confirmed = confirm(parts.key, parts.a);
+    let received = receive(parts.key, 400);
+    let more = receive(parts.key, 601);
+    let over = Reply::Refused(Why::OverOpen);
+    goes(rt, book, parts, filed, Reply::Done, Status::Filed, 1_000);
     goes(
         rt,
         book,
-        &key,
+        parts,
         confirmed,
         Reply::Done,
         Status::Confirmed,
         1_000,
     );
-    let received = receive(key, 400);
     goes(
         rt,
         book,
-        &key,
+        parts,
         received,
         Reply::Done,
         Status::Confirmed,
         600,
     );
-    let over = Reply::Refused(Why::OverOpen);
-    goes(
-        rt,
-        book,
-        &key,
-        receive(key, 601),
-        over,
-        Status::Confirmed,
-        600,
-    );
+    goes(rt, book, parts, more, over, Status::Confirmed, 600);
 }
 
 fn is_owed(rt: &impl Abort, book: &Book, parts: &Parts) {
@@ -231,22 +226,29 @@ fn is_owed(rt: &impl Abort, book: &Book, parts: &Parts) {
 }
 
 fn is_withdrawn(rt: &impl Abort, book: &mut Book, parts: &Parts) {
-    let key = parts.key;
-    let disputed = dispute(key, parts.a);
-    goes(rt, book, &key, disputed, Reply::Done, Status::Disputed, 600);
-    let withdrawn = Act::Withdraw { key };
+    let disputed = dispute(parts.key, parts.a);
+    let withdrawn = Act::Withdraw { key: parts.key };
+    let confirmed = confirm(parts.key, parts.a);
+    let wrong = Reply::Refused(Why::WrongState);
     goes(
         rt,
         book,
-        &key,
+        parts,
+        disputed,
+        Reply::Done,
+        Status::Disputed,
+        600,
+    );
+    goes(
+        rt,
+        book,
+        parts,
         withdrawn,
         Reply::Done,
         Status::Withdrawn,
         600,
     );
-    let wrong = Reply::Refused(Why::WrongState);
-    let confirmed = confirm(key, parts.a);
-    goes(rt, book, &key, confirmed, wrong, Status::Withdrawn, 600);
+    goes(rt, book, parts, confirmed, wrong, Status::Withdrawn, 600);
     assert!(rt; book.claims().len() == 1);
     assert!(rt; book.history().len() == 9);
 }
@@ -282,10 +284,13 @@ fn register(rt: &impl Abort, book: &mut Book, number: u32) -> Reply {
 
 fn fill_with_firms(rt: &impl Abort, book: &mut Book) {
     for number in 0..16_384 {
-        assert!(rt; register(rt, book, number) == Reply::Done);
+        let reply = register(rt, book, number);
+        assert!(rt; reply == Reply::Done);
     }
-    assert!(rt; register(rt, book, 16_384) == Reply::Refused(Why::FirmsFull));
-    assert!(rt; register(rt, book, 77) == Reply::Refused(Why::FirmExists));
+    let reply = register(rt, book, 16_384);
+    assert!(rt; reply == Reply::Refused(Why::FirmsFull));
+    let reply = register(rt, book, 77);
+    assert!(rt; reply == Reply::Refused(Why::FirmExists));
     assert!(rt; book.accounts().len() == 16_384);
 }
 
@@ -295,20 +300,31 @@ fn invoice(rt: &impl Abort, alloc: Global, number: u32) -> Name {
     name(rt, text.as_bytes())
 }
 
-// Lets a firm owe the next one a cent more than its number, on a claim that is filed and confirmed.
-fn owe_the_next(rt: &impl Abort, alloc: Global, book: &mut Book, number: u32, due: Day) {
-    let debtor = numbered(rt, number % 16_384);
-    let creditor = numbered(rt, (number % 16_384 + 1) % 16_384);
-    let key = key(creditor, invoice(rt, alloc, number));
-    let filed = file(key, debtor, u64::from(number) + 1, due);
-    assert!(rt; ask(rt, book, 1, filed) == Reply::Done);
-    assert!(rt; ask(rt, book, 1, confirm(key, debtor)) == Reply::Done);
+// What a claim of the next firm against a firm is made of.
+fn ring_parts(rt: &impl Abort, alloc: Global, number: u32) -> Parts {
+    let b = numbered(rt, (number % 16_384 + 1) % 16_384);
+    Parts {
+        a: numbered(rt, number % 16_384),
+        b,
+        key: key(b, invoice(rt, alloc, number)),
+        due: due_day(rt),
+    }
 }
 
+// Lets a firm owe another an amount, on a claim that is filed and confirmed.
+fn owe(rt: &impl Abort, book: &mut Book, parts: &Parts, amount: u64) {
+    let filed = file(parts.key, parts.a, amount, parts.due);
+    let filed = ask(rt, book, 1, filed);
+    let confirmed = ask(rt, book, 1, confirm(parts.key, parts.a));
+    assert!(rt; filed == Reply::Done);
+    assert!(rt; confirmed == Reply::Done);
+}
+
+// Lets firms owe the next ones in a ring, on each claim a cent more than its number.
 fn owe_in_a_ring(rt: &impl Abort, alloc: Global, book: &mut Book) {
-    let due = due_day(rt);
     for number in 0..100_000 {
-        owe_the_next(rt, alloc, book, number, due);
+        let parts = ring_parts(rt, alloc, number);
+        owe(rt, book, &parts, u64::from(number) + 1);
     }
 }
 
@@ -406,30 +422,37 @@ fn open_circle(rt: &impl Abort, alloc: Global, book: &mut Book, circle: &Circle,
 }
 
 fn frozen(rt: &impl Abort, book: &mut Book, act: Act) {
-    assert!(rt; ask(rt, book, 2, act) == Reply::Refused(Why::Frozen { round: 1 }));
+    let reply = ask(rt, book, 2, act);
+    assert!(rt; reply == Reply::Refused(Why::Frozen { round: 1 }));
 }
 
 fn done(rt: &impl Abort, book: &mut Book, act: Act) {
-    assert!(rt; ask(rt, book, 2, act) == Reply::Done);
+    let reply = ask(rt, book, 2, act);
+    assert!(rt; reply == Reply::Done);
 }
 
 fn others_are_frozen(rt: &impl Abort, book: &mut Book, circle: &Circle) {
-    let key = circle.owed_by_a;
-    frozen(rt, book, dispute(key, circle.a));
-    frozen(rt, book, receive(key, 1));
-    frozen(rt, book, Act::Withdraw { key });
+    let withdrawn = Act::Withdraw {
+        key: circle.owed_by_a,
+    };
+    frozen(rt, book, dispute(circle.owed_by_a, circle.a));
+    frozen(rt, book, receive(circle.owed_by_a, 1));
+    frozen(rt, book, withdrawn);
     assert!(rt; book.open_round() == Some(1));
     assert!(rt; book.owner() == Some(1));
 }
 
 fn bureau_abandons(rt: &impl Abort, book: &mut Book, circle: &Circle) {
     let not_owner = Reply::Refused(Why::NotOwner { round: 1 });
-    assert!(rt; ask(rt, book, 2, Act::Abandon) == not_owner);
-    assert!(rt; ask(rt, book, 0, Act::Abandon) == Reply::Abandoned { round: 1 });
+    let reply = ask(rt, book, 2, Act::Abandon);
+    assert!(rt; reply == not_owner);
+    let reply = ask(rt, book, 0, Act::Abandon);
+    assert!(rt; reply == Reply::Abandoned { round: 1 });
     assert!(rt; book.open_round().is_none());
     assert!(rt; book.owner().is_none());
     done(rt, book, dispute(circle.owed_by_a, circle.a));
-    assert!(rt; ask(rt, book, 1, Act::Abandon) == Reply::Refused(Why::NoRound));
+    let reply = ask(rt, book, 1, Act::Abandon);
+    assert!(rt; reply == Reply::Refused(Why::NoRound));
 }
 
 #[test]
@@ -482,9 +505,12 @@ fn funds_are_held_in_a_funded_round_alone(rt: HostRuntime) {
 fn only_the_owner_continues(rt: &impl Abort, book: &mut Book, horizon: Day) {
     let open = Reply::Refused(Why::RoundOpen { round: 1 });
     let continued = Reply::Continued { round: 1 };
-    assert!(rt; ask(rt, book, 1, close(Kind::Funded, horizon)) == open);
-    assert!(rt; ask(rt, book, 2, close(Kind::Plain, horizon)) == open);
-    assert!(rt; ask(rt, book, 1, close(Kind::Plain, horizon)) == continued);
+    let reply = ask(rt, book, 1, close(Kind::Funded, horizon));
+    assert!(rt; reply == open);
+    let reply = ask(rt, book, 2, close(Kind::Plain, horizon));
+    assert!(rt; reply == open);
+    let reply = ask(rt, book, 1, close(Kind::Plain, horizon));
+    assert!(rt; reply == continued);
 }
 
 fn keeps_the_cut(rt: &impl Abort, book: &Book) {
