@@ -398,7 +398,7 @@ fn fill(rt: &impl Abort, alloc: Global, book: &mut Book, circle: &Circle) {
 
 // Opens round 1 of caller 1.
 fn open(rt: &impl Abort, alloc: Global, book: &mut Book, kind: Kind, horizon: Day) {
-    let act = close(kind, horizon);
+    let act = Act::Close { kind, horizon };
     assert!(rt; act.valid());
     assert!(rt; book.history().len() < 1_000_000);
     book.reserve(&act).expect(rt, "memory");
