@@ -5,21 +5,21 @@ use Rattle.std.specs.Io.KnownBytes.{Appends}
 use Rattle.std.proofs.lemmas.List.{append-nil}
 use Rattle.bureau_edge.specs.Streams.{AppendsPart}
 use Rattle.bureau_edge.proofs.Known.{Appends-none, Appends-then}
-use Rattle.printed_text.specs.Writing.{Passes}
+use Rattle.printed_text.specs.Writing.{GoesThrough}
 
 -- a text that stays in the buffer
-pub pass_into : (x : Option (List ℕ)) (a t : List ℕ) → Passes x x a (a ++ t) t
+pub pass_into : (x : Option (List ℕ)) (a t : List ℕ) → GoesThrough x x a (a ++ t) t
 pass_into x a t = record { taken = []; split = refl; appended = Appends-none x }
 
-pub pass_none : (x : Option (List ℕ)) (a : List ℕ) → Passes x x a a []
+pub pass_none : (x : Option (List ℕ)) (a : List ℕ) → GoesThrough x x a a []
 pass_none x a = record { taken = []; split = append-nil a; appended = Appends-none x }
 
 -- a buffer that was taken whole
-pub pass_out : (x y : Option (List ℕ)) (a b : List ℕ) → Appends x y a → b ≡ [] → Passes x y a b []
+pub pass_out : (x y : Option (List ℕ)) (a b : List ℕ) → Appends x y a → b ≡ [] → GoesThrough x y a b []
 pass_out x y a b h e = record { taken = a; split = ap (λ (t : List ℕ). a ++ t) (sym e); appended = h }
 
 -- one text after another
-pub pass_then : (x y z : Option (List ℕ)) (a b c t u : List ℕ) → Passes x y a b t → Passes y z b c u → Passes x z a c (t ++ u)
+pub pass_then : (x y z : Option (List ℕ)) (a b c t u : List ℕ) → GoesThrough x y a b t → GoesThrough y z b c u → GoesThrough x z a c (t ++ u)
 pass_then x y z a b c t u p q = record {
   taken = p.taken ++ q.taken;
   split = sym (append_assoc a t u) ∙ ap (λ (w : List ℕ). w ++ u) p.split ∙ append_assoc p.taken b u ∙ ap (λ (w : List ℕ). p.taken ++ w) q.split ∙ sym (append_assoc p.taken q.taken c);
@@ -27,7 +27,7 @@ pass_then x y z a b c t u p q = record {
 }
 
 -- where a step failed, the sink took some first bytes of the whole
-pub part_then : (x y z : Option (List ℕ)) (a b t u : List ℕ) → Passes x y a b t → AppendsPart y z (b ++ u) → AppendsPart x z (a ++ (t ++ u))
+pub part_then : (x y z : Option (List ℕ)) (a b t u : List ℕ) → GoesThrough x y a b t → AppendsPart y z (b ++ u) → AppendsPart x z (a ++ (t ++ u))
 part_then x y z a b t u p q = (
   p.taken ++ q.0,
   q.1,
@@ -39,39 +39,39 @@ pub part_more : (x z : Option (List ℕ)) (a t : List ℕ) → AppendsPart x z a
 part_more x z a t q = (q.0, q.1 ++ t, ap (λ (w : List ℕ). w ++ t) q.2 ∙ append_assoc q.0 q.1 t, q.3)
 
 -- a text that went through an empty buffer whole
-pub pass_whole : (x y : Option (List ℕ)) (b t : List ℕ) → Passes x y [] b t → b ≡ [] → Appends x y t
+pub pass_whole : (x y : Option (List ℕ)) (b t : List ℕ) → GoesThrough x y [] b t → b ≡ [] → Appends x y t
 pass_whole x y b t p e = subst (Appends x y) (sym (p.split ∙ ap (λ (w : List ℕ). p.taken ++ w) e ∙ append-nil p.taken)) p.appended
 
 -- of a text, what is before a rest went through the buffer
-pub record PassesUpTo (x y : Option (List ℕ)) (a b rest all : List ℕ) : Type 0 where
+pub record GoesThroughUpTo (x y : Option (List ℕ)) (a b rest all : List ℕ) : Type 0 where
   pub so_far : List ℕ
-  pub passes : Passes x y a b so_far
+  pub passes : GoesThrough x y a b so_far
   pub whole : so_far ++ rest ≡ all
 
-pub up_begins : (x : Option (List ℕ)) (a all : List ℕ) → PassesUpTo x x a a all all
+pub up_begins : (x : Option (List ℕ)) (a all : List ℕ) → GoesThroughUpTo x x a a all all
 up_begins x a all = record { so_far = []; passes = pass_none x a; whole = refl }
 
-pub up_more : (x y z : Option (List ℕ)) (a b c line rest all : List ℕ) → PassesUpTo x y a b (line ++ rest) all → Passes y z b c line → PassesUpTo x z a c rest all
+pub up_more : (x y z : Option (List ℕ)) (a b c line rest all : List ℕ) → GoesThroughUpTo x y a b (line ++ rest) all → GoesThrough y z b c line → GoesThroughUpTo x z a c rest all
 up_more x y z a b c line rest all u p = record {
   so_far = u.so_far ++ line;
   passes = pass_then x y z a b c u.so_far line u.passes p;
   whole = append_assoc u.so_far line rest ∙ u.whole;
 }
 
-pub up_breaks : (x y z : Option (List ℕ)) (a b line rest all : List ℕ) → PassesUpTo x y a b (line ++ rest) all → AppendsPart y z (b ++ line) → AppendsPart x z (a ++ all)
+pub up_breaks : (x y z : Option (List ℕ)) (a b line rest all : List ℕ) → GoesThroughUpTo x y a b (line ++ rest) all → AppendsPart y z (b ++ line) → AppendsPart x z (a ++ all)
 up_breaks x y z a b line rest all u p =
     subst (λ (w : List ℕ). AppendsPart x z (a ++ w)) (append_assoc u.so_far line rest ∙ u.whole)
     (subst (AppendsPart x z) (append_assoc a (u.so_far ++ line) rest) (part_more x z (a ++ (u.so_far ++ line)) rest (part_then x y z a b u.so_far line u.passes p)))
 
-pub up_ends : (x y : Option (List ℕ)) (a b rest all : List ℕ) → PassesUpTo x y a b rest all → rest ≡ [] → Passes x y a b all
-up_ends x y a b rest all u e = subst (Passes x y a b) (sym (append-nil u.so_far) ∙ ap (λ (w : List ℕ). u.so_far ++ w) (sym e) ∙ u.whole) u.passes
+pub up_ends : (x y : Option (List ℕ)) (a b rest all : List ℕ) → GoesThroughUpTo x y a b rest all → rest ≡ [] → GoesThrough x y a b all
+up_ends x y a b rest all u e = subst (GoesThrough x y a b) (sym (append-nil u.so_far) ∙ ap (λ (w : List ℕ). u.so_far ++ w) (sym e) ∙ u.whole) u.passes
 
 -- the same with an empty buffer at first
 pub part_of_text : (x z : Option (List ℕ)) (a t : List ℕ) → a ≡ [] → AppendsPart x z (a ++ t) → AppendsPart x z t
 part_of_text x z a t e q = subst (λ (w : List ℕ). AppendsPart x z (w ++ t)) e q
 
 -- what is in the buffer is a part of what went through it
-pub part_left : (x y z : Option (List ℕ)) (a b t : List ℕ) → Passes x y a b t → AppendsPart y z b → AppendsPart x z (a ++ t)
+pub part_left : (x y z : Option (List ℕ)) (a b t : List ℕ) → GoesThrough x y a b t → AppendsPart y z b → AppendsPart x z (a ++ t)
 part_left x y z a b t p q =
     subst (λ (w : List ℕ). AppendsPart x z (a ++ w)) (append-nil t) (part_then x y z a b t [] p (part_more y z b [] q))
 

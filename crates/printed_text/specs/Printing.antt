@@ -1,6 +1,5 @@
 -- The text of a batch: entries, statements of published rounds, and lines for lines that were not replied to.
 use Rattle.std.specs.Prelude.{ℕ, ◌≡◌, ◌≤◌, List, [], ◌∷◌, ◌++◌, flat_map, reverse, slice_get, codes, Option, Some}
-use Rattle.std.specs.Option.{option_map}
 use Rattle.setoff_model.specs.CutView.{CutView, OutcomeView, WellFormed, obligations}
 use Rattle.setoff_model.specs.Setoff.{Proves}
 use Rattle.claim_history.specs.declared.act.Act.{Act}
@@ -8,7 +7,7 @@ use Rattle.claim_history.specs.declared.act.Act.TheVariants as act
 use Rattle.claim_history.specs.declared.entry.Entry.{Entry}
 use Rattle.claim_history.specs.declared.entry.Reply.{Reply}
 use Rattle.claim_history.specs.declared.entry.Reply.TheVariants as reply
-use Rattle.claim_history.specs.States.{state}
+use Rattle.claim_history.specs.Rounds.{open_cut}
 use Rattle.statement_text.specs.declared.line.Line.{Line}
 use Rattle.statement_text.specs.Lines.{line_text}
 use Rattle.entry_text.specs.Entries.{entry_line}
@@ -20,10 +19,6 @@ use Rattle.served_lines.specs.declared.line_end.LineEnd.TheVariants as ends
 use Rattle.printed_text.specs.Texts.{memory_line, full_line}
 
 -- ---- entries and statements. A past is a list of entries, newest first
-
--- the cut of the round that is open after a past
-abbrev pub open_cut : List Entry → Option CutView
-open_cut past = option_map (λ round. round.cut) (state past).open_round
 
 -- the statement of the cut, where the act publishes an outcome and is accepted
 abbrev pub statement_of : Option CutView → Act → Reply → List ℕ

@@ -1,12 +1,11 @@
 //! The lines that tell of faults.
-ghost use Rattle.std.specs.Prelude.{◌≡◌, ◌+◌, ◌≤◌, ◌++◌, decimal, length, vec_len, vec_capacity};
+ghost use Rattle.std.specs.Prelude.{◌≡◌, ◌+◌, ◌≤◌, ◌++◌, length, vec_len, vec_capacity};
 ghost use Rattle.printed_text.specs.Texts.{memory_line, full_line, room_text, fault_line_text, cause_text, bad_line_text, row_cause_text, bad_row_text, statement_cause_text, bad_statement_text};
 
 use firm_notices::RowCause;
-use itoa::Buffer;
 use limited_book::Room;
 use request_text::LineCause;
-use setoff_model::{put, write_number};
+use setoff_model::{put, write_whole};
 use statement_text::StatementCause;
 
 /// Writes the line `! line N memory` of a line for which there was no memory.
@@ -17,7 +16,7 @@ pub fn write_memory_line(buffer: &mut Vec<u8>, line: u64)
     ensures room { vec_capacity buffer.old ≤ vec_capacity buffer.new }
 {
     put(buffer, b"! line ");
-    write_number(buffer, i128::from(line));
+    write_whole(buffer, line);
     put(buffer, b" memory\n");
 }
 
@@ -49,17 +48,6 @@ pub fn write_full_line(buffer: &mut Vec<u8>, line: u64, what: Room, needed: u64,
     put(buffer, b"\n");
 }
 
-// Writes a number, and asks for no more room than it takes.
-fn write_whole(buffer: &mut Vec<u8>, number: u64)
-    requires { vec_len buffer.old + 20 ≤ vec_capacity buffer.old }
-    ensures text { buffer.new.items ≡ buffer.old.items ++ decimal number }
-    ensures len { vec_len buffer.new ≤ vec_len buffer.old + 20 }
-    ensures room { vec_capacity buffer.old ≤ vec_capacity buffer.new }
-{
-    let mut digits = Buffer::new();
-    put(buffer, digits.format(number).as_bytes());
-}
-
 fn write_cause(buffer: &mut Vec<u8>, cause: LineCause)
     requires { vec_len buffer.old + 70 ≤ vec_capacity buffer.old }
     ensures text { buffer.new.items ≡ buffer.old.items ++ cause_text cause }
@@ -72,12 +60,13 @@ fn write_cause(buffer: &mut Vec<u8>, cause: LineCause)
         LineCause::Fields => put(buffer, b"fields"),
         LineCause::Field(k) => {
             put(buffer, b"field ");
-            write_number(buffer, i128::from(k));
+            write_whole(buffer, u64::from(k));
         }
     }
 }
 
-/// Writes the line `fault line N CAUSE` of an input of requests that is not in the grammar.
+/// Writes the line `fault line N CAUSE` of an input of requests that is not in the grammar, whose lines are counted from 1. The caller
+/// gives 200 bytes of room behind what the buffer has, and so there is no error.
 pub fn write_bad_line(buffer: &mut Vec<u8>, line: u64, cause: LineCause)
     requires { vec_len buffer.old + 200 ≤ vec_capacity buffer.old }
     ensures text { buffer.new.items ≡ buffer.old.items ++ bad_line_text line cause }
@@ -85,7 +74,7 @@ pub fn write_bad_line(buffer: &mut Vec<u8>, line: u64, cause: LineCause)
     ensures room { vec_capacity buffer.old ≤ vec_capacity buffer.new }
 {
     put(buffer, b"fault line ");
-    write_number(buffer, i128::from(line));
+    write_whole(buffer, line);
     put(buffer, b" ");
     write_cause(buffer, cause);
     put(buffer, b"\n");
@@ -102,12 +91,13 @@ fn write_row_cause(buffer: &mut Vec<u8>, cause: RowCause)
         RowCause::Fields => put(buffer, b"fields"),
         RowCause::Field(k) => {
             put(buffer, b"field ");
-            write_number(buffer, i128::from(k));
+            write_whole(buffer, u64::from(k));
         }
     }
 }
 
-/// Writes the line `fault row N CAUSE` of an input of invoices that is not in the grammar.
+/// Writes the line `fault row N CAUSE` of an input of invoices that is not in the grammar, whose rows are counted from 1, the header
+/// first. The room is as for `write_bad_line`.
 pub fn write_bad_row(buffer: &mut Vec<u8>, row: u64, cause: RowCause)
     requires { vec_len buffer.old + 200 ≤ vec_capacity buffer.old }
     ensures text { buffer.new.items ≡ buffer.old.items ++ bad_row_text row cause }
@@ -115,7 +105,7 @@ pub fn write_bad_row(buffer: &mut Vec<u8>, row: u64, cause: RowCause)
     ensures room { vec_capacity buffer.old ≤ vec_capacity buffer.new }
 {
     put(buffer, b"fault row ");
-    write_number(buffer, i128::from(row));
+    write_whole(buffer, row);
     put(buffer, b" ");
     write_row_cause(buffer, cause);
     put(buffer, b"\n");
@@ -138,7 +128,8 @@ fn statement_cause(cause: StatementCause) -> &'static [u8]
     }
 }
 
-/// Writes the line `fault line N CAUSE` of an input that is no statement.
+/// Writes the line `fault line N CAUSE` of an input that is no statement, whose lines are counted from 1. The room is as for
+/// `write_bad_line`.
 pub fn write_bad_statement(buffer: &mut Vec<u8>, line: u64, cause: StatementCause)
     requires { vec_len buffer.old + 200 ≤ vec_capacity buffer.old }
     ensures text { buffer.new.items ≡ buffer.old.items ++ bad_statement_text line cause }
@@ -146,7 +137,7 @@ pub fn write_bad_statement(buffer: &mut Vec<u8>, line: u64, cause: StatementCaus
     ensures room { vec_capacity buffer.old ≤ vec_capacity buffer.new }
 {
     put(buffer, b"fault line ");
-    write_number(buffer, i128::from(line));
+    write_whole(buffer, line);
     put(buffer, b" ");
     put(buffer, statement_cause(cause));
     put(buffer, b"\n");

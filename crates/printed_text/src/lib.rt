@@ -5,8 +5,8 @@
 //! replied to. A publication has the discharges and the prices of its round, and not its cut, so the cuts of the published
 //! rounds are handed in.
 //!
-//! Text goes line by line through a buffer of 65,536 bytes to the sink. Once the buffer is there, printing takes no
-//! memory. What was in the buffer and the text are what the sink took and what is in the buffer now: `Passes` says this
+//! Text goes line by line through a buffer of `OUTPUT_BYTES` to the sink. Once the buffer is there, printing takes no
+//! memory. What was in the buffer and the text are what the sink took and what is in the buffer now: `GoesThrough` says this
 //! of a step, and steps add up. Where the sink failed, it took some first bytes of the text.
 //!
 //! `end_with` writes the one line that ends a run, and says its status, which is 4 where the sink failed.
@@ -20,5 +20,5 @@ mod verdict_text;
 
 pub use ending::end_with;
 pub use fault_text::{write_bad_line, write_bad_row, write_bad_statement};
-pub use output::{output_buffer, print_batch, print_unanswered};
+pub use output::{OUTPUT_BYTES, output_buffer, print_batch, print_unanswered};
 pub use verdict_text::{status_of_verdict, write_verdict};

@@ -9,7 +9,7 @@ ghost use Rattle.setoff_model.specs.CutView.{WellFormed};
 ghost use Rattle.statement_text.specs.declared.line.Line.TheVariants as line;
 ghost use Rattle.statement_text.specs.Statements.{party_lines, claim_line, claim_lines, statement_bytes};
 ghost use Rattle.printed_text.specs.Printing.{IsPrintable, line_bytes, lines_bytes};
-ghost use Rattle.printed_text.specs.Writing.{Passes};
+ghost use Rattle.printed_text.specs.Writing.{GoesThrough, output_bytes};
 
 use crate::output::make_room;
 use bureau_edge::{Failed, Sink};
@@ -19,11 +19,11 @@ use statement_text::{write_claim, write_end, write_head, write_party};
 // Prints the line of the round.
 fn print_head<K: Sink>(sink: &mut K, buffer: &mut Vec<u8>, cut: &Cut) -> Result<(), Failed>
     requires round { 1 ≤ cut.now.round }
-    requires spare { 65536 ≤ vec_capacity buffer.old }
-    ensures ok { OnOk result (Passes (K.held sink.old) (K.held sink.new) buffer.old.items buffer.new.items (line_bytes (line.Head cut.now.round cut.now.kind))) }
+    requires spare { output_bytes ≤ vec_capacity buffer.old }
+    ensures ok { OnOk result (GoesThrough (K.held sink.old) (K.held sink.new) buffer.old.items buffer.new.items (line_bytes (line.Head cut.now.round cut.now.kind))) }
     ensures part { OnErr result (AppendsPart (K.held sink.old) (K.held sink.new) (buffer.old.items ++ line_bytes (line.Head cut.now.round cut.now.kind))) }
     ensures cause { IsCounted (K.faults sink.old) (K.faults sink.new) result }
-    ensures room { 65536 ≤ vec_capacity buffer.new }
+    ensures room { output_bytes ≤ vec_capacity buffer.new }
 {
     make_room(sink, buffer)?;
     write_head(buffer, cut.round(), cut.kind());
@@ -40,11 +40,11 @@ fn print_party<K: Sink>(
     requires spend { party.now.spend ≤ most_window }
     requires room { party.now.room ≤ most_window }
     requires price { unsigned_abs price < 10 ^ 9 }
-    requires spare { 65536 ≤ vec_capacity buffer.old }
-    ensures ok { OnOk result (Passes (K.held sink.old) (K.held sink.new) buffer.old.items buffer.new.items (line_bytes (line.Party party.now price))) }
+    requires spare { output_bytes ≤ vec_capacity buffer.old }
+    ensures ok { OnOk result (GoesThrough (K.held sink.old) (K.held sink.new) buffer.old.items buffer.new.items (line_bytes (line.Party party.now price))) }
     ensures part { OnErr result (AppendsPart (K.held sink.old) (K.held sink.new) (buffer.old.items ++ line_bytes (line.Party party.now price))) }
     ensures cause { IsCounted (K.faults sink.old) (K.faults sink.new) result }
-    ensures room { 65536 ≤ vec_capacity buffer.new }
+    ensures room { output_bytes ≤ vec_capacity buffer.new }
 {
     make_room(sink, buffer)?;
     write_party(buffer, party, price);
@@ -62,11 +62,11 @@ fn print_parties<K: Sink>(
     requires rooms { All (λ f. f.room ≤ most_window) parties.now }
     requires prices { All (λ p. unsigned_abs p < 10 ^ 9) prices.now }
     requires price_each { length prices.now ≡ length parties.now }
-    requires spare { 65536 ≤ vec_capacity buffer.old }
-    ensures ok { OnOk result (Passes (K.held sink.old) (K.held sink.new) buffer.old.items buffer.new.items (lines_bytes (party_lines parties.now prices.now))) }
+    requires spare { output_bytes ≤ vec_capacity buffer.old }
+    ensures ok { OnOk result (GoesThrough (K.held sink.old) (K.held sink.new) buffer.old.items buffer.new.items (lines_bytes (party_lines parties.now prices.now))) }
     ensures part { OnErr result (AppendsPart (K.held sink.old) (K.held sink.new) (buffer.old.items ++ lines_bytes (party_lines parties.now prices.now))) }
     ensures cause { IsCounted (K.faults sink.old) (K.faults sink.new) result }
-    ensures room { 65536 ≤ vec_capacity buffer.new }
+    ensures room { output_bytes ≤ vec_capacity buffer.new }
 {
     for i in 0..parties.len() {
         print_party(sink, buffer, &parties[i], prices[i])?;
@@ -85,11 +85,11 @@ fn print_claim<K: Sink>(
     requires cut { WellFormed cut.now }
     requires place { place < length cut.now.claims }
     requires discharge { discharge < 10 ^ 18 }
-    requires spare { 65536 ≤ vec_capacity buffer.old }
-    ensures ok { (none : CutClaim) → OnOk result (Passes (K.held sink.old) (K.held sink.new) buffer.old.items buffer.new.items (line_bytes (claim_line cut.now.parties (slice_index_or cut.now.claims place none) discharge))) }
+    requires spare { output_bytes ≤ vec_capacity buffer.old }
+    ensures ok { (none : CutClaim) → OnOk result (GoesThrough (K.held sink.old) (K.held sink.new) buffer.old.items buffer.new.items (line_bytes (claim_line cut.now.parties (slice_index_or cut.now.claims place none) discharge))) }
     ensures part { (none : CutClaim) → OnErr result (AppendsPart (K.held sink.old) (K.held sink.new) (buffer.old.items ++ line_bytes (claim_line cut.now.parties (slice_index_or cut.now.claims place none) discharge))) }
     ensures cause { IsCounted (K.faults sink.old) (K.faults sink.new) result }
-    ensures room { 65536 ≤ vec_capacity buffer.new }
+    ensures room { output_bytes ≤ vec_capacity buffer.new }
 {
     make_room(sink, buffer)?;
     write_claim(buffer, cut, place, discharge);
@@ -106,11 +106,11 @@ fn print_claims<K: Sink>(
     requires cut { WellFormed cut.now }
     requires discharges { All (λ d. d < 10 ^ 18) discharges.now }
     requires discharge_each { length discharges.now ≡ length cut.now.claims }
-    requires spare { 65536 ≤ vec_capacity buffer.old }
-    ensures ok { OnOk result (Passes (K.held sink.old) (K.held sink.new) buffer.old.items buffer.new.items (lines_bytes (claim_lines cut.now.parties cut.now.claims discharges.now))) }
+    requires spare { output_bytes ≤ vec_capacity buffer.old }
+    ensures ok { OnOk result (GoesThrough (K.held sink.old) (K.held sink.new) buffer.old.items buffer.new.items (lines_bytes (claim_lines cut.now.parties cut.now.claims discharges.now))) }
     ensures part { OnErr result (AppendsPart (K.held sink.old) (K.held sink.new) (buffer.old.items ++ lines_bytes (claim_lines cut.now.parties cut.now.claims discharges.now))) }
     ensures cause { IsCounted (K.faults sink.old) (K.faults sink.new) result }
-    ensures room { 65536 ≤ vec_capacity buffer.new }
+    ensures room { output_bytes ≤ vec_capacity buffer.new }
 {
     for i in 0..discharges.len() {
         print_claim(sink, buffer, cut, i as u32, discharges[i])?;
@@ -120,11 +120,11 @@ fn print_claims<K: Sink>(
 
 // Prints the last line.
 fn print_end<K: Sink>(sink: &mut K, buffer: &mut Vec<u8>) -> Result<(), Failed>
-    requires spare { 65536 ≤ vec_capacity buffer.old }
-    ensures ok { OnOk result (Passes (K.held sink.old) (K.held sink.new) buffer.old.items buffer.new.items (line_bytes line.End)) }
+    requires spare { output_bytes ≤ vec_capacity buffer.old }
+    ensures ok { OnOk result (GoesThrough (K.held sink.old) (K.held sink.new) buffer.old.items buffer.new.items (line_bytes line.End)) }
     ensures part { OnErr result (AppendsPart (K.held sink.old) (K.held sink.new) (buffer.old.items ++ line_bytes line.End)) }
     ensures cause { IsCounted (K.faults sink.old) (K.faults sink.new) result }
-    ensures room { 65536 ≤ vec_capacity buffer.new }
+    ensures room { output_bytes ≤ vec_capacity buffer.new }
 {
     make_room(sink, buffer)?;
     write_end(buffer);
@@ -133,7 +133,8 @@ fn print_end<K: Sink>(sink: &mut K, buffer: &mut Vec<u8>) -> Result<(), Failed>
 
 /// Prints the statement of a cut and its outcome: the round, each party with its price, each claim with its discharge, and the end.
 ///
-/// The buffer has room for 65,536 bytes. After a failure the sink has some first bytes of what was in the buffer and the statement.
+/// The buffer has room for `OUTPUT_BYTES`. After a failure, which the sink counted, it has some first bytes of what was in the buffer
+/// and the statement.
 #[inline(never)]
 pub fn print_statement<K: Sink>(
     sink: &mut K,
@@ -142,11 +143,11 @@ pub fn print_statement<K: Sink>(
     outcome: &Outcome,
 ) -> Result<(), Failed>
     requires printable { IsPrintable cut.now outcome.now }
-    requires spare { 65536 ≤ vec_capacity buffer.old }
-    ensures ok { OnOk result (Passes (K.held sink.old) (K.held sink.new) buffer.old.items buffer.new.items (statement_bytes cut.now outcome.now)) }
+    requires spare { output_bytes ≤ vec_capacity buffer.old }
+    ensures ok { OnOk result (GoesThrough (K.held sink.old) (K.held sink.new) buffer.old.items buffer.new.items (statement_bytes cut.now outcome.now)) }
     ensures part { OnErr result (AppendsPart (K.held sink.old) (K.held sink.new) (buffer.old.items ++ statement_bytes cut.now outcome.now)) }
     ensures cause { IsCounted (K.faults sink.old) (K.faults sink.new) result }
-    ensures room { 65536 ≤ vec_capacity buffer.new }
+    ensures room { output_bytes ≤ vec_capacity buffer.new }
 {
     print_head(sink, buffer, cut)?;
     print_parties(sink, buffer, cut.parties(), outcome.prices())?;

@@ -53,7 +53,7 @@ fn write_over_amount(buffer: &mut Vec<u8>, key: &Key)
     write_named(buffer, b" ", &key.invoice);
 }
 
-fn write_sum(buffer: &mut Vec<u8>, what: &[u8], cents: u128)
+fn write_named_cents(buffer: &mut Vec<u8>, what: &[u8], cents: u128)
     requires short { length what.now ≤ 15 }
     requires spare { vec_len buffer.old + 75 ≤ vec_capacity buffer.old }
     ensures text { buffer.new.items ≡ buffer.old.items ++ (what.now ++ cents_text cents) }
@@ -70,8 +70,8 @@ fn write_not_proved(buffer: &mut Vec<u8>, total: u64, bound: i128)
     ensures len { vec_len buffer.new ≤ vec_len buffer.old + 150 }
     ensures room { vec_capacity buffer.old ≤ vec_capacity buffer.new }
 {
-    write_sum(buffer, b"no not-proved ", u128::from(total));
-    write_sum(buffer, b" ", bound.unsigned_abs());
+    write_named_cents(buffer, b"no not-proved ", u128::from(total));
+    write_named_cents(buffer, b" ", bound.unsigned_abs());
 }
 
 fn write_words(buffer: &mut Vec<u8>, cut: &Cut, verdict: Verdict)
@@ -82,7 +82,7 @@ fn write_words(buffer: &mut Vec<u8>, cut: &Cut, verdict: Verdict)
     ensures room { vec_capacity buffer.old ≤ vec_capacity buffer.new }
 {
     match verdict {
-        Verdict::Greatest { total } => write_sum(buffer, b"yes ", u128::from(total)),
+        Verdict::Greatest { total } => write_named_cents(buffer, b"yes ", u128::from(total)),
         Verdict::Lengths => put(buffer, b"no lengths"),
         Verdict::OverAmount { claim } => write_over_amount(buffer, &key_at(cut, claim)),
         Verdict::OutsideWindow { party } => {
@@ -97,7 +97,8 @@ fn write_words(buffer: &mut Vec<u8>, cut: &Cut, verdict: Verdict)
     }
 }
 
-/// Writes the line of a verdict on an outcome for a cut; a claim or a party is told by its name.
+/// Writes the line of a verdict on an outcome for a cut, `yes TOTAL` or `no CAUSE ..`; a claim or a party is told by its name. The
+/// caller gives 200 bytes of room behind what the buffer has, and so there is no error.
 pub fn write_verdict(buffer: &mut Vec<u8>, cut: &Cut, verdict: Verdict)
     requires placed { IsPlaced cut.now verdict }
     requires spare { vec_len buffer.old + 200 ≤ vec_capacity buffer.old }

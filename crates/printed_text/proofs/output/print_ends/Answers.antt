@@ -3,7 +3,7 @@ use Rattle.served_lines.specs.declared.answer.Answer.{Answer}
 use Rattle.served_lines.specs.declared.line_end.LineEnd.TheVariants as ends
 use Rattle.printed_text.specs.Printing.{end_text, ends_text}
 use Rattle.setoff_model.proofs.Lists.{on_err}
-use Rattle.printed_text.proofs.Passing.{PassesUpTo, up_more, up_breaks}
+use Rattle.printed_text.proofs.Passing.{GoesThroughUpTo, up_more, up_breaks}
 use Rattle.printed_text.proofs.Printing.{ends_from}
 use Rattle.printed_text.proofs.output.print_ends.Goals as goal
 
@@ -15,7 +15,7 @@ returns-in_err-print_end-clause-part g c =
     let a = get_or answers i none in
     let rest = ends_text (drop (i + 1) answers) in
     let cut = ends_from answers i none c.loop-answer-test.true in
-    let up = subst (λ (r : List ℕ). PassesUpTo (g.K.Sink.held c.args.sink.now) (g.K.Sink.held c.loop-answer.sink) c.args.buffer.now.items c.loop-answer.buffer.items r (ends_text answers)) cut c.loop-answer.invariant.passes in
+    let up = subst (λ (r : List ℕ). GoesThroughUpTo (g.K.Sink.held c.args.sink.now) (g.K.Sink.held c.loop-answer.sink) c.args.buffer.now.items c.loop-answer.buffer.items r (ends_text answers)) cut c.loop-answer.invariant.passes in
     on_err _ _ (up_breaks (g.K.Sink.held c.args.sink.now) (g.K.Sink.held c.loop-answer.sink) (g.K.Sink.held c.print_end.new.sink) c.args.buffer.now.items c.loop-answer.buffer.items (end_text a.line a.end) rest (ends_text answers) up c.in_err-print_end.ensures.part)
 
 pub loop-answer-preserved : goal.loop-answer-preserved
@@ -26,7 +26,7 @@ loop-answer-preserved g c =
     let a = get_or answers i none in
     let rest = ends_text (drop (i + 1) answers) in
     let cut = ends_from answers i none c.loop-answer-test.true in
-    let up = subst (λ (r : List ℕ). PassesUpTo (g.K.Sink.held c.args.sink.now) (g.K.Sink.held c.loop-answer.sink) c.args.buffer.now.items c.loop-answer.buffer.items r (ends_text answers)) cut c.loop-answer.invariant.passes in
+    let up = subst (λ (r : List ℕ). GoesThroughUpTo (g.K.Sink.held c.args.sink.now) (g.K.Sink.held c.loop-answer.sink) c.args.buffer.now.items c.loop-answer.buffer.items r (ends_text answers)) cut c.loop-answer.invariant.passes in
     record {
       passes = up_more (g.K.Sink.held c.args.sink.now) (g.K.Sink.held c.loop-answer.sink) (g.K.Sink.held c.print_end.new.sink) c.args.buffer.now.items c.loop-answer.buffer.items c.print_end.new.buffer.items (end_text a.line a.end) rest (ends_text answers) up c.in_ok-print_end.ensures.ok;
       room = c.in_ok-print_end.ensures.room;

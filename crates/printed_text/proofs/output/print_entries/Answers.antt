@@ -5,10 +5,10 @@ use Rattle.claim_history.specs.declared.entry.Entry.{Entry}
 use Rattle.claim_history.specs.declared.entry.Reply.TheVariants as reply
 use Rattle.claim_history.specs.Rounds.{cuts_of, past_cuts}
 use Rattle.bureau_edge.specs.Streams.{AppendsPart}
-use Rattle.printed_text.specs.Writing.{Passes}
+use Rattle.printed_text.specs.Writing.{GoesThrough}
 use Rattle.printed_text.specs.Printing.{added_text, entry_text, rounds_in}
 use Rattle.setoff_model.proofs.Lists.{on_err}
-use Rattle.printed_text.proofs.Passing.{PassesUpTo, up_begins, up_more, up_breaks, up_ends}
+use Rattle.printed_text.proofs.Passing.{GoesThroughUpTo, up_begins, up_more, up_breaks, up_ends}
 use Rattle.printed_text.proofs.Printing.{IsNext, added_from, entry_text_is, next_more, past_next, published_at}
 use Rattle.printed_text.proofs.output.print_entries.Goals as goal
 
@@ -30,7 +30,7 @@ returns-in_err-next-clause-part g c =
     let all = added_text (take c.args.from h) (drop c.args.from h) in
     let rest = added_text (take (i + 1) h) (drop (i + 1) h) in
     let part : AppendsPart y z (c.loop-i.buffer.items ++ entry_text past e) = subst (λ (t : List ℕ). AppendsPart y z (c.loop-i.buffer.items ++ t)) (entry_text_is c.args.rounds.now c.loop-i.next past e publication) c.in_err-next.ensures.part in
-    let up = subst (λ (r : List ℕ). PassesUpTo x y c.args.buffer.now.items c.loop-i.buffer.items r all) (added_from h i e c.loop-i-test.true c.index-history-i.is) c.loop-i.invariant.passes in
+    let up = subst (λ (r : List ℕ). GoesThroughUpTo x y c.args.buffer.now.items c.loop-i.buffer.items r all) (added_from h i e c.loop-i-test.true c.index-history-i.is) c.loop-i.invariant.passes in
     on_err _ _ (up_breaks x y z c.args.buffer.now.items c.loop-i.buffer.items (entry_text past e) rest all up part)
 
 pub loop-i-init : goal.loop-i-init
@@ -56,8 +56,8 @@ loop-i-preserved g c =
     let rest = added_text (take (i + 1) h) (drop (i + 1) h) in
     let base = length (cuts_of (take c.args.from h)) in
     let now = past_next h i e c.loop-i-test.true c.index-history-i.is in
-    let passes : Passes y z c.loop-i.buffer.items c.print_answer.new.buffer.items (entry_text past e) = subst (Passes y z c.loop-i.buffer.items c.print_answer.new.buffer.items) (entry_text_is c.args.rounds.now c.loop-i.next past e publication) c.in_ok-next.ensures.ok in
-    let up = subst (λ (r : List ℕ). PassesUpTo x y c.args.buffer.now.items c.loop-i.buffer.items r all) (added_from h i e c.loop-i-test.true c.index-history-i.is) c.loop-i.invariant.passes in
+    let passes : GoesThrough y z c.loop-i.buffer.items c.print_answer.new.buffer.items (entry_text past e) = subst (GoesThrough y z c.loop-i.buffer.items c.print_answer.new.buffer.items) (entry_text_is c.args.rounds.now c.loop-i.next past e publication) c.in_ok-next.ensures.ok in
+    let up = subst (λ (r : List ℕ). GoesThroughUpTo x y c.args.buffer.now.items c.loop-i.buffer.items r all) (added_from h i e c.loop-i-test.true c.index-history-i.is) c.loop-i.invariant.passes in
     let count : length (past_cuts (reverse (take (i + 1) h))) ≡ length (past_cuts past) + rounds_in e.reply =
     ap (λ (p : List Entry). length (past_cuts p)) now ∙ next_more c.args.rounds.now c.loop-i.next past e publication in
     record {

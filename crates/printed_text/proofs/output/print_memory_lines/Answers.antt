@@ -3,7 +3,7 @@ use Rattle.request_text.specs.declared.request.Request.{Request}
 use Rattle.served_lines.specs.declared.line_end.LineEnd.TheVariants as ends
 use Rattle.printed_text.specs.Printing.{end_text, ends_text, unanswered}
 use Rattle.setoff_model.proofs.Lists.{on_err}
-use Rattle.printed_text.proofs.Passing.{PassesUpTo, up_more, up_breaks}
+use Rattle.printed_text.proofs.Passing.{GoesThroughUpTo, up_more, up_breaks}
 use Rattle.printed_text.proofs.Printing.{unanswered_from}
 use Rattle.printed_text.proofs.output.print_memory_lines.Goals as goal
 
@@ -15,7 +15,7 @@ returns-in_err-print_end-clause-part g c =
     let rest = ends_text (unanswered (drop (i + 1) requests)) in
     let cut : ends_text (unanswered (drop i requests)) ≡ end_text r.line ends.Memory ++ rest =
     unanswered_from requests i r c.loop-request-test.true ∙ ap (λ (q : Request). end_text q.line ends.Memory ++ rest) (sym c.request-item.is) in
-    let up = subst (λ (t : List ℕ). PassesUpTo (g.K.Sink.held c.args.sink.now) (g.K.Sink.held c.loop-request.sink) c.args.buffer.now.items c.loop-request.buffer.items t (ends_text (unanswered requests))) cut c.loop-request.invariant.passes in
+    let up = subst (λ (t : List ℕ). GoesThroughUpTo (g.K.Sink.held c.args.sink.now) (g.K.Sink.held c.loop-request.sink) c.args.buffer.now.items c.loop-request.buffer.items t (ends_text (unanswered requests))) cut c.loop-request.invariant.passes in
     on_err _ _ (up_breaks (g.K.Sink.held c.args.sink.now) (g.K.Sink.held c.loop-request.sink) (g.K.Sink.held c.print_end.new.sink) c.args.buffer.now.items c.loop-request.buffer.items (end_text r.line ends.Memory) rest (ends_text (unanswered requests)) up c.in_err-print_end.ensures.part)
 
 pub loop-request-preserved : goal.loop-request-preserved
@@ -26,7 +26,7 @@ loop-request-preserved g c =
     let rest = ends_text (unanswered (drop (i + 1) requests)) in
     let cut : ends_text (unanswered (drop i requests)) ≡ end_text r.line ends.Memory ++ rest =
     unanswered_from requests i r c.loop-request-test.true ∙ ap (λ (q : Request). end_text q.line ends.Memory ++ rest) (sym c.request-item.is) in
-    let up = subst (λ (t : List ℕ). PassesUpTo (g.K.Sink.held c.args.sink.now) (g.K.Sink.held c.loop-request.sink) c.args.buffer.now.items c.loop-request.buffer.items t (ends_text (unanswered requests))) cut c.loop-request.invariant.passes in
+    let up = subst (λ (t : List ℕ). GoesThroughUpTo (g.K.Sink.held c.args.sink.now) (g.K.Sink.held c.loop-request.sink) c.args.buffer.now.items c.loop-request.buffer.items t (ends_text (unanswered requests))) cut c.loop-request.invariant.passes in
     record {
       passes = up_more (g.K.Sink.held c.args.sink.now) (g.K.Sink.held c.loop-request.sink) (g.K.Sink.held c.print_end.new.sink) c.args.buffer.now.items c.loop-request.buffer.items c.print_end.new.buffer.items (end_text r.line ends.Memory) rest (ends_text (unanswered requests)) up c.in_ok-print_end.ensures.ok;
       room = c.in_ok-print_end.ensures.room;

@@ -1,6 +1,6 @@
 use Rattle.std.proofs.Common.{◌++◌, ◌<◌, ℕ, List, length, subst, arith}
 use Rattle.bureau_edge.specs.Streams.{AppendsPart}
-use Rattle.printed_text.specs.Writing.{Passes}
+use Rattle.printed_text.specs.Writing.{GoesThrough}
 use Rattle.setoff_model.proofs.Lists.{on_err}
 use Rattle.printed_text.proofs.Printing.{statement_is, within_rounds}
 use Rattle.printed_text.proofs.output.print_publication.Goals as goal
@@ -26,4 +26,4 @@ returns-clause-ok g c =
     let is = statement_is c.args.rounds.now c.args.next c.index-rounds-next.result c.args.entry.now.act c.args.entry.now.reply c.in-Publish.round c.in-Published.total c.in-Publish.outcome lt c.index-rounds-next.is c.in-Published.is c.in-Publish.is in
     let y = g.K.Sink.held c.args.sink.now in
     let z = g.K.Sink.held c.print_statement.new.sink in
-    subst (Passes y z c.args.buffer.now.items c.print_statement.new.buffer.items) is c.in_ok-print_statement.ensures.ok
+    subst (GoesThrough y z c.args.buffer.now.items c.print_statement.new.buffer.items) is c.in_ok-print_statement.ensures.ok

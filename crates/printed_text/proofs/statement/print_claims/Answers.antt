@@ -3,7 +3,7 @@ use Rattle.setoff_model.proofs.Columns.{no_claim}
 use Rattle.statement_text.specs.Statements.{claim_line, claim_lines}
 use Rattle.printed_text.specs.Printing.{line_bytes, lines_bytes}
 use Rattle.setoff_model.proofs.Lists.{on_err}
-use Rattle.printed_text.proofs.Passing.{PassesUpTo, up_more, up_breaks}
+use Rattle.printed_text.proofs.Passing.{GoesThroughUpTo, up_more, up_breaks}
 use Rattle.printed_text.proofs.Printing.{claims_from}
 use Rattle.printed_text.proofs.statement.print_claims.Goals as goal
 
@@ -16,7 +16,7 @@ returns-in_err-print_claim-clause-part g c =
     let lt : i < length cs = omega (arith, c.loop-i-test.true, c.requires.discharge_each) in
     let one = line_bytes (claim_line fs (get_or cs i no_claim) (get_or ds i 0)) in
     let rest = lines_bytes (claim_lines fs (drop (i + 1) cs) (drop (i + 1) ds)) in
-    let up = subst (λ (r : List ℕ). PassesUpTo (g.K.Sink.held c.args.sink.now) (g.K.Sink.held c.loop-i.sink) c.args.buffer.now.items c.loop-i.buffer.items r (lines_bytes (claim_lines fs cs ds))) (claims_from fs cs ds i no_claim 0 lt c.loop-i-test.true) c.loop-i.invariant.passes in
+    let up = subst (λ (r : List ℕ). GoesThroughUpTo (g.K.Sink.held c.args.sink.now) (g.K.Sink.held c.loop-i.sink) c.args.buffer.now.items c.loop-i.buffer.items r (lines_bytes (claim_lines fs cs ds))) (claims_from fs cs ds i no_claim 0 lt c.loop-i-test.true) c.loop-i.invariant.passes in
     on_err _ _ (up_breaks (g.K.Sink.held c.args.sink.now) (g.K.Sink.held c.loop-i.sink) (g.K.Sink.held c.print_claim.new.sink) c.args.buffer.now.items c.loop-i.buffer.items one rest (lines_bytes (claim_lines fs cs ds)) up (c.in_err-print_claim.ensures.part no_claim))
 
 pub loop-i-preserved : goal.loop-i-preserved
@@ -28,7 +28,7 @@ loop-i-preserved g c =
     let lt : i < length cs = omega (arith, c.loop-i-test.true, c.requires.discharge_each) in
     let one = line_bytes (claim_line fs (get_or cs i no_claim) (get_or ds i 0)) in
     let rest = lines_bytes (claim_lines fs (drop (i + 1) cs) (drop (i + 1) ds)) in
-    let up = subst (λ (r : List ℕ). PassesUpTo (g.K.Sink.held c.args.sink.now) (g.K.Sink.held c.loop-i.sink) c.args.buffer.now.items c.loop-i.buffer.items r (lines_bytes (claim_lines fs cs ds))) (claims_from fs cs ds i no_claim 0 lt c.loop-i-test.true) c.loop-i.invariant.passes in
+    let up = subst (λ (r : List ℕ). GoesThroughUpTo (g.K.Sink.held c.args.sink.now) (g.K.Sink.held c.loop-i.sink) c.args.buffer.now.items c.loop-i.buffer.items r (lines_bytes (claim_lines fs cs ds))) (claims_from fs cs ds i no_claim 0 lt c.loop-i-test.true) c.loop-i.invariant.passes in
     record {
       passes = up_more (g.K.Sink.held c.args.sink.now) (g.K.Sink.held c.loop-i.sink) (g.K.Sink.held c.print_claim.new.sink) c.args.buffer.now.items c.loop-i.buffer.items c.print_claim.new.buffer.items one rest (lines_bytes (claim_lines fs cs ds)) up (c.in_ok-print_claim.ensures.ok no_claim);
       room = c.in_ok-print_claim.ensures.room;

@@ -4,13 +4,13 @@ use Rattle.std.proofs.lemmas.Int.{to_z-of_z, fits_signed_from_abs}
 use mir.Syntax.{w64}
 use mir.Val.{SFits}
 use Rattle.bureau_edge.specs.Streams.{AppendsPart}
-use Rattle.printed_text.specs.Writing.{Passes}
+use Rattle.printed_text.specs.Writing.{GoesThrough}
 use Rattle.setoff_model.specs.declared.cut.Party.{Party}
 use Rattle.statement_text.specs.declared.line.Line.TheVariants as line
 use Rattle.statement_text.specs.Statements.{party_lines}
 use Rattle.printed_text.specs.Printing.{line_bytes, lines_bytes}
 use Rattle.setoff_model.proofs.Lists.{on_err}
-use Rattle.printed_text.proofs.Passing.{PassesUpTo, up_more, up_breaks}
+use Rattle.printed_text.proofs.Passing.{GoesThroughUpTo, up_more, up_breaks}
 use Rattle.printed_text.proofs.Printing.{parties_from}
 use Rattle.printed_text.proofs.statement.print_parties.Goals as goal
 
@@ -24,7 +24,7 @@ returns-in_err-print_party-clause-part g c =
     let fits : SFits w64 price = fits_signed_from_abs w64 price (omega (arith, c.requires.prices i (pos 0) lt)) in
     let rest = lines_bytes (party_lines (drop (i + 1) fs) (drop (i + 1) ps)) in
     let cut = parties_from fs ps i c.index-parties-i.result (pos 0) c.loop-i-test.true lt ∙ ap (λ (f : Party). line_bytes (line.Party f (get_or ps i (pos 0))) ++ rest) (sym c.index-parties-i.is) in
-    let up = subst (λ (r : List ℕ). PassesUpTo (g.K.Sink.held c.args.sink.now) (g.K.Sink.held c.loop-i.sink) c.args.buffer.now.items c.loop-i.buffer.items r (lines_bytes (party_lines fs ps))) cut c.loop-i.invariant.passes in
+    let up = subst (λ (r : List ℕ). GoesThroughUpTo (g.K.Sink.held c.args.sink.now) (g.K.Sink.held c.loop-i.sink) c.args.buffer.now.items c.loop-i.buffer.items r (lines_bytes (party_lines fs ps))) cut c.loop-i.invariant.passes in
     on_err _ _ (up_breaks (g.K.Sink.held c.args.sink.now) (g.K.Sink.held c.loop-i.sink) (g.K.Sink.held c.print_party.new.sink) c.args.buffer.now.items c.loop-i.buffer.items (line_bytes (line.Party c.index-parties-i.result price)) rest (lines_bytes (party_lines fs ps)) up
     (subst (λ (p : ℤ). AppendsPart (g.K.Sink.held c.loop-i.sink) (g.K.Sink.held c.print_party.new.sink) (c.loop-i.buffer.items ++ line_bytes (line.Party c.index-parties-i.result p))) (to_z-of_z w64 price fits) c.in_err-print_party.ensures.part))
 
@@ -38,10 +38,10 @@ loop-i-preserved g c =
     let fits : SFits w64 price = fits_signed_from_abs w64 price (omega (arith, c.requires.prices i (pos 0) lt)) in
     let rest = lines_bytes (party_lines (drop (i + 1) fs) (drop (i + 1) ps)) in
     let cut = parties_from fs ps i c.index-parties-i.result (pos 0) c.loop-i-test.true lt ∙ ap (λ (f : Party). line_bytes (line.Party f (get_or ps i (pos 0))) ++ rest) (sym c.index-parties-i.is) in
-    let up = subst (λ (r : List ℕ). PassesUpTo (g.K.Sink.held c.args.sink.now) (g.K.Sink.held c.loop-i.sink) c.args.buffer.now.items c.loop-i.buffer.items r (lines_bytes (party_lines fs ps))) cut c.loop-i.invariant.passes in
+    let up = subst (λ (r : List ℕ). GoesThroughUpTo (g.K.Sink.held c.args.sink.now) (g.K.Sink.held c.loop-i.sink) c.args.buffer.now.items c.loop-i.buffer.items r (lines_bytes (party_lines fs ps))) cut c.loop-i.invariant.passes in
     record {
       passes = up_more (g.K.Sink.held c.args.sink.now) (g.K.Sink.held c.loop-i.sink) (g.K.Sink.held c.print_party.new.sink) c.args.buffer.now.items c.loop-i.buffer.items c.print_party.new.buffer.items (line_bytes (line.Party c.index-parties-i.result price)) rest (lines_bytes (party_lines fs ps)) up
-          (subst (λ (p : ℤ). Passes (g.K.Sink.held c.loop-i.sink) (g.K.Sink.held c.print_party.new.sink) c.loop-i.buffer.items c.print_party.new.buffer.items (line_bytes (line.Party c.index-parties-i.result p))) (to_z-of_z w64 price fits) c.in_ok-print_party.ensures.ok);
+          (subst (λ (p : ℤ). GoesThrough (g.K.Sink.held c.loop-i.sink) (g.K.Sink.held c.print_party.new.sink) c.loop-i.buffer.items c.print_party.new.buffer.items (line_bytes (line.Party c.index-parties-i.result p))) (to_z-of_z w64 price fits) c.in_ok-print_party.ensures.ok);
       room = c.in_ok-print_party.ensures.room;
       later = omega (arith, c.loop-i.invariant.later, c.in_ok-print_party.ensures.cause.later);
     }

@@ -15,5 +15,5 @@ pub returns-clause-text : goal.returns-clause-text
 returns-clause-text c =
     let fits : FitsSigned w128 c.args.bound = c.ranges.bound in
     let size : c.unsigned_abs.result ≡ unsigned_abs c.args.bound = simp to_z-of_z at c.unsigned_abs.ensures.value in
-    regroup c.args.buffer.now.items (codes "no not-proved " ++ cents_text c.args.total) (codes " ") (cents_text (unsigned_abs c.args.bound)) (cents_text c.unsigned_abs.result) c.write_sum.new.buffer.items c.write_sum-2.new.buffer.items
-    c.write_sum-2.ensures.text (c.write_sum.ensures.text ∙ ap (λ (n : ℕ). c.args.buffer.now.items ++ (codes "no not-proved " ++ cents_text n)) c.from.ensures) (ap cents_text size)
+    regroup c.args.buffer.now.items (codes "no not-proved " ++ cents_text c.args.total) (codes " ") (cents_text (unsigned_abs c.args.bound)) (cents_text c.unsigned_abs.result) c.write_named_cents.new.buffer.items c.write_named_cents-2.new.buffer.items
+    c.write_named_cents-2.ensures.text (c.write_named_cents.ensures.text ∙ ap (λ (n : ℕ). c.args.buffer.now.items ++ (codes "no not-proved " ++ cents_text n)) c.from.ensures) (ap cents_text size)
