@@ -11,8 +11,6 @@ mod check;
 mod import;
 mod refused;
 mod tables;
-#[cfg(test)]
-mod tests;
 
 pub use audit::audit_disk;
 pub use check::check_input;

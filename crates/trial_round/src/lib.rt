@@ -14,8 +14,6 @@ mod draws;
 mod input;
 mod line;
 mod round;
-#[cfg(test)]
-mod tests;
 mod whole;
 
 use line::trial_line;

@@ -1,5 +1,5 @@
-use crate::{Table, audit_disk, check_input, import_input, print_table};
 use bureau_edge::BytesSink;
+use bureau_reports::{Table, audit_disk, check_input, import_input, print_table};
 use claim_history::Day;
 use disk_model::MemoryDisk;
 use std::alloc::{AllocError, Global};

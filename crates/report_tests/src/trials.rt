@@ -1,19 +1,7 @@
-use crate::draws::Draws;
-use crate::trial;
 use std::test::Fail;
+use trial_round::trial;
 
-#[test]
-fn draws_follow_from_the_seed(rt: HostRuntime) {
-    let mut draws = Draws::new(1);
-    assert_eq!(rt; draws.next(), 15_496);
-    assert_eq!(rt; draws.next(), 24_200);
-    assert_eq!(rt; draws.next(), 33_046);
-    assert_eq!(rt; draws.next(), 46_195);
-    assert_eq!(rt; draws.next(), 3_312);
-    assert_eq!(rt; draws.next(), 24_216);
-}
-
-// F-1 owes F-2 330.47, and F-2 owes F-1 242.17.
+// F-1 owes F-2 330.47, and F-2 owes F-1 242.17: these are one more than the third and the sixth draw.
 #[test]
 fn two_claims_are_set_off(rt: HostRuntime) -> Result<(), Fail> {
     let text = trial(&rt, rt.alloc(), 2, 2, 1)?;
