@@ -24,7 +24,8 @@ use std::thread::Threads;
 /// Prints the entries of a desk from a place on, each publication followed at once by its statement, and then a line for each of
 /// these lines of a batch that was full or had no memory. The rounds of the desk are those published from there on.
 ///
-/// The buffer is empty and has room for 65,536 bytes. After a failure the sink has some first bytes of the text.
+/// The buffer is empty and has room for `OUTPUT_BYTES` of `printed_text`. After a failure, which the sink counted, it has some first
+/// bytes of the text.
 #[tactic(none)]
 pub fn print_added<K: Sink, D: Disk>(
     sink: &mut K,
@@ -75,8 +76,11 @@ fn print_served<K: Sink, D: Disk>(
     }
 }
 
-/// Serves batches on a desk in turn, and prints what came of each after it was served. Says the status: 4 where the sink failed,
-/// which ends it.
+/// Serves batches on a desk in turn, and prints what came of each after it was served. Gives the desk back, with the status: 4 where
+/// the sink failed, which ends the run; else 9 where there was no memory for a line, else 5 where an entry tells of a device, else 7
+/// where a line was full, else 0.
+///
+/// The buffer is empty and has room for `OUTPUT_BYTES` of `printed_text`.
 pub fn run_batches<
     R: Threads + Wait + Sync,
     K: Sink,
