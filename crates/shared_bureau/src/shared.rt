@@ -3,7 +3,7 @@ ghost use Rattle.std.specs.Prelude.{◌≡◌, ◌<◌, ◌≤◌, ◌+◌, true
 ghost use Rattle.claim_history.specs.Acts.{is_valid, is_publication, is_close};
 ghost use Rattle.claim_history.specs.declared.act.Act.TheVariants as acts;
 ghost use Rattle.turn_lock.specs.Turns.{IsRegistrarOf, drew, gave, new_view};
-ghost use Rattle.turn_lock.specs.Seats.{lock, lock_of, number, seen, own, view, registry, registrar_view, made};
+ghost use Rattle.turn_lock.specs.Seats.{most_seats, most_callers, lock, lock_of, number, seen, own, view, registry, registrar_view, made};
 ghost use Rattle.shared_bureau.specs.Owned.{OwnsRound};
 ghost use Rattle.shared_bureau.specs.Adding.{IsReady, HasEntry, HasNoEntry, HasCut, HasPublished};
 ghost use Rattle.shared_bureau.specs.Closing.{HasClosed};
@@ -26,6 +26,7 @@ use turn_lock::{Registrar, Seat, Turn, Unmade};
 /// A desk behind a turn, for as many callers as there are seats.
 #[derive(Drop)]
 pub struct Shared<D: Disk> {
+    /// The lock of the desk. Clauses name it: they say of a seat that this lock made it.
     pub turn: Turn<Desk<D>>,
 }
 
@@ -37,7 +38,7 @@ impl<D: Disk> Shared<D> {
         desk: Desk<D>,
         lanes: u32,
     ) -> Result<(Shared<D>, Registrar<Desk<D>>, Vec<Seat<Desk<D>>>), Unmade<Desk<D>>>
-        requires { lanes ≤ 1000000 }
+        requires { lanes ≤ most_seats }
         ensures err { IfErr result (λ u. u.value ≡ desk) }
         ensures registrar { IfOk result (λ r. (registry r.1 ≡ lock_of r.0.turn) × (made r.1 ≡ lanes) × IsRegistrarOf desk.history (base_numbers D.seen desk) (registrar_view r.1)) }
         ensures seats { IfOk result (λ r. (length r.2.items ≡ lanes) × AreNew desk.history (base_numbers D.seen desk) r.0.turn r.2.items) }
@@ -49,7 +50,7 @@ impl<D: Disk> Shared<D> {
     /// A new seat with the next number. It has seen what the registrar has, and has no entries of its own. It takes no memory.
     pub fn caller(&self, registrar: &mut Registrar<Desk<D>>) -> Seat<Desk<D>>
         requires made { registry registrar.old ≡ lock_of self.now.turn }
-        requires room { made registrar.old < 4294967295 }
+        requires room { made registrar.old < most_callers }
         ensures registrar { (registry registrar.new ≡ registry registrar.old) × (made registrar.new ≡ made registrar.old + 1) × (registrar_view registrar.new ≡ gave (drew (registrar_view registrar.old))) }
         ensures seat { (lock result ≡ registry registrar.old) × (number result ≡ made registrar.old + 1) × (view result ≡ new_view (drew (registrar_view registrar.old))) }
         ensures ready { IsReady self.now.turn result }
@@ -64,7 +65,7 @@ impl<D: Disk> Shared<D> {
     /// stands at its last value.
     ///
     /// Memory: there was none for the act. Full: it needs more entries or bytes than there may be; entries are tested first.
-    /// After an Err this seat has added nothing.
+    /// After an Err this seat has added nothing. At the end of the call it holds no turn.
     pub fn submit<R: Wait>(
         &self,
         rt: &R,
@@ -87,7 +88,11 @@ impl<D: Disk> Shared<D> {
     }
 
     /// Asks a Close under the turn. `Frozen` has a copy of the cut of the open round, opened or continued. No turn is held
-    /// afterwards, and the round stays the seat's until it ends it. The rest is as for `submit`.
+    /// afterwards, and the round stays the seat's until it ends it. `Refused` has the refusal of the history, or Device as for
+    /// `submit`.
+    ///
+    /// Memory: there was none for the Close or for its cut, also where it would be refused. Full: as for `submit`. After an Err
+    /// this seat has added nothing.
     pub fn cut<R: Wait>(
         &self,
         rt: &R,
@@ -134,7 +139,7 @@ impl<D: Disk> Shared<D> {
     /// Closes a round: cut, pause, solve, check and publish. The turn is held for the cut and for the publication alone.
     ///
     /// The answer tells the entries that were added, in order: a refused Close, an accepted one and its publication, an accepted
-    /// one alone, or none.
+    /// one alone, or none. `CloseEnd` says when each comes. At the end of the call the seat holds no turn.
     pub fn close_round<R: Wait, S: Solver, P: Pause>(
         &self,
         rt: &R,

@@ -12,6 +12,7 @@ use Rattle.atomic_table.proofs.Lists.{set_else, at_longer}
 use Rattle.turn_lock.specs.declared.view.SeatHistory.{SeatHistory}
 use Rattle.turn_lock.specs.declared.view.View.{View}
 use Rattle.turn_lock.specs.Turns.{entries_by, seat_count, opening_view, spent_view, drew, gave, new_view, joined, IsRegistrarView, FitsLog, FitsTable, IsInSlot, IsKept, is_numbered, Finished, HasDrawn}
+use Rattle.turn_lock.specs.Seats.{most_callers}
 use Rattle.turn_lock.proofs.Histories.{prefix_self, entries_by_none}
 use Rattle.turn_lock.proofs.Seated.{seated_changed, seated_given, seated_joined, seated_ended}
 use Rattle.turn_lock.proofs.Views.{each_set, each_snoc, sum_set, sum_same, sum_two, same_at, all_cons}
@@ -60,7 +61,7 @@ module _ {T E : Type 0} (entries : T → List E) (base : T → List ℕ) (caller
       }
 
   -- the registrar draws a number
-  pub draws : (id made slots : ℕ) (v : View E) → IsRegistrarView made v → made < 4294967295
+  pub draws : (id made slots : ℕ) (v : View E) → IsRegistrarView made v → made < most_callers
       → Allows Rule slots id (v, []) 1 (λ n. (n + 1) % 2 ^ 64) (HasDrawn (step slots 1 1 0 none) (v, []))
   draws id made slots v is_registrar room s k wide me _ =
       let o = k.each id v me is_registrar.live in

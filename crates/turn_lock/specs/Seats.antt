@@ -6,6 +6,14 @@ use Rattle.turn_lock.specs.declared.turn.Seat.{Seat}
 use Rattle.turn_lock.specs.declared.turn.Registrar.{Registrar}
 use Rattle.turn_lock.specs.declared.turn.Turn.{Turn}
 
+-- how many seats a lock may be made with
+abbrev pub most_seats : ℕ
+most_seats = 1000000
+
+-- how many seats a registrar may give in all, and the highest number of one
+abbrev pub most_callers : ℕ
+most_callers = 4294967295
+
 module _ {T E : Type 0} where
   -- which lock made it
   abbrev pub lock : Seat T E → TableId

@@ -2,7 +2,7 @@
 ghost use Rattle.std.specs.Prelude.{◌≡◌, ℕ, suc, ◌+◌, ◌<◌, ◌≤◌, true, false, List, [], ◌∷◌, ◌++◌, length, All, Contains, IfOk, IfErr, IfSome, IfNone, Some, None, MatchBool, slice_get, map};
 ghost use Rattle.std.specs.Borrow.{Lends, sem};
 ghost use Rattle.turn_lock.specs.contracts.turn.Held.{the_row};
-ghost use Rattle.turn_lock.specs.Seats.{lock, lock_of, number, view, holds, registry, registrar_view, made};
+ghost use Rattle.turn_lock.specs.Seats.{most_seats, most_callers, lock, lock_of, number, view, holds, registry, registrar_view, made};
 ghost use Rattle.turn_lock.specs.Turns.{entries_by, seat_history, opening_view, EachOf, IsRegistrarOf, IsNewSeat, drew, gave, new_view, Entered, MayLeave, Finished, taken, released};
 
 use crate::plays::{Acquire, Draw, End, Enrol, Release};
@@ -51,7 +51,7 @@ impl<T: Story> Turn<T> {
         value: T,
         seats: u32,
     ) -> Result<(Turn<T>, Registrar<T>, Vec<Seat<T>>), Unmade<T>>
-        requires { seats ≤ 1000000 }
+        requires { seats ≤ most_seats }
         ensures err { IfErr result (λ u. u.value ≡ value) }
         ensures registrar { IfOk result (λ r. (registry r.1 ≡ lock_of r.0) × (made r.1 ≡ seats) × IsRegistrarOf (T.entries value) (T.base value) (registrar_view r.1)) }
         ensures seats { IfOk result (λ r. (length r.2.items ≡ seats) × EachOf (λ k s. (lock s ≡ lock_of r.0) × (number s ≡ k + 1) × IsNewSeat (T.entries value) (T.base value) (view s)) r.2.items) }
@@ -69,7 +69,7 @@ impl<T: Story> Turn<T> {
     /// A new seat with the next number. It has seen what the registrar has, and has no entries of its own. It takes no memory.
     pub fn enrol(&self, registrar: &mut Registrar<T>) -> Seat<T>
         requires made { registry registrar.old ≡ lock_of self.now }
-        requires room { made registrar.old < 4294967295 }
+        requires room { made registrar.old < most_callers }
         ensures registrar { (registry registrar.new ≡ registry registrar.old) × (made registrar.new ≡ made registrar.old + 1) × (registrar_view registrar.new ≡ gave (drew (registrar_view registrar.old))) }
         ensures seat { (lock result ≡ registry registrar.old) × (number result ≡ made registrar.old + 1) × (view result ≡ new_view (drew (registrar_view registrar.old))) }
     {
