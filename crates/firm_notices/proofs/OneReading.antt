@@ -18,7 +18,7 @@ use Rattle.claim_history.proofs.Shapes.{act_texts_law}
 use Rattle.firm_notices.specs.declared.error.RowCause.{RowCause}
 use Rattle.firm_notices.specs.declared.error.RowCause.TheVariants as cause
 use Rattle.firm_notices.specs.Invoices.{invoice_names, IsInvoice, AreInvoices, IsInvoiceText, HasCause, IsBadInvoice, IsFirstBadRow, OneReadingLaw, FiledLaw, asked_of}
-use Rattle.request_text.specs.Grammar.{Asked, CanBeAsked}
+use Rattle.request_text.specs.Grammar.{CanBeAsked}
 use Rattle.request_text.specs.Lanes.{IsLane}
 use Rattle.request_text.specs.Causes.{forms_of, IsFirstBadField}
 use Rattle.request_text.specs.declared.verb.Verb.TheVariants as verbs
