@@ -3,10 +3,10 @@ ghost use Rattle.std.specs.Prelude.{◌≡◌, ◌+◌, ◌≤◌, ◌++◌, cou
 ghost use Rattle.claim_history.specs.Acts.{is_publication};
 ghost use Rattle.desk_text.specs.Texts.{sound_text, unsound_text, unsound_status, IsTellable};
 
-use crate::fault::{status_of_opening, write_opening_fault, write_told, write_whole};
+use crate::fault::{status_of_opening, write_opening_fault, write_told};
 use bureau_desk::DeskCause;
 use claim_history::Entry;
-use setoff_model::put;
+use setoff_model::{put, write_whole};
 
 fn rounds_in(history: &[Entry]) -> u64
     ensures { result ≡ count_by (λ e. is_publication e.act) history.now }

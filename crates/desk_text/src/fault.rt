@@ -1,12 +1,11 @@
 //! Disks on which no desk was opened.
-ghost use Rattle.std.specs.Prelude.{◌≡◌, ◌+◌, ◌≤◌, ◌++◌, codes, decimal, length, vec_len, vec_capacity};
+ghost use Rattle.std.specs.Prelude.{◌≡◌, ◌+◌, ◌≤◌, ◌++◌, codes, length, vec_len, vec_capacity};
 ghost use Rattle.desk_text.specs.Texts.{offset_of, record_why, fault_of, told_fault, told_counts, opening_text, opening_status, IsTellable};
 
 use bureau_desk::DeskCause;
 use entry_text::write_reply;
-use itoa::Buffer;
 use round_journal::RecordWhy;
-use setoff_model::put;
+use setoff_model::{put, write_whole};
 
 fn offset_of(cause: DeskCause) -> u64
     ensures { result ≡ offset_of cause }
@@ -27,17 +26,6 @@ fn record_why(why: RecordWhy) -> &'static [u8]
         RecordWhy::Short => b"short",
         RecordWhy::Body => b"body",
     }
-}
-
-// Writes a number, and asks for no more room than it takes.
-pub(crate) fn write_whole(buffer: &mut Vec<u8>, number: u64)
-    requires { vec_len buffer.old + 20 ≤ vec_capacity buffer.old }
-    ensures text { buffer.new.items ≡ buffer.old.items ++ decimal number }
-    ensures len { vec_len buffer.new ≤ vec_len buffer.old + 20 }
-    ensures room { vec_capacity buffer.old ≤ vec_capacity buffer.new }
-{
-    let mut digits = Buffer::new();
-    put(buffer, digits.format(number).as_bytes());
 }
 
 fn write_fault(buffer: &mut Vec<u8>, cause: DeskCause)
