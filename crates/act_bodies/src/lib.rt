@@ -25,6 +25,3 @@ pub use laws::{bodies_have_their_lengths, each_body_is_of_one_call};
 pub use length::{MOST_BODY, body_length};
 pub use reading::read_body;
 pub use writing::encode;
-
-#[cfg(test)]
-mod tests;

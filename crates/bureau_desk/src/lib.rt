@@ -20,6 +20,3 @@ pub use desk_refused::{DeskCause, DeskRefused};
 pub use laws::{a_frozen_cut_may_be_published, each_file_has_one_fault};
 pub use publish_reply::PublishReply;
 pub use recorded_book::{ActError, CutReply, Room};
-
-#[cfg(test)]
-mod tests;

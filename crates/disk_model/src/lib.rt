@@ -40,6 +40,3 @@ pub use disk_failed::DiskFailed;
 pub use file_disk::FileDisk;
 pub use laws::{runs_compose, torn_writes};
 pub use memory_disk::MemoryDisk;
-
-#[cfg(test)]
-mod tests;

@@ -40,6 +40,3 @@ pub use laws::{bytes_hold_one_list, what_is_kept_stands};
 pub use open_refused::OpenRefused;
 pub use reading::read_records;
 pub use record::Record;
-
-#[cfg(test)]
-mod tests;

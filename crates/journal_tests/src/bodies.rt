@@ -1,4 +1,6 @@
-use crate::{
+//! Tests of the bodies of acts.
+
+use act_bodies::{
     bodies_have_their_lengths, body_length, can_be_kept, each_body_is_of_one_call, encode,
     read_body,
 };

@@ -1,6 +1,8 @@
-use crate::{Device, Journal, JournalCause, Record, RecordWhy, read_records};
+//! Tests of journals.
+
 use claim_history::Act;
 use disk_model::MemoryDisk;
+use round_journal::{Device, Journal, JournalCause, Record, RecordWhy, read_records};
 use std::alloc::Global;
 use std::process::Abort;
 use std::test::Fail;

@@ -1,4 +1,6 @@
-use crate::{Disk, DiskFailed, FileDisk, MemoryDisk, runs_compose, torn_writes};
+//! Tests of disks.
+
+use disk_model::{Disk, DiskFailed, FileDisk, MemoryDisk, runs_compose, torn_writes};
 use std::alloc::{AllocError, Global};
 use std::fs;
 use std::test::Fail;

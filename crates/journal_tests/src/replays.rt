@@ -1,10 +1,11 @@
+//! Tests of replays.
 ghost use Rattle.std.specs.Prelude.{◌≡◌, IsTrue, true};
 ghost use Rattle.act_bodies.specs.Bodies.{is_keepable};
 ghost use Rattle.round_journal.specs.Records.{AreKeepable};
 
-use crate::{ReplayStop, replay};
 use claim_book::Book;
 use claim_history::{Act, Day, Position, Reply, Why};
+use journal_replay::{ReplayStop, replay};
 use limited_book::LimitedBook;
 use round_journal::Record;
 use setoff_model::{Key, Kind, Name, Outcome};

@@ -1,0 +1,17 @@
+//! Tests of the crates of a desk and its journal: streams and disks, bodies and journals, replays and desks.
+//!
+//! Each file tests the public calls of one crate. They stand apart, since a crate with tests is proved a second time with them.
+#![tactic(auto)]
+
+#[cfg(test)]
+mod bodies;
+#[cfg(test)]
+mod desks;
+#[cfg(test)]
+mod disks;
+#[cfg(test)]
+mod journals;
+#[cfg(test)]
+mod replays;
+#[cfg(test)]
+mod streams;
