@@ -1,5 +1,4 @@
 -- What contracts see of a disk in memory.
-use Rattle.std.specs.Prelude.{ℕ, List, length}
 use Rattle.disk_model.specs.Calls.{Seen}
 use Rattle.disk_model.specs.Memory.{MemoryState, first_of, seen_in}
 use Rattle.disk_model.specs.declared.memory_disk.MemoryDisk.{MemoryDisk}
