@@ -4,7 +4,7 @@ use Rattle.std.specs.declared.alloc.Global.{Global}
 use Rattle.turn_lock.specs.Turns.{EachOf}
 use Rattle.request_text.specs.declared.request.Request.{Request}
 use Rattle.served_lines.specs.declared.line_end.LineEnd.{LineEnd}
-use Rattle.lane_runner.specs.declared.room.Room.{Room}
+use Rattle.lane_runner.specs.declared.batch_room.BatchRoom.{BatchRoom}
 use Rattle.lane_runner.specs.Lanes.{of_lane}
 
 -- room for what comes of the lines of each of so many lanes, the last lane's first
@@ -12,7 +12,7 @@ abbrev pub HavePlaces : List Request → ℕ → List (Vec LineEnd Global) → T
 HavePlaces requests lanes places = EachOf (λ k ends. (ends.items ≡ []) × (length (of_lane (lanes - k) requests) ≤ vec_capacity ends)) places
 
 -- The room that a batch takes: for as many lanes as there are places, among which are those of all requests.
-pub record IsRoomFor {D : Type 0} (requests : List Request) (room : Room D) : Type 0 where
+pub record IsRoomFor {D : Type 0} (requests : List Request) (room : BatchRoom D) : Type 0 where
   pub few : length room.places.items ≤ 16
   pub all : All (λ r. r.lane ≤ length room.places.items) requests
   pub places : HavePlaces requests (length room.places.items) room.places.items

@@ -7,10 +7,10 @@ ghost use Rattle.lane_runner.specs.Rooms.{IsRoomFor};
 ghost use Rattle.lane_runner.specs.Seating.{HasServedAll};
 
 use crate::answers::Answers;
+use crate::batch_room::BatchRoom;
 use crate::fork::fork;
 use crate::gate::Gate;
 use crate::merge::merge;
-use crate::room::Room;
 use crate::seats::{seat_lanes, unseat};
 use bureau_desk::Desk;
 use disk_model::Disk;
@@ -23,10 +23,12 @@ use std::sync::Wait;
 use std::thread::Threads;
 use turn_lock::{Registrar, Unmade};
 
-/// The desk after a batch, and what came of its lines. None means that there was no memory before any line was asked.
+/// The desk after a batch, and what came of its lines.
 #[derive(Drop)]
 pub struct BatchEnd<D: Disk> {
+    /// The desk. Its rounds are those that the batch published.
     pub desk: Desk<D>,
+    /// What came of each line. None: there was no memory before any line was asked, and the history is as it was.
     pub answers: Option<Answers>,
 }
 
@@ -34,7 +36,7 @@ pub struct BatchEnd<D: Disk> {
 /// afterwards they are those that the batch published.
 ///
 /// Each line that waits for its turn tries until it has it. Want of memory, a full act or a fault of the disk ends one line, and
-/// the next of its lane is served.
+/// the next of its lane is served. `LineEnd` says when each comes.
 pub fn run_batch<
     D: Disk + Send + Sync,
     R: Threads + Wait + Sync,
@@ -56,7 +58,7 @@ pub fn run_batch<
     desk.clear_rounds();
     let _book = desk.book();
     let requests = batch.requests();
-    let Ok(room) = Room::make(alloc, requests) else {
+    let Ok(room) = BatchRoom::make(alloc, requests) else {
         return BatchEnd {
             desk,
             answers: None,
@@ -92,7 +94,7 @@ fn serve_lanes<
     shared: Shared<D>,
     registrar: Registrar<Desk<D>>,
     requests: &[Request],
-    room: Room<D>,
+    room: BatchRoom<D>,
     solver: &S,
     gate: &G,
     pause: &P,
@@ -105,7 +107,7 @@ fn serve_lanes<
     ensures { HasServedAll D.seen (registrar_view registrar) result.0 requests.now result.1.items }
 {
     let mut registrar = registrar;
-    let Room {
+    let BatchRoom {
         places,
         mut lanes,
         mut seats,

@@ -1,0 +1,15 @@
+//! Tests of the turn lock, of a shared desk and of the lanes of a batch, in threads.
+//!
+//! They stand apart from the crates that they test, since a crate with tests is proved twice.
+#![tactic(auto)]
+
+#[cfg(test)]
+mod acts;
+#[cfg(test)]
+mod many;
+#[cfg(test)]
+mod rounds;
+#[cfg(test)]
+mod steps;
+#[cfg(test)]
+mod turns;
