@@ -22,7 +22,7 @@ use Rattle.lane_runner.specs.Batches.{HasRunBatch, base_cleared}
 use Rattle.printed_text.specs.Printing.{printed_of, unanswered}
 use Rattle.printed_text.specs.Writing.{IsWritten, broken, whole}
 use Rattle.batch_runs.specs.declared.tally.Tally.{Tally}
-use Rattle.batch_runs.specs.Runs.{Done, AreServed, all_added, end_status, some_device, some_end, status_by, text_of}
+use Rattle.batch_runs.specs.Runs.{Done, AreServed, all_added, end_status, run_status, some_device, some_end, text_of}
 use Rattle.batch_runs.specs.Serving.{HasRunBatches, HasSameOpening, IsTally, answers_of}
 use Rattle.batch_runs.proofs.Unasked.{unanswered_served}
 
@@ -184,12 +184,12 @@ module _ {D : Type 0} (seen : D → Seen) (first : DeskView D) (x : Option (List
     }
 
   -- all were served and written
-  pub ends : (last : DeskView D) (batches : List (List Request)) (y : Option (List ℕ)) (tally : Tally) (status : ℕ) → SoFar seen first x last batches y tally → status ≡ status_by tally.memory tally.device tally.full
+  pub ends : (last : DeskView D) (batches : List (List Request)) (y : Option (List ℕ)) (tally : Tally) (status : ℕ) → SoFar seen first x last batches y tally → status ≡ run_status tally.memory tally.device tally.full
       → HasRunBatches seen first last batches x y status
   ends last batches y tally status so is =
       let due : status ≡ end_status so.done =
-      is ∙ ap (λ (b : Bool). status_by b tally.device tally.full) so.told.memory ∙ ap (λ (b : Bool). status_by (some_end is_memory_end so.done) b tally.full) so.told.device
-      ∙ ap (λ (b : Bool). status_by (some_end is_memory_end so.done) (some_device so.done) b) so.told.full in
+      is ∙ ap (λ (b : Bool). run_status b tally.device tally.full) so.told.memory ∙ ap (λ (b : Bool). run_status (some_end is_memory_end so.done) b tally.full) so.told.device
+      ∙ ap (λ (b : Bool). run_status (some_end is_memory_end so.done) (some_device so.done) b) so.told.full in
       record {
         done = so.done;
         due = end_status so.done;

@@ -5,6 +5,7 @@ ghost use Rattle.fault_count.specs.Counts.{HasRisen, IsCounted};
 ghost use Rattle.claim_history.specs.Rounds.{cuts_after};
 ghost use Rattle.bureau_edge.specs.Streams.{AppendsPart};
 ghost use Rattle.printed_text.specs.Printing.{printed_of};
+ghost use Rattle.printed_text.specs.Writing.{output_bytes};
 ghost use Rattle.batch_runs.specs.Serving.{HasRunBatches, answers_of};
 
 use crate::tally::Tally;
@@ -37,12 +38,12 @@ pub fn print_added<K: Sink, D: Disk>(
     requires from { from ≤ length desk.now.history }
     requires rounds { desk.now.rounds ≡ cuts_after from desk.now.history }
     requires empty { buffer.old.items ≡ [] }
-    requires spare { 65536 ≤ vec_capacity buffer.old }
+    requires spare { output_bytes ≤ vec_capacity buffer.old }
     ensures ok { OnOk result (Appends (K.held sink.old) (K.held sink.new) (printed_of (take from desk.now.history) (drop from desk.now.history) answers.now)) }
     ensures emptied { OnOk result (buffer.new.items ≡ []) }
     ensures part { OnErr result (AppendsPart (K.held sink.old) (K.held sink.new) (printed_of (take from desk.now.history) (drop from desk.now.history) answers.now)) }
     ensures cause { IsCounted (K.faults sink.old) (K.faults sink.new) result }
-    ensures room { 65536 ≤ vec_capacity buffer.new }
+    ensures room { output_bytes ≤ vec_capacity buffer.new }
 {
     limits_hold();
     let history = desk.book().history();
@@ -63,12 +64,12 @@ fn print_served<K: Sink, D: Disk>(
     requires rounds { desk.now.rounds ≡ cuts_after from desk.now.history }
     requires unasked { answers.now ≡ None → drop from desk.now.history ≡ [] }
     requires empty { buffer.old.items ≡ [] }
-    requires spare { 65536 ≤ vec_capacity buffer.old }
+    requires spare { output_bytes ≤ vec_capacity buffer.old }
     ensures ok { OnOk result (Appends (K.held sink.old) (K.held sink.new) (printed_of (take from desk.now.history) (drop from desk.now.history) (answers_of requests.now answers.now))) }
     ensures emptied { OnOk result (buffer.new.items ≡ []) }
     ensures part { OnErr result (AppendsPart (K.held sink.old) (K.held sink.new) (printed_of (take from desk.now.history) (drop from desk.now.history) (answers_of requests.now answers.now))) }
     ensures cause { IsCounted (K.faults sink.old) (K.faults sink.new) result }
-    ensures room { 65536 ≤ vec_capacity buffer.new }
+    ensures room { output_bytes ≤ vec_capacity buffer.new }
 {
     match answers {
         Some(answers) => print_added(sink, buffer, desk, from, answers.list()),
@@ -98,7 +99,7 @@ pub fn run_batches<
     pause: &P,
 ) -> (u8, Desk<D>)
     requires empty { buffer.old.items ≡ [] }
-    requires spare { 65536 ≤ vec_capacity buffer.old }
+    requires spare { output_bytes ≤ vec_capacity buffer.old }
     ensures ran { HasRunBatches D.seen desk result.1 batches.now (K.held sink.old) (K.held sink.new) result.0 }
     ensures write_fault { result.0 ≡ 4 → HasRisen (K.faults sink.old) (K.faults sink.new) }
     ensures later { K.faults sink.old ≤ K.faults sink.new }

@@ -3,10 +3,10 @@ ghost use Rattle.std.specs.Prelude.{◌≡◌, ◌≤◌, ◌||◌, [], length, 
 ghost use Rattle.std.specs.List.{list_any};
 ghost use Rattle.claim_history.specs.Needs.{is_of_device};
 ghost use Rattle.served_lines.specs.Ends.{is_memory_end, is_full_end, has_line_end};
-ghost use Rattle.batch_runs.specs.Runs.{status_by};
+ghost use Rattle.batch_runs.specs.Runs.{run_status};
 ghost use Rattle.batch_runs.specs.Serving.{IsTally, answers_of};
 
-use claim_history::{Entry, Reply, Why};
+use claim_history::{Entry, tells_of_device};
 use lane_runner::Answers;
 use request_text::Request;
 use served_lines::{some_full, some_memory};
@@ -20,12 +20,6 @@ pub struct Tally {
     pub device: bool,
     /// A line was full.
     pub full: bool,
-}
-
-fn tells_of_device(reply: &Reply) -> bool
-    ensures { result ≡ is_of_device reply.now }
-{
-    matches!(reply, Reply::Refused(Why::Device { .. }))
 }
 
 /// Whether some entry tells of a device.
@@ -88,7 +82,7 @@ impl Tally {
     /// The status: 9 where there was no memory for a line, else 5 where an entry tells of a device, else 7 where a line was full,
     /// else 0.
     pub fn status(self) -> u8
-        ensures { result ≡ status_by self.memory self.device self.full }
+        ensures { result ≡ run_status self.memory self.device self.full }
     {
         if self.memory {
             9

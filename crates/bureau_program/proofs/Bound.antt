@@ -2,10 +2,10 @@
 use Rattle.std.specs.Prelude.{cond, map, reverse}
 use Rattle.std.specs.List.{sum_by}
 use Rattle.std.specs.Str.Lines.{lines}
-use Rattle.std.proofs.Common.{◌≡◌, ◌∙◌, ⊎_elim, ℕ, zero, suc, ◌+◌, ◌*◌, ◌≤◌, Bool, true, false, ◌||◌, List, All, [], ◌∷◌, ◌++◌, length, refl, sym, ap, subst, append_assoc, true≢false, arith}
-use Rattle.std.proofs.lemmas.List.{length-append, length-map, reverse-append}
+use Rattle.std.proofs.Common.{◌≡◌, ◌∙◌, ⊎_elim, ℕ, zero, suc, ◌+◌, ◌*◌, ◌≤◌, Bool, true, false, List, [], ◌∷◌, ◌++◌, length, refl, sym, ap, subst, true≢false, arith}
+use Rattle.std.proofs.lemmas.List.{length-append, length-map}
 use Rattle.std.proofs.lemmas.List.Concat.{flat_map-append, flat_map-cons}
-use Rattle.std.proofs.lemmas.List.Elements.{All-cons, All-nil, All-tail}
+use Rattle.std.proofs.lemmas.List.Elements.{All-cons, All-nil}
 use Rattle.std.proofs.lemmas.List.Sorted.{IsPermutation-reverse, sum_by-IsPermutation}
 use Rattle.std.proofs.lemmas.List.Sums.{sum_by-append, sum_by-cons}
 use Rattle.std.proofs.Math.Nat.{mul-le-mul_right}
@@ -15,11 +15,10 @@ use Rattle.claim_history.specs.declared.act.Act.{Act}
 use Rattle.claim_history.specs.declared.act.Act.TheVariants as act
 use Rattle.claim_history.specs.declared.entry.Entry.{Entry}
 use Rattle.claim_history.specs.declared.entry.Reply.TheVariants as reply
-use Rattle.claim_history.specs.Acts.{is_filing, is_registration, is_request, is_valid}
-use Rattle.claim_history.specs.History.{AreValid, Call, IsLegal, IsLegalPast, answer, ask, replay_after}
+use Rattle.claim_history.specs.Acts.{is_filing, is_registration, is_request}
+use Rattle.claim_history.specs.History.{AreValid, Call, IsLegal, answer, ask, replay_after}
 use Rattle.claim_history.specs.States.{state}
 use Rattle.claim_history.specs.Needs.{record_length_of, used_bytes_of, used_entries_of}
-use Rattle.claim_history.proofs.Pasts.{legal_rest}
 use Rattle.claim_history.proofs.Room.{calls_law, use_law}
 use Rattle.request_text.specs.declared.request.Request.{Request}
 use Rattle.request_text.specs.Grammar.{AreBatches, IsRequestText}
@@ -27,13 +26,12 @@ use Rattle.round_journal.specs.Opened.{AreFound, OneRecords}
 use Rattle.round_journal.specs.declared.record.Record.{Record}
 use Rattle.journal_replay.specs.Replays.{AreSound, call_of, history_of}
 use Rattle.recorded_book.specs.Acting.{IsOpenedHistory, entry_of}
-use Rattle.served_lines.specs.declared.answer.Answer.{Answer}
 use Rattle.served_lines.specs.Bound.{AreRequests, IsWithinBound, claims_with, closes, endings_with, firms_with}
-use Rattle.served_lines.specs.Ends.{has_line_end, is_full_end, is_memory_end}
-use Rattle.served_lines.proofs.Bound.{bound_law}
-use Rattle.batch_runs.specs.Runs.{Done, AreServed, all_added, some_device, some_end, status_by}
+use Rattle.served_lines.specs.Ends.{is_full_end, is_memory_end}
+use Rattle.batch_runs.specs.Runs.{Done, AreServed, all_added, requests_of, run_status, some_device, some_end}
+use Rattle.batch_runs.proofs.Bound.{asked_by, none_asked, none_full}
 use Rattle.bureau_program.specs.Headline.{IsHeadline}
-use Rattle.bureau_program.specs.Completeness.{HasRoomForAll, HoldsSound, claims_asked, firms_asked, requests_of}
+use Rattle.bureau_program.specs.Completeness.{HasRoomForAll, HoldsSound, claims_asked, firms_asked}
 
 -- ---- the requests of an input
 
@@ -46,53 +44,6 @@ all_asked number (line ∷ lines) ((r ∷ requests) ∷ batches) h =
     let more : AreRequests (requests ++ requests_of batches) =
     subst AreRequests (flat_map-cons (λ (b : List Request). b) requests batches) (all_asked (number + 1) lines (requests ∷ batches) h.2) in
     subst AreRequests (sym (flat_map-cons (λ (b : List Request). b) (r ∷ requests) batches)) (All-cons (λ (x : Request). is_request x.act ≡ true) r (requests ++ requests_of batches) h.1.valid more)
-
--- ---- the batches of a run
-
-abbrev asked_by : List Done → List Request
-asked_by done = requests_of (map (λ b. b.requests) done)
-
-asked_more : (b : Done) (bs : List Done) → asked_by (b ∷ bs) ≡ b.requests ++ asked_by bs
-asked_more b bs = flat_map-cons (λ (l : List Request). l) b.requests (map (λ (x : Done). x.requests) bs)
-
-added_more : (b : Done) (bs : List Done) → all_added (b ∷ bs) ≡ b.added ++ all_added bs
-added_more b bs = flat_map-cons (λ (x : Done). x.added) b bs
-
-legal_front : (history more : List Entry) → IsLegal (history ++ more) → IsLegal history
-legal_front history more legal = legal_rest (reverse more) (reverse history) (subst IsLegalPast (reverse-append history more) legal)
-
-All-second : {X : Type 0} (P : X → Type 0) (xs ys : List X) → All P (xs ++ ys) → All P ys
-All-second P [] ys h = h
-All-second P (x ∷ xs) ys h = All-second P xs ys (All-tail P x (xs ++ ys) h)
-
--- no line of them is full
-none_full : (before : List Entry) (done : List Done) (rest : List Request) → AreServed before done → IsLegal (before ++ all_added done) → AreValid (before ++ all_added done) → AreRequests (asked_by done) → IsWithinBound before (asked_by done ++ rest)
-    → some_end is_full_end done ≡ false
-none_full before [] rest served legal valid are bound = refl
-none_full before (b ∷ bs) rest served legal valid are bound =
-    let whole : before ++ all_added (b ∷ bs) ≡ (before ++ b.added) ++ all_added bs = ap (λ (l : List Entry). before ++ l) (added_more b bs) ∙ sym (append_assoc before b.added (all_added bs)) in
-    let requests : AreRequests (b.requests ++ asked_by bs) = subst AreRequests (asked_more b bs) are in
-    let room : IsWithinBound before (b.requests ++ (asked_by bs ++ rest)) =
-    subst (IsWithinBound before) (ap (λ (l : List Request). l ++ rest) (asked_more b bs) ∙ append_assoc b.requests (asked_by bs) rest) bound in
-    let legal_all = subst IsLegal whole legal in
-    let valid_all = subst AreValid whole valid in
-    let here = bound_law b.requests (asked_by bs ++ rest) b.answers before b.added served.0 (legal_front (before ++ b.added) (all_added bs) legal_all)
-    (All-first (λ (e : Entry). is_valid e.act ≡ true) (before ++ b.added) (all_added bs) valid_all) (All-first (λ (r : Request). is_request r.act ≡ true) b.requests (asked_by bs) requests) room in
-    ap (λ (c : Bool). c || some_end is_full_end bs) here.0
-    ∙ none_full (before ++ b.added) bs rest served.1 legal_all valid_all (All-second (λ (r : Request). is_request r.act ≡ true) b.requests (asked_by bs) requests) here.1
-
--- where nothing is asked there is no answer
-no_answers : (requests : List Request) (answers : List Answer) → map (λ a. a.line) answers ≡ map (λ r. r.line) requests → length requests ≡ 0 → has_line_end is_full_end answers ≡ false
-no_answers requests [] same none = refl
-no_answers [] (a ∷ answers) same none = absurd (cc same)
-no_answers (r ∷ requests) (a ∷ answers) same none = absurd (omega (arith, none))
-
-none_asked : (before : List Entry) (done : List Done) → AreServed before done → length (asked_by done) ≡ 0 → some_end is_full_end done ≡ false
-none_asked before [] served none = refl
-none_asked before (b ∷ bs) served none =
-    let long : length (asked_by (b ∷ bs)) ≡ length b.requests + length (asked_by bs) = ap (λ (l : List Request). length l) (asked_more b bs) ∙ length-append b.requests (asked_by bs) in
-    ap (λ (c : Bool). c || some_end is_full_end bs) (no_answers b.requests b.answers served.0.answered (omega (arith, none, long)))
-    ∙ none_asked (before ++ b.added) bs served.1 (omega (arith, none, long))
 
 -- ---- the history of an opening
 
@@ -158,7 +109,7 @@ opening_bound records begun requests uses room some =
 
 -- ---- a run
 
-seven_by : (memory device full : Bool) → status_by memory device full ≡ 7 → full ≡ true
+seven_by : (memory device full : Bool) → run_status memory device full ≡ 7 → full ≡ true
 seven_by true device full is = absurd (omega (arith, is))
 seven_by false true full is = absurd (omega (arith, is))
 seven_by false false true is = refl

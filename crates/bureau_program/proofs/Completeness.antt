@@ -32,13 +32,13 @@ use Rattle.command_words.specs.declared.command.Command.TheVariants.{Run, Check,
 use Rattle.command_words.specs.Words.{AreWordsOf, OneCommandLaw}
 use Rattle.desk_text.specs.Texts.{opening_status, opening_text, sound_text, unsound_status, unsound_text}
 use Rattle.printed_text.specs.Writing.{IsWritten, whole, broken}
-use Rattle.batch_runs.specs.Runs.{some_device, some_end, status_by}
+use Rattle.batch_runs.specs.Runs.{run_status, some_device, some_end}
 use Rattle.bureau_reports.specs.Reports.{IsAuditDue, IsCheckDue, IsImportDue, IsTableDue, bad_row, bad_statement, imported, judged, no_audit_memory, no_book, no_import_memory, no_statement_memory, no_table_memory, sound, table, unsound}
 use Rattle.bureau_reports.proofs.Viewed.{viewed}
 use Rattle.bureau_program.specs.Headline.{IsHeadline}
 use Rattle.bureau_program.proofs.Bound.{input_asked, none_full_by}
 use Rattle.bureau_program.specs.Due.{IsBadLineDue, IsBatchesDue, IsCommandDue, IsDue, IsReadDue, IsRunDue, IsTrialDue, Ran, asked, bad_line, bad_words, batches_read, input_read, no_input_memory, no_line_memory, no_output_memory, no_request_memory, no_words_memory, not_opened, not_read, read_fault, served, too_long, tried, no_trial_memory}
-use Rattle.bureau_program.specs.Completeness.{Completes, HoldsSound, IsAllServed, IsComplete, IsImported, IsJudged, IsToldOf, IsTried, IsWholeInput, all_written, no_memory}
+use Rattle.bureau_program.specs.Completeness.{Completes, HoldsSound, IsAllServed, IsComplete, IsImported, IsJudged, IsToldOf, IsTrialTold, IsWholeInput, all_written, no_memory}
 
 -- the status and the text that are due: a failure, want of memory, or what is done
 abbrev Ends : (ℕ → Type 0) → (ℕ → List ℕ → Type 0) → ℕ → List ℕ → Type 0
@@ -81,7 +81,7 @@ unsound_ends Done disk low high has (Overfull offset) h = absurd (no_fault disk 
 -- ---- what an input or a disk comes to
 
 module _ {D : Type 0} (seen : D → Seen) (old new : D) (batches : List (List Request)) where
-  by_status : (memory device full : Bool) (status : ℕ) (text : List ℕ) → status ≡ status_by memory device full → IsHeadline seen old new batches status text → Ends RunFailed (IsAllServed seen old new batches) status text
+  by_status : (memory device full : Bool) (status : ℕ) (text : List ℕ) → status ≡ run_status memory device full → IsHeadline seen old new batches status text → Ends RunFailed (IsAllServed seen old new batches) status text
   by_status true device full status text is h = inr (inl is)
   by_status false true full status text is h = inl (inr (inr is))
   by_status false false true status text is h = inr (inr (inr is, h))
@@ -133,8 +133,8 @@ table_ends text_of disk high has status text (table history is) = inr (inr (hist
 table_ends text_of disk high has status text (no_book cause h) =
     refused_ends DiskFailed (IsToldOf (λ history. text_of (ledger_of history)) disk.tells disk.reads) disk disk.count high has refl cause (viewed disk.tells disk.reads disk.count high cause h)
 
-trial_ends : (firms claims seed : ℕ) (status : ℕ) (text : List ℕ) → IsTrialDue firms claims seed status text → Ends (λ (n : ℕ). ⊥) (IsTried firms claims seed) status text
-trial_ends firms claims seed status text no_trial_memory = no_room (λ (n : ℕ). ⊥) (IsTried firms claims seed) text
+trial_ends : (firms claims seed : ℕ) (status : ℕ) (text : List ℕ) → IsTrialDue firms claims seed status text → Ends (λ (n : ℕ). ⊥) (IsTrialTold firms claims seed) status text
+trial_ends firms claims seed status text no_trial_memory = no_room (λ (n : ℕ). ⊥) (IsTrialTold firms claims seed) text
 trial_ends firms claims seed status text (tried line is) = inr (inr (refl, is))
 
 -- ---- what a source comes to
@@ -230,5 +230,5 @@ completes one one_records left seen words told source source' disk disk' x y Rea
           due DiskFailed (IsToldOf (λ history. notices_text today (ledger_of history)) (seen disk).tells (seen disk).reads) (Notices today) notices
           (λ s t d. table_ends (notices_text today) (seen disk) (seen disk').count has s t d.2) (λ e. no_rise (risen e)) no_write;
       of_trial = λ firms claims seed trial no_write.
-          due (λ (n : ℕ). ⊥) (IsTried firms claims seed) (Trial firms claims seed) trial (λ s t d. trial_ends firms claims seed s t d.2) (λ e. e) no_write;
+          due (λ (n : ℕ). ⊥) (IsTrialTold firms claims seed) (Trial firms claims seed) trial (λ s t d. trial_ends firms claims seed s t d.2) (λ e. e) no_write;
     }

@@ -4,4 +4,10 @@ pub mod Commands
 pub mod Served
 pub mod Bound
 pub mod Completeness
-pub mod Causes
+pub mod Statuses
+pub mod Inputs
+pub mod InputCauses
+pub mod JournalCauses
+pub mod RunCauses
+pub mod ComesWhere
+pub mod ComesOnly

@@ -1,6 +1,6 @@
 -- What a call ends with where no source, sink or disk fails, and where no line is full.
 use Rattle.std.specs.Prelude.{◌≡◌, ◌≢◌, ◌⊎◌, ℕ, ◌+◌, ◌*◌, ◌≤◌, Bool, List, length, count_by, Option, Some, IsTrue}
-use Rattle.std.specs.List.{flat_map, sum_by}
+use Rattle.std.specs.List.{sum_by}
 use Rattle.std.specs.Io.KnownBytes.{Appends}
 use Rattle.std.specs.Str.Lines.{lines}
 use Rattle.fault_count.specs.Counts.{HasRisen}
@@ -29,6 +29,7 @@ use Rattle.command_words.specs.declared.command.Command.TheVariants.{Run, Check,
 use Rattle.command_words.specs.Words.{AreWordsOf}
 use Rattle.desk_text.specs.Texts.{sound_text}
 use Rattle.printed_text.specs.Texts.{verdict_text, verdict_status}
+use Rattle.batch_runs.specs.Runs.{requests_of}
 use Rattle.trial_round.specs.Trial.{IsTrialText}
 use Rattle.bureau_program.specs.Headline.{IsHeadline}
 
@@ -65,8 +66,8 @@ abbrev pub IsImported : ℕ → List Act → ℕ → List ℕ → Type 0
 IsImported lane filings status text = (status ≡ 0) × (text ≡ import_text lane filings)
 
 -- the line of a trial
-abbrev pub IsTried : ℕ → ℕ → ℕ → ℕ → List ℕ → Type 0
-IsTried firms claims seed status text = (status ≡ 0) × IsTrialText firms claims seed text
+abbrev pub IsTrialTold : ℕ → ℕ → ℕ → ℕ → List ℕ → Type 0
+IsTrialTold firms claims seed status text = (status ≡ 0) × IsTrialText firms claims seed text
 
 -- it was done, and the sink took its whole text; or memory was missing
 pub data IsComplete (IsDone : ℕ → List ℕ → Type 0) (held_old held_new : Option (List ℕ)) : ℕ → Type 0 where
@@ -74,10 +75,6 @@ pub data IsComplete (IsDone : ℕ → List ℕ → Type 0) (held_old held_new : 
   no_memory : IsComplete IsDone held_old held_new 9
 
 -- ---- the bound under which no line is full
-
--- the requests of all batches
-abbrev pub requests_of : List (List Request) → List Request
-requests_of batches = flat_map (λ batch. batch) batches
 
 -- the bytes of a journal of these records: 8 at its head, and theirs
 abbrev pub journal_bytes : List Record → ℕ
@@ -115,4 +112,4 @@ pub record Completes {D : Type 0} (seen : D → Seen) (words : List (List ℕ)) 
       → (WriteFault → ⊥) → (HasRisen (seen old).count (seen new).count → ⊥) → IsComplete (IsToldOf (λ history. positions_text (ledger_of history)) (seen old).tells (seen old).reads) held_old held_new status
   pub of_notices : (today : ℕ) → AreWordsOf (Notices today) words → HoldsSound (seen old)
       → (WriteFault → ⊥) → (HasRisen (seen old).count (seen new).count → ⊥) → IsComplete (IsToldOf (λ history. notices_text today (ledger_of history)) (seen old).tells (seen old).reads) held_old held_new status
-  pub of_trial : (firms claims seed : ℕ) → AreWordsOf (Trial firms claims seed) words → (WriteFault → ⊥) → IsComplete (IsTried firms claims seed) held_old held_new status
+  pub of_trial : (firms claims seed : ℕ) → AreWordsOf (Trial firms claims seed) words → (WriteFault → ⊥) → IsComplete (IsTrialTold firms claims seed) held_old held_new status

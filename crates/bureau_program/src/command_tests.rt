@@ -1,11 +1,11 @@
 //! Words, the tables of a journal, invoices, and a day of forty firms.
-use crate::journal_tests::{TRIANGLE, ended_on};
+use crate::journal_tests::TRIANGLE;
+use crate::tests::{disk_of, ended_on};
 use std::alloc::{AllocError, Global};
-use std::test::Fail;
 
 // Words that are no command. The source and the disk are not called.
 #[test]
-fn words_of_no_command(rt: HostRuntime) -> Result<(), Fail> {
+fn words_of_no_command(rt: HostRuntime) {
     let cases: [&[&str]; 14] = [
         &[],
         &["RUN"],
@@ -23,17 +23,28 @@ fn words_of_no_command(rt: HostRuntime) -> Result<(), Fail> {
         &["trial", "1", "1", "1"],
     ];
     for texts in cases {
-        let ended = ended_on(&rt, rt.alloc(), texts, b"1 FIRM A\n", b"", 0)?;
+        let ended = ended_on(
+            &rt,
+            rt.alloc(),
+            texts,
+            b"1 FIRM A\n",
+            disk_of(&rt, rt.alloc(), b"", 0),
+        );
         assert!(rt; ended.status == 2);
         assert!(rt; ended.sink.bytes() == b"fault words\n".as_slice());
         assert!(rt; ended.disk.moment() == 0);
     }
-    Ok(())
 }
 
 #[test]
-fn tables_of_the_triangle(rt: HostRuntime) -> Result<(), Fail> {
-    let day = ended_on(&rt, rt.alloc(), &["run"], TRIANGLE, b"", 0)?;
+fn tables_of_the_triangle(rt: HostRuntime) {
+    let day = ended_on(
+        &rt,
+        rt.alloc(),
+        &["run"],
+        TRIANGLE,
+        disk_of(&rt, rt.alloc(), b"", 0),
+    );
     let cases: [(&[&str], &[u8]); 2] = [
         (
             &["notices", "2026-01-10"],
@@ -45,17 +56,22 @@ fn tables_of_the_triangle(rt: HostRuntime) -> Result<(), Fail> {
         ),
     ];
     for (texts, output) in cases {
-        let told = ended_on(&rt, rt.alloc(), texts, b"", day.disk.bytes(), 0)?;
+        let told = ended_on(
+            &rt,
+            rt.alloc(),
+            texts,
+            b"",
+            disk_of(&rt, rt.alloc(), day.disk.bytes(), 0),
+        );
         assert!(rt; told.status == 0);
         assert!(rt; told.sink.bytes() == output);
         assert!(rt; told.disk.bytes() == day.disk.bytes());
     }
-    Ok(())
 }
 
 // The total of the larger trial was found by a min-cost-flow solver.
 #[test]
-fn trials(rt: HostRuntime) -> Result<(), Fail> {
+fn trials(rt: HostRuntime) {
     let cases: [(&[&str], &[u8]); 2] = [
         (
             &["trial", "2", "2", "1"],
@@ -67,12 +83,17 @@ fn trials(rt: HostRuntime) -> Result<(), Fail> {
         ),
     ];
     for (texts, output) in cases {
-        let told = ended_on(&rt, rt.alloc(), texts, b"", b"", 0)?;
+        let told = ended_on(
+            &rt,
+            rt.alloc(),
+            texts,
+            b"",
+            disk_of(&rt, rt.alloc(), b"", 0),
+        );
         assert!(rt; told.status == 0);
         assert!(rt; told.sink.bytes() == output);
         assert!(rt; told.disk.moment() == 0);
     }
-    Ok(())
 }
 
 // ---- a day of forty firms on a circle
@@ -136,27 +157,37 @@ fn count_to(text: &[u8], end: &[u8]) -> usize {
 }
 
 #[test]
-fn a_day_of_forty_firms(rt: HostRuntime) -> Result<(), Fail> {
-    let invoices = invoices(rt.alloc())?;
+fn a_day_of_forty_firms(rt: HostRuntime) {
+    let invoices = invoices(rt.alloc()).expect(&rt, "memory");
     let filed = ended_on(
         &rt,
         rt.alloc(),
         &["import", "1"],
         invoices.as_slice(),
-        b"",
-        0,
-    )?;
+        disk_of(&rt, rt.alloc(), b"", 0),
+    );
     assert!(rt; filed.status == 0);
     assert!(rt; count_of(filed.sink.bytes(), b"1 FILE F-") == 300);
-    let requests = requests(rt.alloc(), filed.sink.bytes())?;
-    let day = ended_on(&rt, rt.alloc(), &["run"], requests.as_slice(), b"", 0)?;
+    let requests = requests(rt.alloc(), filed.sink.bytes()).expect(&rt, "memory");
+    let day = ended_on(
+        &rt,
+        rt.alloc(),
+        &["run"],
+        requests.as_slice(),
+        disk_of(&rt, rt.alloc(), b"", 0),
+    );
     assert!(rt; day.status == 0);
     assert!(rt; count_to(day.sink.bytes(), b" = ok") == 643);
     assert!(rt; count_of(day.sink.bytes(), b"PARTY ") == 40);
     assert!(rt; count_of(day.sink.bytes(), b"CLAIM ") == 299);
     assert!(rt; count_of(day.sink.bytes(), b"1 PUBLISH 1 = published 25950.00") == 1);
-    let told = ended_on(&rt, rt.alloc(), &["positions"], b"", day.disk.bytes(), 0)?;
+    let told = ended_on(
+        &rt,
+        rt.alloc(),
+        &["positions"],
+        b"",
+        disk_of(&rt, rt.alloc(), day.disk.bytes(), 0),
+    );
     assert!(rt; count_of(told.sink.bytes(), b"F-1,0.00,") == 1);
     assert!(rt; count_of(told.sink.bytes(), b"F-40,50.00,") == 1);
-    Ok(())
 }

@@ -1,39 +1,27 @@
 //! One failing call at a time, and counts of faults at their last value.
 
-use crate::tests::{is_like, new_disk, program, words_of};
-use crate::top::Ended;
-use bureau_edge::{BytesSink, BytesSource, SureSource};
+use crate::journal_tests::TRIANGLE;
+use crate::tests::{
+    FOUR_LINES, disk_of, ended_on, failing_source, is_like, new_disk, program, sink_of, text_with,
+};
 use disk_model::MemoryDisk;
 use std::alloc::{AllocError, Global};
+use std::process::Abort;
 use std::sync::Wait;
-use std::test::Fail;
 use std::thread::Threads;
 
-// Three claims in a circle, and a Close: eleven acts.
-const TRIANGLE: &[u8] =
-    b"1 FIRM A\n1 FIRM B\n1 FIRM C\n1 FILE B I-1 A 10.00 2025-01-31\n1 FILE C I-2 B 7.00 2025-01-31\n1 FILE A I-3 C 12.00 2025-01-31\n1 CONFIRM B I-1 A\n1 CONFIRM C I-2 B\n1 CONFIRM A I-3 C\n1 CLOSE PLAIN 2025-12-31\n";
-
-// What the program ends with for a word and an input on this disk.
-fn ended_on<R: Threads + Wait + Sync>(
-    rt: &R,
-    alloc: Global,
-    word: &str,
-    input: &[u8],
-    disk: MemoryDisk,
-) -> Result<Ended<SureSource, BytesSink, MemoryDisk>, AllocError> {
-    let source = SureSource::new(Vec::from_slice(alloc, input)?);
-    let sink = BytesSink::new(alloc, Vec::new(alloc));
-    Ok(program(rt, alloc, words_of(alloc, &[word])?, source, sink, disk))
-}
-
-fn audit_line<R: Threads + Wait + Sync>(
+// Whether an audit of a journal prints this line, or some line of a sound journal where none is given.
+fn is_audited<R: Abort + Threads + Wait + Sync>(
     rt: &R,
     alloc: Global,
     bytes: &[u8],
-) -> Result<Vec<u8>, AllocError> {
-    let disk = MemoryDisk::new(alloc, Vec::from_slice(alloc, bytes)?, Vec::new(alloc));
-    let audit = ended_on(rt, alloc, "audit", b"", disk)?;
-    Vec::from_slice(alloc, audit.sink.bytes())
+    line: Option<&[u8]>,
+) -> bool {
+    let audit = ended_on(rt, alloc, &["audit"], b"", disk_of(rt, alloc, bytes, 0));
+    match line {
+        Some(line) => audit.sink.bytes() == line,
+        None => audit.sink.bytes().starts_with(b"yes acts "),
+    }
 }
 
 // How many lines end with a text, and the last of them among the lines, from 1; 0 where there is none.
@@ -67,11 +55,15 @@ fn verdict_after(call: u64) -> Option<&'static [u8]> {
 
 // The opening has four calls of the disk and each act four. One of them fails.
 #[test]
-fn each_call_of_the_triangle_fails(rt: HostRuntime) -> Result<(), Fail> {
+fn each_call_of_the_triangle_fails(rt: HostRuntime) {
     for call in 1..=48 {
-        let fails = Vec::from_slice(rt.alloc(), &[call])?;
-        let disk = MemoryDisk::new(rt.alloc(), Vec::new(rt.alloc()), fails);
-        let ended = ended_on(&rt, rt.alloc(), "run", TRIANGLE, disk)?;
+        let ended = ended_on(
+            &rt,
+            rt.alloc(),
+            &["run"],
+            TRIANGLE,
+            disk_of(&rt, rt.alloc(), b"", call),
+        );
         assert!(rt; ended.status == 5);
         let output = ended.sink.bytes();
         if call <= 4 {
@@ -81,26 +73,20 @@ fn each_call_of_the_triangle_fails(rt: HostRuntime) -> Result<(), Fail> {
             let (times, line) = lines_with(output, b" = refused 18 device 0 1");
             assert!(rt; times == 1);
             assert!(rt; line == entry);
-            let verdict = audit_line(&rt, rt.alloc(), ended.disk.bytes())?;
-            assert!(rt; verdict.starts_with(b"yes acts "));
-            if let Some(exactly) = verdict_after(call) {
-                assert!(rt; verdict.as_slice() == exactly);
-            }
+            assert!(rt; is_audited(&rt, rt.alloc(), ended.disk.bytes(), verdict_after(call)));
         }
     }
-    Ok(())
 }
 
 // The last line of the triangle three times, on a disk whose count of faults reaches its last value.
 #[test]
-fn the_count_of_faults_stands_still(rt: HostRuntime) -> Result<(), Fail> {
-    let mut input = Vec::from_slice(rt.alloc(), TRIANGLE)?;
-    for _ in 0..2 {
-        input.extend_from_slice(b"1 CLOSE PLAIN 2025-12-31\n")?;
-    }
-    let fails = Vec::from_slice(rt.alloc(), &[48, 58])?;
+fn the_count_of_faults_stands_still(rt: HostRuntime) {
+    let input = text_with(rt.alloc(), TRIANGLE, b"1 CLOSE PLAIN 2025-12-31\n", 2).expect(
+        &rt, "memory",
+    );
+    let fails = Vec::from_slice(rt.alloc(), &[48, 58]).expect(&rt, "memory");
     let disk = MemoryDisk::with_faults(rt.alloc(), Vec::new(rt.alloc()), fails, u64::MAX - 1);
-    let ended = ended_on(&rt, rt.alloc(), "run", input.as_slice(), disk)?;
+    let ended = ended_on(&rt, rt.alloc(), &["run"], input.as_slice(), disk);
     assert!(rt; ended.status == 5);
     assert!(rt;
         is_like(
@@ -109,44 +95,46 @@ fn the_count_of_faults_stands_still(rt: HostRuntime) -> Result<(), Fail> {
         )
     );
     assert!(rt; ended.disk.bytes().len() == 292);
-    let verdict = audit_line(&rt, rt.alloc(), ended.disk.bytes())?;
-    assert!(rt; verdict.as_slice() == b"yes acts 13 rounds 1\n".as_slice());
-    Ok(())
+    assert!(rt;
+        is_audited(
+            &rt,
+            rt.alloc(),
+            ended.disk.bytes(),
+            Some(b"yes acts 13 rounds 1\n")
+        )
+    );
 }
-
-const FOUR_LINES: &[u8] =
-    b"1 FIRM A\n1 FIRM B\n1 FILE B I-1 A 10.00 2025-01-31\n1 CONFIRM B I-1 A\n";
 
 // Where the source fails the disk is not called; where the sink fails the acts are on the disk all the same.
 #[test]
-fn a_source_and_a_sink_fail(rt: HostRuntime) -> Result<(), Fail> {
+fn a_source_and_a_sink_fail(rt: HostRuntime) {
     let cases: [(u64, u64, u8, &[u8], u64, &[u8]); 2] = [
         (1, 0, 3, b"fault read\n", 0, b"yes acts 0 rounds 0\n"),
         (0, 1, 4, b"", 20, b"yes acts 4 rounds 0\n"),
     ];
     for (read, write, status, output, calls, verdict) in cases {
-        let input = Vec::from_slice(rt.alloc(), FOUR_LINES)?;
-        let source = BytesSource::new(input, Vec::from_slice(rt.alloc(), &[read])?);
-        let sink = BytesSink::new(rt.alloc(), Vec::from_slice(rt.alloc(), &[write])?);
-        let words = words_of(rt.alloc(), &["run"])?;
-        let ended = program(&rt, rt.alloc(), words, source, sink, new_disk(rt.alloc()));
+        let source = failing_source(&rt, rt.alloc(), FOUR_LINES, read);
+        let sink = sink_of(&rt, rt.alloc(), write);
+        let ended = program(
+            &rt,
+            rt.alloc(),
+            &["run"],
+            source,
+            sink,
+            new_disk(rt.alloc()),
+        );
         assert!(rt; ended.status == status);
         assert!(rt; ended.sink.bytes() == output);
         assert!(rt; ended.disk.moment() == 2 * calls);
-        let told = audit_line(&rt, rt.alloc(), ended.disk.bytes())?;
-        assert!(rt; told.as_slice() == verdict);
+        assert!(rt; is_audited(&rt, rt.alloc(), ended.disk.bytes(), Some(verdict)));
     }
-    Ok(())
 }
 
 const POSITION: &[u8] = b"1 POSITION Z\n";
 
 // So many lines of positions, then a Close and one more position.
 fn positions_and_close(alloc: Global, positions: usize) -> Result<Vec<u8>, AllocError> {
-    let mut input = Vec::new(alloc);
-    for _ in 0..positions {
-        input.extend_from_slice(POSITION)?;
-    }
+    let mut input = text_with(alloc, b"", POSITION, positions)?;
     input.extend_from_slice(b"1 CLOSE PLAIN 2025-12-31\n")?;
     input.extend_from_slice(POSITION)?;
     Ok(input)
@@ -155,7 +143,7 @@ fn positions_and_close(alloc: Global, positions: usize) -> Result<Vec<u8>, Alloc
 // Where the history has room for a Close but not for the end of its round, the Close is full; with one entry less before it the
 // round is published.
 #[test]
-fn a_history_gets_full(rt: HostRuntime) -> Result<(), Fail> {
+fn a_history_gets_full(rt: HostRuntime) {
     let cases: [(usize, u8, &[u8]); 2] = [
         (
             1_048_574,
@@ -169,18 +157,17 @@ fn a_history_gets_full(rt: HostRuntime) -> Result<(), Fail> {
         ),
     ];
     for (positions, status, end) in cases {
-        let input = positions_and_close(rt.alloc(), positions)?;
+        let input = positions_and_close(rt.alloc(), positions).expect(&rt, "memory");
         let ended = ended_on(
             &rt,
             rt.alloc(),
-            "run",
+            &["run"],
             input.as_slice(),
             new_disk(rt.alloc()),
-        )?;
+        );
         assert!(rt; ended.status == status);
         assert!(rt; ended.sink.bytes().ends_with(end));
         let (refused, _) = lines_with(ended.sink.bytes(), b" = refused 3 unknown-firm");
         assert!(rt; refused == (positions as u64).wrapping_add(1));
     }
-    Ok(())
 }

@@ -1,10 +1,7 @@
-use crate::tests::{is_like, program, words_of};
-use crate::top::Ended;
-use bureau_edge::{BytesSink, SureSource};
-use disk_model::MemoryDisk;
+use crate::tests::{disk_of, ended_on, is_like};
 use std::alloc::{AllocError, Global};
+use std::process::Abort;
 use std::sync::Wait;
-use std::test::Fail;
 use std::thread::Threads;
 
 // The header, and the record of the act `1 FIRM A`.
@@ -30,25 +27,6 @@ const PUBLISHED_LATER: &[u8] =
 const NOT_PUBLISHED: &[u8] =
     b"1 FIRM A = ok\n1 FIRM B = ok\n1 FIRM C = ok\n1 FILE B I-1 A 10.00 2025-01-31 = ok\n1 FILE C I-2 B 7.00 2025-01-31 = ok\n1 FILE A I-3 C 12.00 2025-01-31 = ok\n1 CONFIRM B I-1 A = ok\n1 CONFIRM C I-2 B = ok\n1 CONFIRM A I-3 C = ok\n1 CLOSE PLAIN 2025-12-31 = opened 1\n1 PUBLISH 1 = refused 18 device 0 1\n";
 
-// What the program ends with for words and an input, on a disk with these bytes, of whose calls one fails.
-pub(crate) fn ended_on<R: Threads + Wait + Sync>(
-    rt: &R,
-    alloc: Global,
-    texts: &[&str],
-    input: &[u8],
-    bytes: &[u8],
-    fails: u64,
-) -> Result<Ended<SureSource, BytesSink, MemoryDisk>, AllocError> {
-    let source = SureSource::new(Vec::from_slice(alloc, input)?);
-    let sink = BytesSink::new(alloc, Vec::new(alloc));
-    let disk = MemoryDisk::new(
-        alloc,
-        Vec::from_slice(alloc, bytes)?,
-        Vec::from_slice(alloc, &[fails])?,
-    );
-    Ok(program(rt, alloc, words_of(alloc, texts)?, source, sink, disk))
-}
-
 // A word, an input, the bytes of a disk and the call that fails; the status, the output with ? for each price, the bytes of the
 // journal then, and how many calls the disk had.
 type Case = (
@@ -63,7 +41,7 @@ type Case = (
 );
 
 #[test]
-fn journals(rt: HostRuntime) -> Result<(), Fail> {
+fn journals(rt: HostRuntime) {
     let cases: [Case; 14] = [
         ("run", b"", b"", 0, 0, b"", 9, 4),
         ("run", TRIANGLE, b"", 0, 0, TRIANGLE_DONE, 262, 48),
@@ -162,19 +140,24 @@ fn journals(rt: HostRuntime) -> Result<(), Fail> {
         ),
     ];
     for (word, input, bytes, fails, status, output, length, calls) in cases {
-        let ended = ended_on(&rt, rt.alloc(), &[word], input, bytes, fails)?;
+        let ended = ended_on(
+            &rt,
+            rt.alloc(),
+            &[word],
+            input,
+            disk_of(&rt, rt.alloc(), bytes, fails),
+        );
         assert!(rt; ended.status == status);
         assert!(rt; is_like(ended.sink.bytes(), output));
         assert!(rt; ended.disk.bytes().len() == length);
         assert!(rt; ended.disk.moment() % 2 == 0);
         assert!(rt; ended.disk.moment() / 2 == calls);
     }
-    Ok(())
 }
 
 // A second run goes on where the first ended, and ends the round that a failed publication left open.
 #[test]
-fn days_on_one_journal(rt: HostRuntime) -> Result<(), Fail> {
+fn days_on_one_journal(rt: HostRuntime) {
     let cases: [(&[u8], u64, &[u8], &[u8], usize, &[u8]); 4] = [
         (b"", 0, b"", b"", 9, b"yes acts 0 rounds 0\n"),
         (
@@ -203,53 +186,81 @@ fn days_on_one_journal(rt: HostRuntime) -> Result<(), Fail> {
         ),
     ];
     for (first, fails, second, output, length, verdict) in cases {
-        let day = ended_on(&rt, rt.alloc(), &["run"], first, b"", fails)?;
-        let day = ended_on(&rt, rt.alloc(), &["run"], second, day.disk.bytes(), 0)?;
+        let day = ended_on(
+            &rt,
+            rt.alloc(),
+            &["run"],
+            first,
+            disk_of(&rt, rt.alloc(), b"", fails),
+        );
+        let day = ended_on(
+            &rt,
+            rt.alloc(),
+            &["run"],
+            second,
+            disk_of(&rt, rt.alloc(), day.disk.bytes(), 0),
+        );
         assert!(rt; day.status == 0);
         assert!(rt; is_like(day.sink.bytes(), output));
         assert!(rt; day.disk.bytes().starts_with(b"BUREAUJ1"));
         assert!(rt; day.disk.bytes().len() == length);
-        let audit = ended_on(&rt, rt.alloc(), &["audit"], b"", day.disk.bytes(), 0)?;
+        let audit = ended_on(
+            &rt,
+            rt.alloc(),
+            &["audit"],
+            b"",
+            disk_of(&rt, rt.alloc(), day.disk.bytes(), 0),
+        );
         assert!(rt; audit.status == 0);
         assert!(rt; audit.sink.bytes() == verdict);
     }
-    Ok(())
 }
 
 // Where the last gate of the triangle's journal stands after each number of its acts.
 const GATES: [usize; 12] = [8, 20, 32, 44, 74, 104, 134, 152, 170, 188, 203, 261];
 
-// Which of the numbers of acts an audit tells; None where it tells something else.
-fn acts_told<R: Threads + Wait + Sync>(
-    rt: &R,
-    alloc: Global,
-    image: &[u8],
-) -> Result<Option<usize>, AllocError> {
-    let audit = ended_on(rt, alloc, &["audit"], b"", image, 0)?;
+// Which of the numbers of acts a line of an audit tells; None where it tells something else.
+fn acts_told(alloc: Global, told: &[u8]) -> Result<Option<usize>, AllocError> {
     for acts in 0..GATES.len() {
         let rounds = if acts == 11 { 1 } else { 0 };
         let line = format!(in alloc; "yes acts {acts} rounds {rounds}\n")?;
-        if audit.sink.bytes() == line.as_bytes() {
+        if told == line.as_bytes() {
             return Ok(Some(acts));
         }
     }
     Ok(None)
 }
 
+// How many acts an image holds.
+fn acts_of<R: Abort + Threads + Wait + Sync>(rt: &R, alloc: Global, image: &[u8]) -> usize {
+    let audit = ended_on(rt, alloc, &["audit"], b"", disk_of(rt, alloc, image, 0));
+    acts_told(alloc, audit.sink.bytes())
+        .expect(rt, "memory")
+        .expect(rt, "some first acts")
+}
+
 // A crash at any moment leaves some first acts of the triangle, with all that were answered by then: the opening has four
 // calls and each act four.
 #[test]
-fn every_crash_of_the_triangle(rt: HostRuntime) -> Result<(), Fail> {
-    let ended = ended_on(&rt, rt.alloc(), &["run"], TRIANGLE, b"", 0)?;
+fn every_crash_of_the_triangle(rt: HostRuntime) {
+    let ended = ended_on(
+        &rt,
+        rt.alloc(),
+        &["run"],
+        TRIANGLE,
+        disk_of(&rt, rt.alloc(), b"", 0),
+    );
     for moment in 0..=ended.disk.moment() {
         for pick in 0..8 {
-            let image = ended.disk.image(rt.alloc(), moment, pick)?;
-            let acts = acts_told(&rt, rt.alloc(), &image)?.expect(&rt, "some first acts");
+            let image = ended
+                .disk
+                .image(rt.alloc(), moment, pick)
+                .expect(&rt, "memory");
+            let acts = acts_of(&rt, rt.alloc(), &image);
             let gate = *GATES.get(acts).expect(&rt, "a gate");
             assert!(rt; acts as u64 >= (moment / 8).saturating_sub(1));
             let kept = ended.disk.bytes().get(..gate).expect(&rt, "the records");
             assert!(rt; acts == 0 || image.starts_with(kept));
         }
     }
-    Ok(())
 }

@@ -3,9 +3,9 @@ ghost use Rattle.std.specs.Prelude.{◌≡◌, ◌+◌, ◌≤◌, true, length}
 ghost use Rattle.fault_count.specs.Counts.{HasRisen, next_count};
 ghost use Rattle.disk_model.specs.Untold.{untold};
 
-use crate::tests::{is_like, new_disk, program, words_of};
+use crate::tests::{ended_on, is_like, new_disk, program, sink_of, source_of, words_of};
 use crate::top::bureau;
-use bureau_edge::{BytesSink, Failed, Sink, SureSource};
+use bureau_edge::{BytesSink, Failed, Sink};
 use disk_model::{Disk, DiskFailed, MemoryDisk};
 use fault_count::next_count;
 use lane_runner::Gate;
@@ -14,7 +14,6 @@ use std::alloc::{AllocError, Global};
 use std::marker::Model;
 use std::sync::Wait;
 use std::sync::atomic::{AtomicU64, Ordering};
-use std::test::Fail;
 use std::thread;
 
 // ---- fences
@@ -41,16 +40,12 @@ const LANES: [(&[u8], u8, &[u8]); 6] = [
 ];
 
 #[test]
-fn lanes(rt: HostRuntime) -> Result<(), Fail> {
+fn lanes(rt: HostRuntime) {
     for (input, status, output) in LANES {
-        let source = SureSource::new(Vec::from_slice(rt.alloc(), input)?);
-        let sink = BytesSink::new(rt.alloc(), Vec::new(rt.alloc()));
-        let words = words_of(rt.alloc(), &["run"])?;
-        let ended = program(&rt, rt.alloc(), words, source, sink, new_disk(rt.alloc()));
+        let ended = ended_on(&rt, rt.alloc(), &["run"], input, new_disk(rt.alloc()));
         assert!(rt; ended.status == status);
         assert!(rt; ended.sink.bytes() == output);
     }
-    Ok(())
 }
 
 // ---- a round gives the turn back while it is solved
@@ -123,16 +118,15 @@ impl Pause for HoldsRound<'_> {
 }
 
 #[test]
-fn others_are_answered_while_a_round_is_solved(rt: HostRuntime) -> Result<(), Fail> {
+fn others_are_answered_while_a_round_is_solved(rt: HostRuntime) {
     let signs = Signs::new();
-    let source = SureSource::new(Vec::from_slice(rt.alloc(), WITH_SECOND)?);
-    let sink = BytesSink::new(rt.alloc(), Vec::new(rt.alloc()));
+    let words = words_of(rt.alloc(), &["run"]).expect(&rt, "memory");
     let ended = bureau(
         &rt,
         rt.alloc(),
-        words_of(rt.alloc(), &["run"])?,
-        source,
-        sink,
+        words,
+        source_of(&rt, rt.alloc(), WITH_SECOND),
+        sink_of(&rt, rt.alloc(), 0),
         new_disk(rt.alloc()),
         HoldsSecond(&signs),
         HoldsRound(&signs),
@@ -140,7 +134,6 @@ fn others_are_answered_while_a_round_is_solved(rt: HostRuntime) -> Result<(), Fa
     assert!(rt; signs.given_up.load(Ordering::SeqCst) == 0);
     assert!(rt; ended.status == 0);
     assert!(rt; is_like(ended.sink.bytes(), BETWEEN));
-    Ok(())
 }
 
 // ---- the calls of a sink and of a disk, in order
@@ -301,10 +294,10 @@ impl Disk for NotingDisk<'_> {
 // Two batches: all calls of the disk for one come before what is written of it, and that before the calls for the next one. The
 // calls at the opening are the first.
 #[test]
-fn a_batch_is_written_after_its_last_call_of_the_disk(rt: HostRuntime) -> Result<(), Fail> {
-    let calls = Calls::new(rt.alloc())?;
+fn a_batch_is_written_after_its_last_call_of_the_disk(rt: HostRuntime) {
+    let calls = Calls::new(rt.alloc()).expect(&rt, "memory");
     let sink = NotingSink {
-        sink: BytesSink::new(rt.alloc(), Vec::new(rt.alloc())),
+        sink: sink_of(&rt, rt.alloc(), 0),
         calls: &calls,
     };
     let disk = NotingDisk {
@@ -312,12 +305,16 @@ fn a_batch_is_written_after_its_last_call_of_the_disk(rt: HostRuntime) -> Result
         faults: 0,
         calls: &calls,
     };
-    let source = SureSource::new(Vec::from_slice(rt.alloc(), WITH_SECOND)?);
-    let words = words_of(rt.alloc(), &["run"])?;
-    let ended = program(&rt, rt.alloc(), words, source, sink, disk);
+    let ended = program(
+        &rt,
+        rt.alloc(),
+        &["run"],
+        source_of(&rt, rt.alloc(), WITH_SECOND),
+        sink,
+        disk,
+    );
     assert!(rt; ended.status == 0);
     assert!(rt; calls.next.load(Ordering::SeqCst) <= 500);
-    let kinds = calls.kinds(rt.alloc())?;
+    let kinds = calls.kinds(rt.alloc()).expect(&rt, "memory");
     assert!(rt; kinds.as_slice() == [DISK_CALL, WRITE, DISK_CALL, WRITE].as_slice());
-    Ok(())
 }

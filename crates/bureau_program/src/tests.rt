@@ -3,11 +3,11 @@ use batch_runs::Unhindered;
 use bureau_edge::{BytesSink, BytesSource, Failed, Sink, Source, SureSource};
 use disk_model::{Disk, MemoryDisk};
 use std::alloc::{AllocError, Global};
+use std::process::Abort;
 use std::sync::Wait;
-use std::test::Fail;
 use std::thread::Threads;
 
-const FOUR_LINES: &[u8] =
+pub(crate) const FOUR_LINES: &[u8] =
     b"1 FIRM A\n1 FIRM B\r\n1 FILE B I-1 A 10.00 2025-01-31\n1 CONFIRM B I-1 A";
 
 const FOUR_ENTRIES: &[u8] =
@@ -32,6 +32,13 @@ pub(crate) fn new_disk(alloc: Global) -> MemoryDisk {
     MemoryDisk::new(alloc, Vec::new(alloc), Vec::new(alloc))
 }
 
+// A disk in memory with these bytes, of whose calls one fails.
+pub(crate) fn disk_of(rt: &impl Abort, alloc: Global, bytes: &[u8], fails: u64) -> MemoryDisk {
+    let bytes = Vec::from_slice(alloc, bytes).expect(rt, "memory");
+    let fails = Vec::from_slice(alloc, &[fails]).expect(rt, "memory");
+    MemoryDisk::new(alloc, bytes, fails)
+}
+
 pub(crate) fn words_of(alloc: Global, texts: &[&str]) -> Result<Vec<String>, AllocError> {
     let mut words = Vec::new(alloc);
     for text in texts {
@@ -41,19 +48,58 @@ pub(crate) fn words_of(alloc: Global, texts: &[&str]) -> Result<Vec<String>, All
 }
 
 // The program over these words, whose lanes nothing holds up.
-pub(crate) fn program<R: Threads + Wait + Sync, S: Source, K: Sink, D: Disk + Send + Sync>(
+pub(crate) fn program<R: Abort + Threads + Wait + Sync, S: Source, K: Sink, D: Disk + Send + Sync>(
     rt: &R,
     alloc: Global,
-    words: Vec<String>,
+    texts: &[&str],
     source: S,
     sink: K,
     disk: D,
 ) -> Ended<S, K, D> {
+    let words = words_of(alloc, texts).expect(rt, "memory");
     bureau(rt, alloc, words, source, sink, disk, Unhindered, Unhindered)
 }
 
+// A source of these bytes, none of whose calls fails.
+pub(crate) fn source_of(rt: &impl Abort, alloc: Global, input: &[u8]) -> SureSource {
+    SureSource::new(Vec::from_slice(alloc, input).expect(rt, "memory"))
+}
+
+// A sink of whose calls one fails; none where it is 0.
+pub(crate) fn sink_of(rt: &impl Abort, alloc: Global, fails: u64) -> BytesSink {
+    BytesSink::new(alloc, Vec::from_slice(alloc, &[fails]).expect(rt, "memory"))
+}
+
+// What the program ends with for words and an input, on this disk.
+pub(crate) fn ended_on<R: Abort + Threads + Wait + Sync>(
+    rt: &R,
+    alloc: Global,
+    texts: &[&str],
+    input: &[u8],
+    disk: MemoryDisk,
+) -> Ended<SureSource, BytesSink, MemoryDisk> {
+    program(
+        rt,
+        alloc,
+        texts,
+        source_of(rt, alloc, input),
+        sink_of(rt, alloc, 0),
+        disk,
+    )
+}
+
+// The same on a disk without bytes.
+fn ended_for<R: Abort + Threads + Wait + Sync>(
+    rt: &R,
+    alloc: Global,
+    texts: &[&str],
+    input: &[u8],
+) -> Ended<SureSource, BytesSink, MemoryDisk> {
+    ended_on(rt, alloc, texts, input, new_disk(alloc))
+}
+
 #[test]
-fn runs(rt: HostRuntime) -> Result<(), Fail> {
+fn runs(rt: HostRuntime) {
     let cases: [(&[u8], u8, &[u8]); 11] = [
         (FOUR_LINES, 0, FOUR_ENTRIES),
         (b"", 0, b""),
@@ -76,17 +122,27 @@ fn runs(rt: HostRuntime) -> Result<(), Fail> {
         (CLAIM_LINES, 0, CLAIM_ENTRIES),
     ];
     for (input, status, output) in cases {
-        let input = Vec::from_slice(rt.alloc(), input)?;
-        let ended = ended_for(&rt, rt.alloc(), "run", input)?;
+        let ended = ended_for(&rt, rt.alloc(), &["run"], input);
         assert!(rt; ended.status == status);
         assert!(rt; ended.sink.bytes() == output);
     }
-    Ok(())
+}
+
+// A source of these bytes, of whose calls one fails.
+pub(crate) fn failing_source(
+    rt: &impl Abort,
+    alloc: Global,
+    input: &[u8],
+    fails: u64,
+) -> BytesSource {
+    let input = Vec::from_slice(alloc, input).expect(rt, "memory");
+    let fails = Vec::from_slice(alloc, &[fails]).expect(rt, "memory");
+    BytesSource::new(input, fails)
 }
 
 // The source is called twice, and the sink once: the output is shorter than its buffer.
 #[test]
-fn a_failing_call(rt: HostRuntime) -> Result<(), Fail> {
+fn a_failing_call(rt: HostRuntime) {
     let cases: [(u64, u64, u8, &[u8]); 6] = [
         (1, 0, 3, b"fault read\n"),
         (2, 0, 3, b"fault read\n"),
@@ -96,13 +152,12 @@ fn a_failing_call(rt: HostRuntime) -> Result<(), Fail> {
         (1, 1, 4, b""),
     ];
     for (read, write, status, output) in cases {
-        let input = Vec::from_slice(rt.alloc(), FOUR_LINES)?;
-        let source = BytesSource::new(input, Vec::from_slice(rt.alloc(), &[read])?);
-        let sink = BytesSink::new(rt.alloc(), Vec::from_slice(rt.alloc(), &[write])?);
+        let source = failing_source(&rt, rt.alloc(), FOUR_LINES, read);
+        let sink = sink_of(&rt, rt.alloc(), write);
         let ended = program(
             &rt,
             rt.alloc(),
-            words_of(rt.alloc(), &["run"])?,
+            &["run"],
             source,
             sink,
             new_disk(rt.alloc()),
@@ -110,20 +165,19 @@ fn a_failing_call(rt: HostRuntime) -> Result<(), Fail> {
         assert!(rt; ended.status == status);
         assert!(rt; ended.sink.bytes() == output);
     }
-    Ok(())
 }
 
 #[test]
-fn no_memory_for_the_words(rt: HostRuntime) -> Result<(), Fail> {
+fn no_memory_for_the_words(rt: HostRuntime) {
     let cases: [(u64, u8, &[u8]); 2] = [(0, 9, b"fault memory\n"), (1, 4, b"")];
     for (write, status, output) in cases {
-        let source = SureSource::new(Vec::new(rt.alloc()));
-        let sink = BytesSink::new(rt.alloc(), Vec::from_slice(rt.alloc(), &[write])?);
-        let ended = without_words(source, sink);
+        let ended = without_words(
+            source_of(&rt, rt.alloc(), b""),
+            sink_of(&rt, rt.alloc(), write),
+        );
         assert!(rt; ended.status == status);
         assert!(rt; ended.sink.bytes() == output);
     }
-    Ok(())
 }
 
 // A source of so many bytes 0.
@@ -148,39 +202,55 @@ impl Source for Zeros {
 
 // An input of 2^26 bytes is read, and one byte more is too much.
 #[test]
-fn the_longest_input(rt: HostRuntime) -> Result<(), Fail> {
+fn the_longest_input(rt: HostRuntime) {
     let cases: [(usize, u8, &[u8]); 2] = [
         (67_108_864, 6, b"fault line 1 lane\n"),
         (67_108_865, 7, b"fault input too long\n"),
     ];
     for (left, status, output) in cases {
-        let sink = BytesSink::new(rt.alloc(), Vec::new(rt.alloc()));
+        let source = Zeros { left };
         let ended = program(
             &rt,
             rt.alloc(),
-            words_of(rt.alloc(), &["run"])?,
-            Zeros { left },
-            sink,
+            &["run"],
+            source,
+            sink_of(&rt, rt.alloc(), 0),
             new_disk(rt.alloc()),
         );
         assert!(rt; ended.status == status);
         assert!(rt; ended.sink.bytes() == output);
     }
-    Ok(())
+}
+
+// A text, and another one so many times behind it.
+pub(crate) fn text_with(
+    alloc: Global,
+    first: &[u8],
+    more: &[u8],
+    times: usize,
+) -> Result<Vec<u8>, AllocError> {
+    let mut text = Vec::from_slice(alloc, first)?;
+    for _ in 0..times {
+        text.extend_from_slice(more)?;
+    }
+    Ok(text)
 }
 
 #[test]
-fn a_run_of_100_000_lines(rt: HostRuntime) -> Result<(), Fail> {
-    let mut input = Vec::from_slice(rt.alloc(), b"1 FIRM A\n")?;
-    let mut output = Vec::from_slice(rt.alloc(), b"1 FIRM A = ok\n")?;
-    for _ in 0..100_000 {
-        input.extend_from_slice(b"1 POSITION A\n")?;
-        output.extend_from_slice(b"1 POSITION A = balance 0.00 receivable 0.00 payable 0.00\n")?;
-    }
-    let ended = ended_for(&rt, rt.alloc(), "run", input)?;
+fn a_run_of_100_000_lines(rt: HostRuntime) {
+    let input = text_with(rt.alloc(), b"1 FIRM A\n", b"1 POSITION A\n", 100_000).expect(
+        &rt, "memory",
+    );
+    let output = text_with(
+        rt.alloc(),
+        b"1 FIRM A = ok\n",
+        b"1 POSITION A = balance 0.00 receivable 0.00 payable 0.00\n",
+        100_000,
+    )
+    .expect(&rt, "memory");
+    let ended = ended_for(&rt, rt.alloc(), &["run"], input.as_slice());
     assert!(rt; ended.status == 0);
     assert!(rt; ended.sink.bytes() == output.as_slice());
-    Ok(())
 }
 
 // Rounds: requests, the output with ? for each price, and the verdict on its statement.
@@ -259,41 +329,16 @@ fn statement_in(alloc: Global, output: &[u8]) -> Result<Vec<u8>, AllocError> {
     Ok(statement)
 }
 
-// What the program ends with for a word and an input.
-fn ended_for<R: Threads + Wait + Sync>(
-    rt: &R,
-    alloc: Global,
-    word: &str,
-    input: Vec<u8>,
-) -> Result<Ended<SureSource, BytesSink, MemoryDisk>, AllocError> {
-    let words = words_of(alloc, &[word])?;
-    let sink = BytesSink::new(alloc, Vec::new(alloc));
-    Ok(program(
-        rt,
-        alloc,
-        words,
-        SureSource::new(input),
-        sink,
-        new_disk(alloc),
-    ))
-}
-
 // Each output is the expected one but for its prices, and `check` accepts its statement.
 #[test]
-fn rounds(rt: HostRuntime) -> Result<(), Fail> {
+fn rounds(rt: HostRuntime) {
     for (requests, output, verdict) in ROUNDS {
-        let ended = ended_for(
-            &rt,
-            rt.alloc(),
-            "run",
-            Vec::from_slice(rt.alloc(), requests)?,
-        )?;
+        let ended = ended_for(&rt, rt.alloc(), &["run"], requests);
         assert!(rt; ended.status == 0);
         assert!(rt; is_like(ended.sink.bytes(), output));
-        let statement = statement_in(rt.alloc(), ended.sink.bytes())?;
-        let judged = ended_for(&rt, rt.alloc(), "check", statement)?;
+        let statement = statement_in(rt.alloc(), ended.sink.bytes()).expect(&rt, "memory");
+        let judged = ended_for(&rt, rt.alloc(), &["check"], statement.as_slice());
         assert!(rt; judged.status == 0);
         assert!(rt; judged.sink.bytes() == verdict);
     }
-    Ok(())
 }

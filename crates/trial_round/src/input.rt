@@ -9,12 +9,11 @@ ghost use Rattle.trial_round.specs.Input.{claim_acts, claim_cents, claim_key, cl
 ghost use Rattle.trial_round.specs.Trial.{IsTrialSize, trial_batch};
 
 use crate::draws::Draws;
-use crate::whole::write_whole;
 use claim_history::{Act, Day};
 use request_text::{
     Batch, RequestError, read_requests, write_request, written_requests_are_read_back,
 };
-use setoff_model::{Key, Kind, Name, put};
+use setoff_model::{Key, Kind, Name, put, write_whole};
 use std::alloc::{AllocError, Global};
 
 /// The bytes of a line that are made room for.
@@ -38,7 +37,7 @@ fn numbered_name(room: &mut Vec<u8>, letter: u8, number: u32) -> Name
 {
     room.clear();
     put(room, &[letter, b'-']);
-    write_whole(room, number);
+    write_whole(room, u64::from(number));
     match Name::of(room.as_slice()) {
         Some(name) => name,
         None => unreachable!(),

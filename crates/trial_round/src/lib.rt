@@ -14,7 +14,6 @@ mod draws;
 mod input;
 mod line;
 mod round;
-mod whole;
 
 use line::trial_line;
 use round::serve_trial;

@@ -3,8 +3,7 @@ ghost use Rattle.std.specs.Prelude.{◌≡◌, ◌+◌, ◌≤◌, ◌++◌, dec
 ghost use Rattle.trial_round.specs.Trial.{trial_line};
 
 use crate::round::Sums;
-use crate::whole::write_whole;
-use setoff_model::{put, write_cents};
+use setoff_model::{put, write_cents, write_whole};
 use std::alloc::{AllocError, Global};
 
 /// The bytes of room for the line.
@@ -19,7 +18,7 @@ fn write_count(buffer: &mut Vec<u8>, words: &[u8], number: u32)
     ensures room { vec_capacity buffer.old ≤ vec_capacity buffer.new }
 {
     put(buffer, words);
-    write_whole(buffer, number);
+    write_whole(buffer, u64::from(number));
 }
 
 /// The line that tells of a trial, with its end. The one error is want of memory.

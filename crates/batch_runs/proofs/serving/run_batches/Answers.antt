@@ -3,6 +3,7 @@ use Rattle.std.specs.Io.KnownBytes.{Appends}
 use Rattle.std.specs.List.{list_any}
 use Rattle.std.proofs.Common.{◌≡◌, ◌∙◌, ◌+◌, ◌||◌, ◌++◌, ◌∷◌, [], ℕ, List, length, ap, subst, sym, arith, length-append}
 use Rattle.std.proofs.lemmas.List.{take_all, take_more, take-append-drop}
+use Rattle.fault_count.proofs.Rising.{risen_within}
 use Rattle.bureau_edge.specs.Streams.{AppendsPart}
 use Rattle.claim_history.specs.declared.entry.Entry.{Entry}
 use Rattle.claim_history.specs.Needs.{is_of_device}
@@ -13,7 +14,6 @@ use Rattle.printed_text.specs.Printing.{printed_of}
 use Rattle.batch_runs.specs.Serving.{answers_of}
 use Rattle.batch_runs.proofs.Batches.{SoFar, begins, breaks, ends, more, unasked_adds}
 use Rattle.batch_runs.proofs.Printed.{at_err, at_ok, no_four_by, no_three_by, printed_from}
-use Rattle.batch_runs.proofs.Rising.{risen_within}
 use Rattle.batch_runs.proofs.serving.run_batches.Goals as goal
 
 pub loop-batch-init : goal.loop-batch-init

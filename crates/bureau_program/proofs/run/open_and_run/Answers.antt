@@ -3,6 +3,7 @@ use Rattle.std.specs.Io.KnownBytes.{Appends}
 use Rattle.std.proofs.Common.{◌≡◌, ◌∙◌, ◌≤◌, [], ℕ, List, length, ap, refl, subst, sym, arith}
 use Rattle.bureau_edge.specs.Streams.{AppendsPart}
 use Rattle.fault_count.specs.Counts.{HasRisen}
+use Rattle.fault_count.proofs.Rising.{risen_within}
 use Rattle.claim_history.specs.Rounds.{cuts_after}
 use Rattle.desk_text.specs.Texts.{opening_status, opening_text}
 use Rattle.printed_text.specs.Printing.{printed_of}
@@ -11,7 +12,6 @@ use Rattle.bureau_program.specs.Due.{IsBatchesDue, no_output_memory, not_opened}
 use Rattle.bureau_reports.proofs.Viewed.{no_three, tellable}
 use Rattle.batch_runs.proofs.Batches.{same_opening}
 use Rattle.batch_runs.proofs.Printed.{at_err, at_ok, printed_same}
-use Rattle.batch_runs.proofs.Rising.{risen_within}
 use Rattle.bureau_program.proofs.Refused.{refused_rose}
 use Rattle.bureau_program.proofs.Served.{begun_few, none_begun, ran_rose, wrote_all, wrote_begun}
 use Rattle.bureau_reports.proofs.Written.{no_other, told_status, wrote_line}

@@ -1,6 +1,7 @@
 use Rattle.std.proofs.Common.{ℕ, List, subst}
 use Rattle.bureau_program.specs.Due.{Ran}
-use Rattle.bureau_program.proofs.Causes.{comes_only, comes_where}
+use Rattle.bureau_program.proofs.ComesOnly.{comes_only}
+use Rattle.bureau_program.proofs.ComesWhere.{comes_where}
 use Rattle.bureau_program.proofs.Commands.{bytes_of, same_bytes}
 use Rattle.bureau_program.proofs.Completeness.{completes}
 use Rattle.bureau_program.proofs.top.bureau.Goals as goal
