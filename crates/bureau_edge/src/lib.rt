@@ -21,8 +21,6 @@ mod source;
 mod standard_in;
 mod standard_out;
 mod sure_source;
-#[cfg(test)]
-mod tests;
 mod whole;
 
 pub use bytes_sink::BytesSink;

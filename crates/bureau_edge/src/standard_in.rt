@@ -32,10 +32,14 @@ impl<I: Read> StandardIn<I> {
     pub fn new<R: Input<Reader = I>>(rt: &R) -> StandardIn<I>
         ensures { result.faults ≡ 0 }
     {
-        StandardIn {
-            reader: rt.reader(),
-            faults: 0,
-        }
+        StandardIn::over(rt.reader())
+    }
+
+    /// The input by a reader, as that of the runtime or one in memory.
+    pub fn over(reader: I) -> StandardIn<I>
+        ensures { result ≡ record { device = reader; faults = 0 } }
+    {
+        StandardIn { reader, faults: 0 }
     }
 }
 

@@ -36,8 +36,8 @@ impl<'a, R: Print> StandardOut<Printer<'a, R>> {
 }
 
 impl<W> StandardOut<W> {
-    // The output by any writer.
-    pub(crate) fn over(writer: W) -> StandardOut<W>
+    /// The output by a writer, as that of the runtime or one in memory.
+    pub fn over(writer: W) -> StandardOut<W>
         ensures { result ≡ record { device = writer; faults = 0 } }
     {
         StandardOut { writer, faults: 0 }

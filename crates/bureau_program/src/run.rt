@@ -13,6 +13,7 @@ use disk_model::Disk;
 use lane_runner::Gate;
 use printed_text::{end_with, output_buffer, write_bad_line};
 use request_text::{Batch, LineCause, RequestError, read_requests};
+use setoff_model::limits::LINE_BYTES;
 use shared_bureau::Pause;
 use std::alloc::Global;
 use std::sync::Wait;
@@ -64,7 +65,7 @@ fn tell_bad_line<K: Sink>(
     ensures write_fault { result ≡ 4 → HasRisen (K.faults sink.old) (K.faults sink.new) }
     ensures neither { (result ≢ 3) × (result ≢ 5) }
 {
-    let Ok(mut buffer) = Vec::with_capacity(alloc, 200) else {
+    let Ok(mut buffer) = Vec::with_capacity(alloc, LINE_BYTES) else {
         return end_with(sink, 9, b"fault memory\n");
     };
     write_bad_line(&mut buffer, line, cause);

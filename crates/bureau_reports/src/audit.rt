@@ -10,6 +10,7 @@ use bureau_edge::Sink;
 use desk_text::{status_of_unsound, write_sound, write_unsound};
 use disk_model::Disk;
 use printed_text::end_with;
+use setoff_model::limits::LINE_BYTES;
 use std::alloc::Global;
 
 /// Replays the journal of a disk, and prints whether it is sound. It writes nothing to the disk. Gives the status: 0; 1 where an act is
@@ -22,7 +23,7 @@ pub fn audit_disk<K: Sink, D: Disk>(alloc: Global, sink: &mut K, disk: &mut D) -
     ensures disk_fault { result ≡ 5 → HasRisen (D.seen disk.old).count (D.seen disk.new).count }
     ensures no_read_fault { result ≢ 3 }
 {
-    let Ok(mut buffer) = Vec::with_capacity(alloc, 200) else {
+    let Ok(mut buffer) = Vec::with_capacity(alloc, LINE_BYTES) else {
         return end_with(sink, 9, b"fault memory\n");
     };
     match Desk::view(alloc, disk) {

@@ -10,6 +10,7 @@ ghost use Rattle.bureau_reports.specs.Reports.{IsCheckDue};
 use bureau_edge::Sink;
 use printed_text::{end_with, status_of_verdict, write_bad_statement, write_verdict};
 use setoff_checker::Checker;
+use setoff_model::limits::LINE_BYTES;
 use setoff_model::{Cut, Outcome};
 use statement_text::{StatementCause, StatementError, read_statement};
 use std::alloc::Global;
@@ -31,7 +32,7 @@ fn check_statement<K: Sink>(
     let Ok(mut checker) = Checker::for_cut(alloc, cut) else {
         return end_with(sink, 9, b"fault memory\n");
     };
-    let Ok(mut buffer) = Vec::with_capacity(alloc, 200) else {
+    let Ok(mut buffer) = Vec::with_capacity(alloc, LINE_BYTES) else {
         return end_with(sink, 9, b"fault memory\n");
     };
     let verdict = checker.verdict(cut, outcome);
@@ -55,7 +56,7 @@ fn tell_bad_statement<K: Sink>(
     ensures no_read_fault { result ≢ 3 }
     ensures no_disk_fault { result ≢ 5 }
 {
-    let Ok(mut buffer) = Vec::with_capacity(alloc, 200) else {
+    let Ok(mut buffer) = Vec::with_capacity(alloc, LINE_BYTES) else {
         return end_with(sink, 9, b"fault memory\n");
     };
     write_bad_statement(&mut buffer, line, cause);

@@ -9,6 +9,7 @@ ghost use Rattle.bureau_reports.specs.Reports.{IsImportDue};
 use bureau_edge::Sink;
 use firm_notices::{ImportError, RowCause, import};
 use printed_text::{end_with, write_bad_row};
+use setoff_model::limits::LINE_BYTES;
 use std::alloc::Global;
 
 // Tells the first row that is not in the grammar of invoices.
@@ -26,7 +27,7 @@ fn tell_bad_row<K: Sink>(
     ensures no_read_fault { result ≢ 3 }
     ensures no_disk_fault { result ≢ 5 }
 {
-    let Ok(mut buffer) = Vec::with_capacity(alloc, 200) else {
+    let Ok(mut buffer) = Vec::with_capacity(alloc, LINE_BYTES) else {
         return end_with(sink, 9, b"fault memory\n");
     };
     write_bad_row(&mut buffer, row, cause);

@@ -1,5 +1,6 @@
 //! The fault line of a disk that has no desk, or no book.
 ghost use Rattle.std.specs.Prelude.{◌≡◌, ◌≤◌, [], vec_capacity};
+ghost use Rattle.setoff_model.specs.Limits.{line_bytes};
 ghost use Rattle.fault_count.specs.Counts.{HasRisen};
 ghost use Rattle.desk_text.specs.Texts.{opening_status, opening_text, IsTellable};
 ghost use Rattle.printed_text.specs.Writing.{IsWritten};
@@ -9,13 +10,13 @@ use bureau_edge::Sink;
 use desk_text::{status_of_opening, write_opening_fault};
 use printed_text::end_with;
 
-/// Tells why no desk was opened on a disk, or no book made of it, and says the status. The buffer is empty and has room for 200
-/// bytes.
+/// Tells why no desk was opened on a disk, or no book made of it, and says the status. The buffer is empty and has room for
+/// `LINE_BYTES`.
 #[tactic(none)]
 pub fn tell_refused<K: Sink>(sink: &mut K, buffer: &mut Vec<u8>, cause: DeskCause) -> u8
     requires tellable { IsTellable cause }
     requires empty { buffer.old.items ≡ [] }
-    requires spare { 200 ≤ vec_capacity buffer.old }
+    requires spare { line_bytes ≤ vec_capacity buffer.old }
     ensures written { IsWritten (K.held sink.old) (K.held sink.new) (opening_status cause) (opening_text cause) result }
     ensures write_fault { result ≡ 4 → HasRisen (K.faults sink.old) (K.faults sink.new) }
 {

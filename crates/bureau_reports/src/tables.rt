@@ -15,6 +15,7 @@ use claim_history::Day;
 use disk_model::Disk;
 use firm_notices::{notices, positions};
 use printed_text::end_with;
+use setoff_model::limits::LINE_BYTES;
 use std::alloc::{AllocError, Global};
 
 /// A table of a book.
@@ -59,7 +60,7 @@ pub fn print_table<K: Sink, D: Disk>(alloc: Global, table: Table, sink: &mut K, 
     ensures disk_fault { result ≡ 5 → HasRisen (D.seen disk.old).count (D.seen disk.new).count }
     ensures no_read_fault { result ≢ 3 }
 {
-    let Ok(mut buffer) = Vec::with_capacity(alloc, 200) else {
+    let Ok(mut buffer) = Vec::with_capacity(alloc, LINE_BYTES) else {
         return end_with(sink, 9, b"fault memory\n");
     };
     match Desk::view(alloc, disk) {

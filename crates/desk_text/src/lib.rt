@@ -1,6 +1,6 @@
 //! The lines that tell of a disk: why no desk was opened on it, and what an audit of its journal finds.
 //!
-//! Each line takes at most 200 bytes, and is written into a buffer that has room.
+//! Each line takes at most `LINE_BYTES`, and is written into a buffer that has room.
 #![tactic(auto)]
 
 mod audit;

@@ -1,5 +1,6 @@
 //! The line of an entry.
 ghost use Rattle.std.specs.Prelude.{◌≡◌, ◌+◌, ◌<◌, ◌≤◌, ◌^◌, ◌++◌, unsigned_abs, length, codes, true, vec_len, vec_capacity};
+ghost use Rattle.setoff_model.specs.Limits.{line_bytes};
 ghost use Rattle.setoff_model.specs.Texts.{cents_text, signed_cents_text};
 ghost use Rattle.claim_history.specs.Acts.{is_valid};
 ghost use Rattle.claim_history.specs.Laws.{IsReplyInRange};
@@ -161,16 +162,16 @@ pub fn write_reply(buffer: &mut Vec<u8>, reply: &Reply)
     }
 }
 
-/// Writes the line `caller REQUEST = REPLY` of an entry, with its line feed: at most 200 bytes. The caller gives 200 bytes
+/// Writes the line `caller REQUEST = REPLY` of an entry, with its line feed: at most `LINE_BYTES`. The caller gives as many bytes
 /// of room behind what the buffer has, and so there is no error.
 ///
 /// The amounts of a position, and the total of a publication, are below 10^18 cents in size.
 pub fn write_entry(buffer: &mut Vec<u8>, entry: &Entry)
     requires valid { is_valid entry.now.act ≡ true }
     requires range { IsReplyInRange entry.now.reply }
-    requires spare { vec_len buffer.old + 200 ≤ vec_capacity buffer.old }
+    requires spare { vec_len buffer.old + line_bytes ≤ vec_capacity buffer.old }
     ensures text { buffer.new.items ≡ buffer.old.items ++ entry_line entry.now }
-    ensures len { vec_len buffer.new ≤ vec_len buffer.old + 200 }
+    ensures len { vec_len buffer.new ≤ vec_len buffer.old + line_bytes }
     ensures room { vec_capacity buffer.old ≤ vec_capacity buffer.new }
 {
     write_whole(buffer, u64::from(entry.caller));

@@ -2,7 +2,7 @@
 //!
 //! REQUEST is the text of the act, of which a publication shows the round alone. REPLY is `ok`, a position, what became
 //! of a round, or `refused` with the number and name of the refusal and the numbers that go with it. A line is at most
-//! 200 bytes, and writing it takes no memory.
+//! `LINE_BYTES`, and writing it takes no memory.
 #![tactic(auto)]
 
 mod entry;

@@ -23,6 +23,3 @@ pub fn next_count(count: u64) -> u64
 {
     count.saturating_add(1)
 }
-
-#[cfg(test)]
-mod tests;

@@ -11,6 +11,7 @@ use crate::invoice::{has_names, invoice_of};
 use crate::rows::{next_row, reader_of};
 use csv::{ByteRecord, Reader};
 use request_text::write_request;
+use setoff_model::limits::LINE_BYTES;
 use std::alloc::Global;
 
 /// Reads invoices as CSV, and gives the lines of a lane that file them, one for each invoice in order.
@@ -89,7 +90,7 @@ fn put_filing(
         Ok(filing) => filing,
         Err(cause) => return Err(ImportError::BadRow { row, cause }),
     };
-    text.reserve(200)?;
+    text.reserve(LINE_BYTES)?;
     write_request(text, lane, &filing);
     Ok(())
 }

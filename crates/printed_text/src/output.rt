@@ -1,5 +1,6 @@
 //! Output in pieces: text goes through a buffer of `OUTPUT_BYTES` to the sink.
 ghost use Rattle.std.specs.Prelude.{◌≡◌, ℕ, ◌+◌, ◌≤◌, [], ◌++◌, true, All, IfOk, OnOk, OnErr, vec_len, vec_capacity, length, slice_get, take, drop};
+ghost use Rattle.setoff_model.specs.Limits.{line_bytes};
 ghost use Rattle.std.specs.Io.KnownBytes.{Appends};
 ghost use Rattle.fault_count.specs.Counts.{IsCounted};
 ghost use Rattle.bureau_edge.specs.Streams.{AppendsPart};
@@ -20,13 +21,11 @@ use entry_text::write_entry;
 use request_text::Request;
 use served_lines::{Answer, LineEnd};
 use setoff_model::Cut;
+use setoff_model::limits::LINE_BYTES;
 use std::alloc::{AllocError, Global};
 
 /// The bytes of the buffer, which are `output_bytes` in clauses: 2^16.
 pub const OUTPUT_BYTES: usize = 65_536;
-
-/// The bytes that one line takes at most.
-const LINE_BYTES: usize = 200;
 
 /// An empty buffer with room for `OUTPUT_BYTES`, as each call that prints asks for. The one error is want of memory.
 pub fn output_buffer(alloc: Global) -> Result<Vec<u8>, AllocError>
@@ -50,11 +49,11 @@ pub fn flush<K: Sink>(sink: &mut K, buffer: &mut Vec<u8>) -> Result<(), Failed>
     Ok(())
 }
 
-/// Makes room for a line of 200 bytes.
+/// Makes room for a line, of `LINE_BYTES`.
 pub fn make_room<K: Sink>(sink: &mut K, buffer: &mut Vec<u8>) -> Result<(), Failed>
     requires { output_bytes ≤ vec_capacity buffer.old }
     ensures ok { OnOk result (GoesThrough (K.held sink.old) (K.held sink.new) buffer.old.items buffer.new.items []) }
-    ensures spare { OnOk result (vec_len buffer.new + 200 ≤ vec_capacity buffer.new) }
+    ensures spare { OnOk result (vec_len buffer.new + line_bytes ≤ vec_capacity buffer.new) }
     ensures part { OnErr result (AppendsPart (K.held sink.old) (K.held sink.new) buffer.old.items) }
     ensures cause { IsCounted (K.faults sink.old) (K.faults sink.new) result }
     ensures room { output_bytes ≤ vec_capacity buffer.new }
@@ -172,7 +171,7 @@ fn print_end<K: Sink>(sink: &mut K, buffer: &mut Vec<u8>, answer: &Answer) -> Re
 }
 
 fn write_end(buffer: &mut Vec<u8>, line: u64, end: LineEnd)
-    requires { vec_len buffer.old + 200 ≤ vec_capacity buffer.old }
+    requires { vec_len buffer.old + line_bytes ≤ vec_capacity buffer.old }
     ensures text { buffer.new.items ≡ buffer.old.items ++ end_text line end }
     ensures room { vec_capacity buffer.old ≤ vec_capacity buffer.new }
 {

@@ -1,5 +1,6 @@
 //! Writing requests.
 ghost use Rattle.std.specs.Prelude.{◌≡◌, ◌+◌, ◌≤◌, ◌++◌, true, vec_len, vec_capacity};
+ghost use Rattle.setoff_model.specs.Limits.{line_bytes};
 ghost use Rattle.claim_history.specs.Acts.{is_request};
 ghost use Rattle.request_text.specs.Grammar.{request_line};
 ghost use Rattle.request_text.specs.Lanes.{IsLane};
@@ -7,14 +8,14 @@ ghost use Rattle.request_text.specs.Lanes.{IsLane};
 use claim_history::{Act, write_act};
 use setoff_model::{put, write_whole};
 
-/// Writes the line `lane VERB fields` of what is asked of a lane with its line feed: at most 200 bytes, into a buffer
+/// Writes the line `lane VERB fields` of what is asked of a lane with its line feed: at most `LINE_BYTES`, into a buffer
 /// that has room. It takes no memory.
 pub fn write_request(buffer: &mut Vec<u8>, lane: u32, act: &Act)
     requires lane { IsLane lane }
     requires valid { is_request act.now ≡ true }
-    requires spare { vec_len buffer.old + 200 ≤ vec_capacity buffer.old }
+    requires spare { vec_len buffer.old + line_bytes ≤ vec_capacity buffer.old }
     ensures text { buffer.new.items ≡ buffer.old.items ++ request_line lane act.now }
-    ensures len { vec_len buffer.new ≤ vec_len buffer.old + 200 }
+    ensures len { vec_len buffer.new ≤ vec_len buffer.old + line_bytes }
     ensures room { vec_capacity buffer.old ≤ vec_capacity buffer.new }
 {
     write_whole(buffer, u64::from(lane));

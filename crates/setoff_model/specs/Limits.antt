@@ -36,3 +36,7 @@ most_journal_bytes = 1073741824
 -- the bytes of an input: 2^26
 abbrev pub most_input_bytes : ℕ
 most_input_bytes = 67108864
+
+-- the bytes of a line that is written
+abbrev pub line_bytes : ℕ
+line_bytes = 200

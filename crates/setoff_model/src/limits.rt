@@ -27,3 +27,7 @@ pub const MOST_JOURNAL_BYTES: u64 = 1_073_741_824;
 
 /// The most bytes of an input: 2^26.
 pub const MOST_INPUT_BYTES: u64 = 67_108_864;
+
+/// The bytes that each line takes at most, with its line feed, which the bureau writes of a request, an entry, a statement,
+/// a verdict or a fault.
+pub const LINE_BYTES: usize = 200;

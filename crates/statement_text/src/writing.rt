@@ -1,7 +1,7 @@
 //! Writing statements.
 ghost use Rattle.std.specs.Prelude.{◌≡◌, ◌+◌, ◌^◌, ◌<◌, ◌≤◌, ◌++◌, ◌∷◌, [], length, codes, slice_index_or, unsigned_abs, vec_len, vec_capacity};
 ghost use Rattle.text_lines.specs.Fields.{line_of};
-ghost use Rattle.setoff_model.specs.Limits.{most_window};
+ghost use Rattle.setoff_model.specs.Limits.{line_bytes, most_window};
 ghost use Rattle.setoff_model.specs.declared.cut.CutClaim.{CutClaim};
 ghost use Rattle.setoff_model.specs.CutView.{WellFormed};
 ghost use Rattle.setoff_model.specs.Texts.{cents_text};
@@ -10,14 +10,14 @@ ghost use Rattle.statement_text.specs.Statements.{firm_at};
 
 use setoff_model::{Cut, Key, Kind, Name, Party, put, write_number, write_sum, write_whole};
 
-/// Writes the line `ROUND r KIND`, with its line feed, into a buffer that has 200 bytes spare.
+/// Writes the line `ROUND r KIND`, with its line feed, into a buffer that has `LINE_BYTES` spare.
 ///
 /// Rounds are numbered from 1.
 pub fn write_head(buffer: &mut Vec<u8>, round: u32, kind: Kind)
     requires round { 1 ≤ round }
-    requires spare { vec_len buffer.old + 200 ≤ vec_capacity buffer.old }
+    requires spare { vec_len buffer.old + line_bytes ≤ vec_capacity buffer.old }
     ensures text { buffer.new.items ≡ buffer.old.items ++ line_of (head_fields round kind) ++ codes "\n" }
-    ensures len { vec_len buffer.new ≤ vec_len buffer.old + 200 }
+    ensures len { vec_len buffer.new ≤ vec_len buffer.old + line_bytes }
     ensures room { vec_capacity buffer.old ≤ vec_capacity buffer.new }
 {
     put(buffer, b"ROUND ");
@@ -29,16 +29,16 @@ pub fn write_head(buffer: &mut Vec<u8>, round: u32, kind: Kind)
     }
 }
 
-/// Writes the line `PARTY firm spend room price`, with its line feed, into a buffer that has 200 bytes spare.
+/// Writes the line `PARTY firm spend room price`, with its line feed, into a buffer that has `LINE_BYTES` spare.
 ///
 /// Spend and room are at most 2 * 10^15 cents, and the price has at most 9 digits.
 pub fn write_party(buffer: &mut Vec<u8>, party: &Party, price: i64)
     requires spend { party.now.spend ≤ most_window }
     requires room { party.now.room ≤ most_window }
     requires price { unsigned_abs price < 10 ^ 9 }
-    requires spare { vec_len buffer.old + 200 ≤ vec_capacity buffer.old }
+    requires spare { vec_len buffer.old + line_bytes ≤ vec_capacity buffer.old }
     ensures text { buffer.new.items ≡ buffer.old.items ++ line_of (party_fields party.now price) ++ codes "\n" }
-    ensures len { vec_len buffer.new ≤ vec_len buffer.old + 200 }
+    ensures len { vec_len buffer.new ≤ vec_len buffer.old + line_bytes }
     ensures room { vec_capacity buffer.old ≤ vec_capacity buffer.new }
 {
     put(buffer, b"PARTY ");
@@ -51,14 +51,14 @@ pub fn write_party(buffer: &mut Vec<u8>, party: &Party, price: i64)
 }
 
 /// Writes the line `CLAIM creditor invoice debtor amount discharged` of the claim at a place of a well-formed cut, with
-/// its line feed, into a buffer that has 200 bytes spare. The discharge is below 10^18 cents.
+/// its line feed, into a buffer that has `LINE_BYTES` spare. The discharge is below 10^18 cents.
 pub fn write_claim(buffer: &mut Vec<u8>, cut: &Cut, place: u32, discharge: u64)
     requires cut { WellFormed cut.now }
     requires place { place < length cut.now.claims }
     requires discharge { discharge < 10 ^ 18 }
-    requires spare { vec_len buffer.old + 200 ≤ vec_capacity buffer.old }
+    requires spare { vec_len buffer.old + line_bytes ≤ vec_capacity buffer.old }
     ensures text { (none : CutClaim) → let c = slice_index_or cut.now.claims place none in buffer.new.items ≡ buffer.old.items ++ line_of (claim_fields c.key (firm_at cut.now.parties c.debtor) c.amount discharge) ++ codes "\n" }
-    ensures len { vec_len buffer.new ≤ vec_len buffer.old + 200 }
+    ensures len { vec_len buffer.new ≤ vec_len buffer.old + line_bytes }
     ensures room { vec_capacity buffer.old ≤ vec_capacity buffer.new }
 {
     let claim = cut.claims()[place as usize];
@@ -66,11 +66,11 @@ pub fn write_claim(buffer: &mut Vec<u8>, cut: &Cut, place: u32, discharge: u64)
     put_claim(buffer, &claim.key, &debtor, claim.amount, discharge);
 }
 
-/// Writes the line `END`, with its line feed, into a buffer that has 200 bytes spare.
+/// Writes the line `END`, with its line feed, into a buffer that has `LINE_BYTES` spare.
 pub fn write_end(buffer: &mut Vec<u8>)
-    requires { vec_len buffer.old + 200 ≤ vec_capacity buffer.old }
+    requires { vec_len buffer.old + line_bytes ≤ vec_capacity buffer.old }
     ensures text { buffer.new.items ≡ buffer.old.items ++ codes "END\n" }
-    ensures len { vec_len buffer.new ≤ vec_len buffer.old + 200 }
+    ensures len { vec_len buffer.new ≤ vec_len buffer.old + line_bytes }
     ensures room { vec_capacity buffer.old ≤ vec_capacity buffer.new }
 {
     put(buffer, b"END\n");
@@ -79,9 +79,9 @@ pub fn write_end(buffer: &mut Vec<u8>)
 fn put_claim(buffer: &mut Vec<u8>, key: &Key, debtor: &Name, amount: u64, discharge: u64)
     requires amount { amount < 10 ^ 18 }
     requires discharge { discharge < 10 ^ 18 }
-    requires spare { vec_len buffer.old + 200 ≤ vec_capacity buffer.old }
+    requires spare { vec_len buffer.old + line_bytes ≤ vec_capacity buffer.old }
     ensures text { buffer.new.items ≡ buffer.old.items ++ line_of (claim_fields key.now debtor.now amount discharge) ++ codes "\n" }
-    ensures len { vec_len buffer.new ≤ vec_len buffer.old + 200 }
+    ensures len { vec_len buffer.new ≤ vec_len buffer.old + line_bytes }
     ensures room { vec_capacity buffer.old ≤ vec_capacity buffer.new }
 {
     put(buffer, b"CLAIM ");

@@ -7,6 +7,8 @@
 #[cfg(test)]
 mod commands;
 #[cfg(test)]
+mod days;
+#[cfg(test)]
 mod entries;
 #[cfg(test)]
 mod histories;

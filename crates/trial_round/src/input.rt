@@ -13,11 +13,9 @@ use claim_history::{Act, Day};
 use request_text::{
     Batch, RequestError, read_requests, write_request, written_requests_are_read_back,
 };
+use setoff_model::limits::LINE_BYTES;
 use setoff_model::{Key, Kind, Name, put, write_whole};
 use std::alloc::{AllocError, Global};
-
-/// The bytes of a line that are made room for.
-const LINE_BYTES: usize = 200;
 
 /// The bytes of room for a name.
 const NAME_BYTES: usize = 80;
