@@ -1,10 +1,11 @@
 #!/usr/bin/env bash
 # Times a run on a journal in a folder of the disk beside SQLite, and the opening of long journals: bench/journal.sh [ACTS [FOLDER]]
 # Prints the acts a second of a run on one lane, each synced before the next, and the inserts a second of SQLite with a transaction
-# each, in WAL mode with synchronous=FULL, in the same folder and in turn; the least time of three each. Then, for journals of 10,000
-# and 100,000 acts in memory, the milliseconds of an audit, and its peak memory beside the bytes of the journal. Then it kills a run
-# at twenty moments, and each time a second run and an audit go on from what was left. Run by hand. Without words it takes 2,000 acts,
-# and the folder of temporary files.
+# each, in WAL mode with synchronous=FULL, in the same folder and in turn; and the appends a second of a program that makes the calls
+# of an append and nothing else, above which no run comes. Each is the least time of seven. Then, for journals of 10,000 and 100,000
+# acts in memory, the milliseconds of an audit, and its peak memory beside the bytes of the journal. Then it kills a run at twenty
+# moments, and each time a second run and an audit go on from what was left. Run by hand. Without words it takes 2,000 acts, and the
+# folder of temporary files.
 set -euo pipefail
 
 acts=${1:-2000}
@@ -52,9 +53,25 @@ def sqlite():
     return time.perf_counter() - began
 
 
-pairs = [(run(), sqlite()) for _ in range(3)]
-ours, theirs = min(a for a, _ in pairs), min(b for _, b in pairs)
+# The calls of the appends alone: body, sync, gate, sync, of as many bytes each as the journal of the run has.
+def appends():
+    record = os.stat("bureau.journal").st_size // acts
+    file = os.open("appends", os.O_RDWR | os.O_CREAT | os.O_TRUNC)
+    body, gate = bytes(record), b"\1"
+    began = time.perf_counter()
+    for start in range(0, acts * record, record):
+        os.pwrite(file, body, start + 1)
+        os.fdatasync(file)
+        os.pwrite(file, gate, start)
+        os.fdatasync(file)
+    taken = time.perf_counter() - began
+    os.close(file)
+    return taken
+
+
+ours, theirs, alone = map(min, zip(*((run(), sqlite(), appends()) for _ in range(7))))
 print(f"acts a second {acts / ours:.0f}, inserts a second {acts / theirs:.0f}, quotient {theirs / ours:.2f}")
+print(f"appends a second by their calls alone {acts / alone:.0f}, beside inserts {theirs / alone:.2f}, a run beside them {alone / ours:.2f}")
 PYTHON
 
 cd "$in_memory"
