@@ -65,7 +65,7 @@ impl Day {
         self.number
     }
 
-    /// Writes the day as `YYYY-MM-DD`.
+    /// Writes the day as `YYYY-MM-DD`, into a buffer that has room for 10 bytes more. It takes no memory.
     pub fn write(&self, buffer: &mut Vec<u8>)
         requires { vec_len buffer.old + 10 ≤ vec_capacity buffer.old }
         ensures text { buffer.new.items ≡ buffer.old.items ++ day_text self.now }
