@@ -35,14 +35,16 @@ are_among o net is among = record {
   apart = λ a in'. by_kind (length o.amounts) (length o.spends) (λ k. slice_index net.arcs.tails k ≢ slice_index net.arcs.heads k)
       (λ c lt s. among.apart c lt (sym (is.tail c lt) ∙ s ∙ is.head c lt))
       (λ f lt s. let t = is.party f lt in let h = is.ground f lt in omega (arith, t, h, s, lt)) a (omega (arith, is.arcs, in'));
-  reward = λ a in'. by_kind (length o.amounts) (length o.spends) (λ k. (slice_index net.arcs.rewards k ≡ 0) ⊎ (slice_index net.arcs.rewards k ≡ 1))
+  reward = λ a in'. by_kind (length o.amounts) (length o.spends)
+      (λ k. (slice_index net.arcs.rewards k ≡ 0) ⊎ (slice_index net.arcs.rewards k ≡ 1))
       (λ c lt. inr (is.counts c lt)) (λ f lt. inl (is.free f lt)) a (omega (arith, is.arcs, in'));
 }
 
 -- ---- the flow of the empty set-off
 
 pub empty_claim : (o : Obligations) (c : ℕ) → c < length o.amounts → slice_index (empty_flow o) c ≡ 0
-empty_claim o c lt = get_or_append_left (replicate (length o.amounts) 0) o.spends 0 c (omega (arith, length-replicate {A = ℕ} (length o.amounts) 0)) ∙ get_or-replicate {A = ℕ} (length o.amounts) c 0 0 lt
+empty_claim o c lt = get_or_append_left (replicate (length o.amounts) 0) o.spends 0 c
+    (omega (arith, length-replicate {A = ℕ} (length o.amounts) 0)) ∙ get_or-replicate {A = ℕ} (length o.amounts) c 0 0 lt
 
 pub empty_window : (o : Obligations) (f : ℕ) → slice_index (empty_flow o) (length o.amounts + f) ≡ slice_index o.spends f
 empty_window o f =
@@ -51,7 +53,8 @@ empty_window o f =
 
 pub empty_is_flow : (o : Obligations) (net : Network) → IsNetworkOf o net → IsFlow net.arcs (empty_flow o)
 empty_is_flow o net is = record {
-  one_each = let a = length-append (replicate (length o.amounts) 0) o.spends in let b = length-replicate {A = ℕ} (length o.amounts) 0 in omega (arith, a, b, is.arcs);
+  one_each = let a = length-append (replicate (length o.amounts) 0) o.spends in
+      let b = length-replicate {A = ℕ} (length o.amounts) 0 in omega (arith, a, b, is.arcs);
   within = λ a in'. by_kind (length o.amounts) (length o.spends) (λ k. slice_index (empty_flow o) k ≤ slice_index net.arcs.capacities k)
       (λ c lt. let e = empty_claim o c lt in omega (arith, e))
       (λ f lt. let e = empty_window o f in let w = is.window f lt in omega (arith, e, w)) a (omega (arith, is.arcs, in'));
@@ -62,9 +65,11 @@ nothing a b x e = grind (arith, nat_tests)
 
 -- what is discharged at a party where nothing is
 empty_at : (m : ℕ) (places d : List ℕ) (f : ℕ) → ((c : ℕ) → c < m → slice_index d c ≡ 0) → flow_at m places d f ≡ 0
-empty_at m places d f none = sum_below-none m (λ c. if slice_index places c == f then slice_index d c else 0) (λ c lt. nothing (slice_index places c) f (slice_index d c) (none c lt))
+empty_at m places d f none = sum_below-none m (λ c. if slice_index places c == f then slice_index d c else 0)
+    (λ c lt. nothing (slice_index places c) f (slice_index d c) (none c lt))
 
-empty_party : (o : Obligations) (net : Network) (f : ℕ) → IsNetworkOf o net → f < length o.spends → has net (empty_flow o) f ≡ owes net (empty_flow o) f
+empty_party : (o : Obligations) (net : Network) (f : ℕ) → IsNetworkOf o net → f < length o.spends
+    → has net (empty_flow o) f ≡ owes net (empty_flow o) f
 empty_party o net f is in' =
     let a = in_at o net (empty_flow o) (empty_flow o) f is (λ c lt. refl) in' in
     let b = out_at o net (empty_flow o) (empty_flow o) f is (λ c lt. refl) in' in
@@ -74,7 +79,8 @@ empty_party o net f is in' =
     omega (arith, a, b, i, e, w)
 
 -- the ground has the spends, and owes them
-empty_ground : (o : Obligations) (net : Network) → IsNetworkOf o net → has net (empty_flow o) (length o.spends) ≡ owes net (empty_flow o) (length o.spends)
+empty_ground : (o : Obligations) (net : Network) → IsNetworkOf o net
+    → has net (empty_flow o) (length o.spends) ≡ owes net (empty_flow o) (length o.spends)
 empty_ground o net is =
     let m = length o.amounts in
     let n = length o.spends in
@@ -83,14 +89,31 @@ empty_ground o net is =
     let from : ℕ → ℕ = λ a. if slice_index net.arcs.tails a == length o.spends then slice_index (empty_flow o) a else 0 in
     let whole_into : sum_below (length net.arcs.capacities) into ≡ sum_below (m + n) into = ap (λ k. sum_below k into) is.arcs in
     let whole_from : sum_below (length net.arcs.capacities) from ≡ sum_below (m + n) from = ap (λ k. sum_below k from) is.arcs in
-    let claims_into : sum_below m into ≡ 0 = sum_below-none m into (λ c lt. nothing (slice_index net.arcs.heads c) (length o.spends) _ (empty_claim o c lt)) in
-    let claims_from : sum_below m from ≡ 0 = sum_below-none m from (λ c lt. nothing (slice_index net.arcs.tails c) (length o.spends) _ (empty_claim o c lt)) in
+    let claims_into : sum_below m into ≡ 0 =
+    sum_below-none m into (λ c lt. nothing (slice_index net.arcs.heads c) (length o.spends) _ (empty_claim o c lt)) in
+    let claims_from : sum_below m from ≡ 0 =
+    sum_below-none m from (λ c lt. nothing (slice_index net.arcs.tails c) (length o.spends) _ (empty_claim o c lt)) in
     let windows_into : sum_below n (λ f. into (m + f)) ≡ sum_below n (λ f. slice_index o.spends f) =
-    sum_below-same n (λ f. into (m + f)) (λ f. slice_index o.spends f) (λ f lt. choose_yes _ (length o.spends) _ (is.ground f lt) ∙ empty_window o f) in
+    sum_below-same n (λ f. into (m + f)) (λ f. slice_index o.spends f)
+    (λ f lt. choose_yes _ (length o.spends) _ (is.ground f lt) ∙ empty_window o f) in
     let windows_from : sum_below n (λ f. from (m + f)) ≡ 0 =
-    sum_below-none n (λ f. from (m + f)) (λ f lt. choose_no _ (length o.spends) _ (λ e. let p = is.party f lt in absurd (omega (arith, e, p, lt)))) in
+    sum_below-none n (λ f. from (m + f))
+    (λ f lt. choose_no _ (length o.spends) _ (λ e. let p = is.party f lt in absurd (omega (arith, e, p, lt)))) in
     let spends : sum o.spends ≡ sum_below n (λ f. slice_index o.spends f) = sum_below-all o.spends (length o.spends) refl in
-    omega (arith, whole_into, whole_from, sum_below-split m n into, sum_below-split m n from, claims_into, claims_from, windows_into, windows_from, spends, is.ground_supply, is.ground_demand)
+    omega (
+      arith,
+      whole_into,
+      whole_from,
+      sum_below-split m n into,
+      sum_below-split m n from,
+      claims_into,
+      claims_from,
+      windows_into,
+      windows_from,
+      spends,
+      is.ground_supply,
+      is.ground_demand,
+    )
 
 pub empty_rests : (o : Obligations) (net : Network) → IsNetworkOf o net → AtRest net (empty_flow o)
 empty_rests o net is v in' =
@@ -124,11 +147,14 @@ free_gain arcs p a zeros =
     let h = zeros (slice_index arcs.heads a) in
     omega (arith, ints, t, h)
 
-full_slack : (o : Obligations) (net : Network) (p : List ℤ) → IsNetworkOf o net → ((f : ℕ) → price_at p f ≡ pos 0) → ArcSlack net.arcs (full_flow o) p
+full_slack : (o : Obligations) (net : Network) (p : List ℤ) → IsNetworkOf o net → ((f : ℕ) → price_at p f ≡ pos 0)
+    → ArcSlack net.arcs (full_flow o) p
 full_slack o net p is zeros = record {
-  full = λ a in'. by_kind (length o.amounts) (length o.spends) (λ k. pos 0 <ℤ arc_gain net.arcs p k → slice_index (full_flow o) k ≡ slice_index net.arcs.capacities k)
+  full = λ a in'. by_kind (length o.amounts) (length o.spends)
+      (λ k. pos 0 <ℤ arc_gain net.arcs p k → slice_index (full_flow o) k ≡ slice_index net.arcs.capacities k)
       (λ c lt h. full_claim o c lt ∙ sym (is.amount c lt))
-      (λ f lt h. let g = free_gain net.arcs p (length o.amounts + f) zeros in let r = is.free f lt in absurd (omega (arith, ints, g, r, h))) a (omega (arith, is.arcs, in'));
+      (λ f lt h. let g = free_gain net.arcs p (length o.amounts + f) zeros in let r = is.free f lt in absurd (omega (arith, ints, g, r, h)))
+      a (omega (arith, is.arcs, in'));
   empty = λ a in' h. let g = free_gain net.arcs p a zeros in absurd (omega (arith, ints, g, h));
 }
 

@@ -13,17 +13,23 @@ use Rattle.residual_network.proofs.Cut.{mark_cases}
 
 -- ---- the gains after a raise
 
-pub gain_inside : (arcs : Arcs) (p q : List ℤ) (labelled : List Bool) (d a : ℕ) → AreArcsAmong (length labelled) arcs → IsRaised p q labelled d → a < length arcs.capacities → mark labelled (slice_index arcs.tails a) ≡ mark labelled (slice_index arcs.heads a) → arc_gain arcs q a ≡ arc_gain arcs p a
+pub gain_inside : (arcs : Arcs) (p q : List ℤ) (labelled : List Bool) (d a : ℕ) → AreArcsAmong (length labelled) arcs
+    → IsRaised p q labelled d → a < length arcs.capacities
+    → mark labelled (slice_index arcs.tails a) ≡ mark labelled (slice_index arcs.heads a) → arc_gain arcs q a ≡ arc_gain arcs p a
 gain_inside arcs p q labelled d a is raised in' same =
     let e = raised.both (slice_index arcs.tails a) (slice_index arcs.heads a) (is.tail a in') (is.head a in') same in
     omega (arith, ints, e)
 
-pub gain_out : (arcs : Arcs) (p q : List ℤ) (labelled : List Bool) (d a : ℕ) → AreArcsAmong (length labelled) arcs → IsRaised p q labelled d → a < length arcs.capacities → mark labelled (slice_index arcs.tails a) ≡ 1 → mark labelled (slice_index arcs.heads a) ≡ 0 → arc_gain arcs q a ≡ arc_gain arcs p a +ℤ pos d
+pub gain_out : (arcs : Arcs) (p q : List ℤ) (labelled : List Bool) (d a : ℕ) → AreArcsAmong (length labelled) arcs
+    → IsRaised p q labelled d → a < length arcs.capacities → mark labelled (slice_index arcs.tails a) ≡ 1
+    → mark labelled (slice_index arcs.heads a) ≡ 0 → arc_gain arcs q a ≡ arc_gain arcs p a +ℤ pos d
 gain_out arcs p q labelled d a is raised in' t h =
     let e = raised.up (slice_index arcs.tails a) (slice_index arcs.heads a) (is.tail a in') (is.head a in') t h in
     omega (arith, ints, e)
 
-pub gain_into : (arcs : Arcs) (p q : List ℤ) (labelled : List Bool) (d a : ℕ) → AreArcsAmong (length labelled) arcs → IsRaised p q labelled d → a < length arcs.capacities → mark labelled (slice_index arcs.tails a) ≡ 0 → mark labelled (slice_index arcs.heads a) ≡ 1 → arc_gain arcs q a ≡ arc_gain arcs p a -ℤ pos d
+pub gain_into : (arcs : Arcs) (p q : List ℤ) (labelled : List Bool) (d a : ℕ) → AreArcsAmong (length labelled) arcs
+    → IsRaised p q labelled d → a < length arcs.capacities → mark labelled (slice_index arcs.tails a) ≡ 0
+    → mark labelled (slice_index arcs.heads a) ≡ 1 → arc_gain arcs q a ≡ arc_gain arcs p a -ℤ pos d
 gain_into arcs p q labelled d a is raised in' t h =
     let e = raised.up (slice_index arcs.heads a) (slice_index arcs.tails a) (is.head a in') (is.tail a in') h t in
     omega (arith, ints, e)
@@ -50,22 +56,31 @@ fact_into g h x u d e most facts = (
   λ b. elim (cases_lt 0 x) as (λ _. x ≡ 0) [ inl lt ↦ let le = most lt in absurd (omega (arith, ints, e, b, le)) | inr ge ↦ omega arith ],
 )
 
-raised_arc : (arcs : Arcs) (x : List ℕ) (p q : List ℤ) (labelled : List Bool) (d a : ℕ) → AreArcsAmong (length labelled) arcs → IsFlow arcs x → ArcSlack arcs x p → IsRaised p q labelled d → IsBelowRaises arcs x p labelled d → a < length arcs.capacities →
+raised_arc : (arcs : Arcs) (x : List ℕ) (p q : List ℤ) (labelled : List Bool) (d a : ℕ)
+    → AreArcsAmong (length labelled) arcs → IsFlow arcs x → ArcSlack arcs x p → IsRaised p q labelled d
+    → IsBelowRaises arcs x p labelled d → a < length arcs.capacities →
     ArcKept (arc_gain arcs q a) (slice_index x a) (slice_index arcs.capacities a)
 raised_arc arcs x p q labelled d a is flow facts raised least in' =
     let old : ArcKept (arc_gain arcs p a) (slice_index x a) (slice_index arcs.capacities a) = (facts.full a in', facts.empty a in') in
-    elim (mark_cases labelled (slice_index arcs.tails a)) as (λ _. ArcKept (arc_gain arcs q a) (slice_index x a) (slice_index arcs.capacities a)) [
-      | inl t0 ↦ elim (mark_cases labelled (slice_index arcs.heads a)) as (λ _. ArcKept (arc_gain arcs q a) (slice_index x a) (slice_index arcs.capacities a)) [
-        | inl h0 ↦ fact_same (arc_gain arcs p a) (arc_gain arcs q a) _ _ (gain_inside arcs p q labelled d a is raised in' (t0 ∙ sym h0)) old
-        | inr h1 ↦ fact_into (arc_gain arcs p a) (arc_gain arcs q a) (slice_index x a) (slice_index arcs.capacities a) d (gain_into arcs p q labelled d a is raised in' t0 h1) (least.into a in' t0 h1) old
-      ]
-      | inr t1 ↦ elim (mark_cases labelled (slice_index arcs.heads a)) as (λ _. ArcKept (arc_gain arcs q a) (slice_index x a) (slice_index arcs.capacities a)) [
-        | inl h0 ↦ fact_out (arc_gain arcs p a) (arc_gain arcs q a) (slice_index x a) (slice_index arcs.capacities a) d (gain_out arcs p q labelled d a is raised in' t1 h0) (flow.within a in') (least.out a in' t1 h0) old
-        | inr h1 ↦ fact_same (arc_gain arcs p a) (arc_gain arcs q a) _ _ (gain_inside arcs p q labelled d a is raised in' (t1 ∙ sym h1)) old
-      ]
+    elim (mark_cases labelled (slice_index arcs.tails a))
+    as (λ _. ArcKept (arc_gain arcs q a) (slice_index x a) (slice_index arcs.capacities a)) [
+      | inl t0 ↦ elim (mark_cases labelled (slice_index arcs.heads a))
+          as (λ _. ArcKept (arc_gain arcs q a) (slice_index x a) (slice_index arcs.capacities a)) [
+            | inl h0 ↦ fact_same (arc_gain arcs p a) (arc_gain arcs q a) _ _ (gain_inside arcs p q labelled d a is raised in' (t0 ∙ sym h0)) old
+            | inr h1 ↦ fact_into (arc_gain arcs p a) (arc_gain arcs q a) (slice_index x a) (slice_index arcs.capacities a) d
+                (gain_into arcs p q labelled d a is raised in' t0 h1) (least.into a in' t0 h1) old
+          ]
+      | inr t1 ↦ elim (mark_cases labelled (slice_index arcs.heads a))
+          as (λ _. ArcKept (arc_gain arcs q a) (slice_index x a) (slice_index arcs.capacities a)) [
+            | inl h0 ↦ fact_out (arc_gain arcs p a) (arc_gain arcs q a) (slice_index x a) (slice_index arcs.capacities a) d
+                (gain_out arcs p q labelled d a is raised in' t1 h0) (flow.within a in') (least.out a in' t1 h0) old
+            | inr h1 ↦ fact_same (arc_gain arcs p a) (arc_gain arcs q a) _ _ (gain_inside arcs p q labelled d a is raised in' (t1 ∙ sym h1)) old
+          ]
     ]
 
-pub raise_slack : (arcs : Arcs) (x : List ℕ) (p q : List ℤ) (labelled : List Bool) (d : ℕ) → AreArcsAmong (length labelled) arcs → IsFlow arcs x → ArcSlack arcs x p → IsRaised p q labelled d → IsBelowRaises arcs x p labelled d → ArcSlack arcs x q
+pub raise_slack : (arcs : Arcs) (x : List ℕ) (p q : List ℤ) (labelled : List Bool) (d : ℕ)
+    → AreArcsAmong (length labelled) arcs → IsFlow arcs x → ArcSlack arcs x p → IsRaised p q labelled d
+    → IsBelowRaises arcs x p labelled d → ArcSlack arcs x q
 raise_slack arcs x p q labelled d is flow facts raised least = record {
   full = λ a in'. (raised_arc arcs x p q labelled d a is flow facts raised least in').0;
   empty = λ a in'. (raised_arc arcs x p q labelled d a is flow facts raised least in').1;
@@ -76,7 +91,8 @@ raise_law = record { slack = raise_slack; inside = gain_inside; out = gain_out; 
 
 -- ---- the gains after squeezing
 
-above_back : (r : ℕ) (p q : List ℤ) (f g : ℕ) → (r ≡ 0) ⊎ (r ≡ 1) → IsSqueezed p q → pos 0 <ℤ ((pos r +ℤ price_at q f) -ℤ price_at q g) → pos 0 <ℤ ((pos r +ℤ price_at p f) -ℤ price_at p g)
+above_back : (r : ℕ) (p q : List ℤ) (f g : ℕ) → (r ≡ 0) ⊎ (r ≡ 1) → IsSqueezed p q
+    → pos 0 <ℤ ((pos r +ℤ price_at q f) -ℤ price_at q g) → pos 0 <ℤ ((pos r +ℤ price_at p f) -ℤ price_at p g)
 above_back r p q f g (inl e) squeezed h =
     let lt : price_at q g <ℤ price_at q f = omega (arith, ints, e, h) in
     let was = order_back p q g f squeezed lt in
@@ -86,7 +102,8 @@ above_back r p q f g (inr e) squeezed h =
     let was = gain_above_back p q f g squeezed one in
     omega (arith, ints, e, was)
 
-below_back : (r : ℕ) (p q : List ℤ) (f g : ℕ) → (r ≡ 0) ⊎ (r ≡ 1) → IsSqueezed p q → ((pos r +ℤ price_at q f) -ℤ price_at q g) <ℤ pos 0 → ((pos r +ℤ price_at p f) -ℤ price_at p g) <ℤ pos 0
+below_back : (r : ℕ) (p q : List ℤ) (f g : ℕ) → (r ≡ 0) ⊎ (r ≡ 1) → IsSqueezed p q
+    → ((pos r +ℤ price_at q f) -ℤ price_at q g) <ℤ pos 0 → ((pos r +ℤ price_at p f) -ℤ price_at p g) <ℤ pos 0
 below_back r p q f g (inl e) squeezed h =
     let lt : price_at q f <ℤ price_at q g = omega (arith, ints, e, h) in
     let was = order_back p q f g squeezed lt in
@@ -96,14 +113,18 @@ below_back r p q f g (inr e) squeezed h =
     let was = gain_below_back p q f g squeezed one in
     omega (arith, ints, e, was)
 
-pub squeezing_slack : (arcs : Arcs) (x : List ℕ) (p q : List ℤ) (n : ℕ) → AreArcsAmong n arcs → IsSqueezed p q → ArcSlack arcs x p → ArcSlack arcs x q
+pub squeezing_slack : (arcs : Arcs) (x : List ℕ) (p q : List ℤ) (n : ℕ) → AreArcsAmong n arcs → IsSqueezed p q
+    → ArcSlack arcs x p → ArcSlack arcs x q
 squeezing_slack arcs x p q n is squeezed facts = record {
-  full = λ a in' h. facts.full a in' (above_back (slice_index arcs.rewards a) p q (slice_index arcs.tails a) (slice_index arcs.heads a) (is.reward a in') squeezed h);
-  empty = λ a in' h. facts.empty a in' (below_back (slice_index arcs.rewards a) p q (slice_index arcs.tails a) (slice_index arcs.heads a) (is.reward a in') squeezed h);
+  full = λ a in' h. facts.full a in'
+      (above_back (slice_index arcs.rewards a) p q (slice_index arcs.tails a) (slice_index arcs.heads a) (is.reward a in') squeezed h);
+  empty = λ a in' h. facts.empty a in'
+      (below_back (slice_index arcs.rewards a) p q (slice_index arcs.tails a) (slice_index arcs.heads a) (is.reward a in') squeezed h);
 }
 
 -- a gain of 0 stays 0
-even_kept : (r : ℕ) (p q : List ℤ) (f g : ℕ) → (r ≡ 0) ⊎ (r ≡ 1) → IsSqueezed p q → ((pos r +ℤ price_at p f) -ℤ price_at p g) ≡ pos 0 → ((pos r +ℤ price_at q f) -ℤ price_at q g) ≡ pos 0
+even_kept : (r : ℕ) (p q : List ℤ) (f g : ℕ) → (r ≡ 0) ⊎ (r ≡ 1) → IsSqueezed p q
+    → ((pos r +ℤ price_at p f) -ℤ price_at p g) ≡ pos 0 → ((pos r +ℤ price_at q f) -ℤ price_at q g) ≡ pos 0
 even_kept r p q f g (inl e) squeezed h =
     let s = squeezed.same f g (omega (arith, ints, e, h)) in omega (arith, ints, e, s)
 even_kept r p q f g (inr e) squeezed h =
@@ -112,5 +133,6 @@ even_kept r p q f g (inr e) squeezed h =
 pub squeezing_law : SqueezingLaw
 squeezing_law = record {
   slack = squeezing_slack;
-  even = λ arcs p q n a is squeezed in' h. even_kept (slice_index arcs.rewards a) p q (slice_index arcs.tails a) (slice_index arcs.heads a) (is.reward a in') squeezed h;
+  even = λ arcs p q n a is squeezed in' h. even_kept (slice_index arcs.rewards a) p q (slice_index arcs.tails a)
+      (slice_index arcs.heads a) (is.reward a in') squeezed h;
 }
