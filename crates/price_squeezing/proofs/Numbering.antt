@@ -44,14 +44,17 @@ same_place s i j up in' jn e =
       ]
     ]
 
-placed_same : (p q s : List ℤ) (z f g : ℕ) → IsRising s → IsPlaced p q s z f → IsPlaced p q s z g → price_at p f ≡ price_at p g → price_at q f ≡ price_at q g
+placed_same : (p q s : List ℤ) (z f g : ℕ) → IsRising s → IsPlaced p q s z f → IsPlaced p q s z g
+    → price_at p f ≡ price_at p g → price_at q f ≡ price_at q g
 placed_same p q s z f g up a b e =
     let k = same_place s a.place b.place up a.within b.within (a.at ∙ e ∙ sym b.at) in
     a.number ∙ ap (λ n. pos n -ℤ pos z) k ∙ sym b.number
 
-placed_before : (p q s : List ℤ) (z f g : ℕ) → IsRising s → (a : IsPlaced p q s z f) → (b : IsPlaced p q s z g) → price_at p f <ℤ price_at p g → a.place < b.place
+placed_before : (p q s : List ℤ) (z f g : ℕ) → IsRising s → (a : IsPlaced p q s z f) → (b : IsPlaced p q s z g)
+    → price_at p f <ℤ price_at p g → a.place < b.place
 placed_before p q s z f g up a b lt =
-    later s a.place b.place up a.within (subst (λ (x : ℤ). x <ℤ price_at s b.place) (sym a.at) (subst (λ (x : ℤ). price_at p f <ℤ x) (sym b.at) lt))
+    later s a.place b.place up a.within
+    (subst (λ (x : ℤ). x <ℤ price_at s b.place) (sym a.at) (subst (λ (x : ℤ). price_at p f <ℤ x) (sym b.at) lt))
 
 number_rises : (i j z : ℕ) (a b : ℤ) → a ≡ pos i -ℤ pos z → b ≡ pos j -ℤ pos z → i < j → a <ℤ b
 number_rises i j z a b ea eb lt = omega (arith, ints)
@@ -66,14 +69,20 @@ placed_next p q s z f g levels a b lt none =
     elim (cases_lt (a.place + 1) b.place) as (λ _. price_at q g ≡ price_at q f +ℤ pos 1) [
       | inl gap ↦
           let mid = levels.only (a.place + 1) (omega (arith, b.within)) in
-          let low : price_at p f <ℤ price_at p mid.0 = subst (λ (x : ℤ). x <ℤ price_at p mid.0) a.at (subst (λ (x : ℤ). price_at s a.place <ℤ x) (sym mid.1) (levels.rising a.place (a.place + 1) (omega arith) (omega (arith, b.within)))) in
-          let high : price_at p mid.0 <ℤ price_at p g = subst (λ (x : ℤ). price_at p mid.0 <ℤ x) b.at (subst (λ (x : ℤ). x <ℤ price_at s b.place) (sym mid.1) (levels.rising (a.place + 1) b.place gap b.within)) in
+          let low : price_at p f <ℤ price_at p mid.0 =
+          subst (λ (x : ℤ). x <ℤ price_at p mid.0) a.at
+          (subst (λ (x : ℤ). price_at s a.place <ℤ x) (sym mid.1)
+          (levels.rising a.place (a.place + 1) (omega arith) (omega (arith, b.within)))) in
+          let high : price_at p mid.0 <ℤ price_at p g =
+          subst (λ (x : ℤ). price_at p mid.0 <ℤ x) b.at
+          (subst (λ (x : ℤ). x <ℤ price_at s b.place) (sym mid.1) (levels.rising (a.place + 1) b.place gap b.within)) in
           absurd (none mid.0 low high)
       | inr next ↦ number_next a.place b.place z _ _ a.number b.number (omega arith)
     ]
 
 -- a place past the last has price 0, which has its level too
-placed_all : (p q s : List ℤ) (z : ℕ) → length q ≡ length p → z < length s → price_at s z ≡ pos 0 → ((f : ℕ) → f < length p → IsPlaced p q s z f) → (f : ℕ) → IsPlaced p q s z f
+placed_all : (p q s : List ℤ) (z : ℕ) → length q ≡ length p → z < length s → price_at s z ≡ pos 0
+    → ((f : ℕ) → f < length p → IsPlaced p q s z f) → (f : ℕ) → IsPlaced p q s z f
 placed_all p q s z same in' zero each f =
     elim (cases_lt f (length p)) as (λ _. IsPlaced p q s z f) [
       | inl h ↦ each f h
@@ -85,22 +94,26 @@ placed_all p q s z same in' zero each f =
       }
     ]
 
-pub squeezed : (p q s : List ℤ) (z : ℕ) → IsLevels p s → length q ≡ length p → z < length s → price_at s z ≡ pos 0 → ((f : ℕ) → f < length p → IsPlaced p q s z f) → IsSqueezed p q
+pub squeezed : (p q s : List ℤ) (z : ℕ) → IsLevels p s → length q ≡ length p → z < length s → price_at s z ≡ pos 0
+    → ((f : ℕ) → f < length p → IsPlaced p q s z f) → IsSqueezed p q
 squeezed p q s z levels same in' zero each =
     let all = placed_all p q s z same in' zero each in
-    let alike : (f g : ℕ) → price_at p f ≡ price_at p g → price_at q f ≡ price_at q g = λ f g e. placed_same p q s z f g levels.rising (all f) (all g) e in
+    let alike : (f g : ℕ) → price_at p f ≡ price_at p g → price_at q f ≡ price_at q g =
+    λ f g e. placed_same p q s z f g levels.rising (all f) (all g) e in
     record {
       one_each = same;
       same = alike;
       zero = λ f e. alike f (length p) (e ∙ sym (price_past p (length p) (omega arith))) ∙ price_past q (length p) (omega arith);
-      rising = λ f g lt. number_rises (all f).place (all g).place z _ _ (all f).number (all g).number (placed_before p q s z f g levels.rising (all f) (all g) lt);
+      rising = λ f g lt. number_rises (all f).place (all g).place z _ _ (all f).number (all g).number
+          (placed_before p q s z f g levels.rising (all f) (all g) lt);
       neighbours = λ f g lt none. placed_next p q s z f g levels (all f) (all g) lt none;
     }
 
 near_step : (i z n : ℕ) (a : ℤ) → a ≡ pos i -ℤ pos z → i ≤ n → z ≤ n → unsigned_abs a ≤ n
 near_step i z n a e le lez = omega (arith, ints)
 
-pub near : (p q s : List ℤ) (z : ℕ) → IsLevels p s → length q ≡ length p → z < length s → ((f : ℕ) → f < length p → IsPlaced p q s z f) → IsNear (length p) q
+pub near : (p q s : List ℤ) (z : ℕ) → IsLevels p s → length q ≡ length p → z < length s
+    → ((f : ℕ) → f < length p → IsPlaced p q s z f) → IsNear (length p) q
 near p q s z levels same in' each f h =
     let placed : IsPlaced p q s z f = each f (omega arith) in
     near_step placed.place z (length p) _ placed.number (omega (arith, levels.few, placed.within)) (omega (arith, levels.few))
@@ -111,13 +124,19 @@ pub record IsPlacedBelow (p q s : List ℤ) (z n : ℕ) : Type 0 where
   pub done : (f : ℕ) → f < n → IsPlaced p q s z f
   pub kept : (f : ℕ) → n ≤ f → price_at q f ≡ price_at p f
 
-pub placed_more : (p q s : List ℤ) (z n k : ℕ) (v : ℤ) → IsPlacedBelow p q s z n → n < length q → k < length s → price_at s k ≡ price_at q n → v ≡ pos k -ℤ pos z → IsPlacedBelow p (set q n v) s z (n + 1)
+pub placed_more : (p q s : List ℤ) (z n k : ℕ) (v : ℤ) → IsPlacedBelow p q s z n → n < length q → k < length s
+    → price_at s k ≡ price_at q n → v ≡ pos k -ℤ pos z → IsPlacedBelow p (set q n v) s z (n + 1)
 placed_more p q s z n k v before in' within at number = record {
   long = length-set q n v ∙ before.long;
   done = below_more (IsPlaced p (set q n v) s z) n
       (λ f lt.
       let old = before.done f lt in
-      record { place = old.place; within = old.within; at = old.at; number = get_or-set_other q n f v (pos 0) (λ e. absurd (omega (arith, e))) ∙ old.number })
+      record {
+        place = old.place;
+        within = old.within;
+        at = old.at;
+        number = get_or-set_other q n f v (pos 0) (λ e. absurd (omega (arith, e))) ∙ old.number;
+      })
       (record { place = k; within = within; at = at ∙ before.kept n (omega arith); number = get_or-set_same q n v (pos 0) in' ∙ number });
   kept = λ f le. get_or-set_other q n f v (pos 0) (λ e. absurd (omega (arith, e))) ∙ before.kept f (omega arith);
 }
