@@ -29,11 +29,13 @@ all_flow net flows is lawful =
     let most = sum_below-all (arc_amounts net.arcs) n refl in
     omega (arith, all, most, is.total, sum_below-le n (λ a. slice_index flows a) (λ a. slice_index (arc_amounts net.arcs) a) lawful.within)
 
-flow_small : (net : NetView) (flows places : List ℕ) (m f : ℕ) → IsNet net → IsLawful (obligations_of_net net) flows → m ≤ length net.arcs → flow_at m places flows f < 2 ^ 58
+flow_small : (net : NetView) (flows places : List ℕ) (m f : ℕ) → IsNet net → IsLawful (obligations_of_net net) flows
+    → m ≤ length net.arcs → flow_at m places flows f < 2 ^ 58
 flow_small net flows places m f is lawful le =
     let n = length (arc_amounts net.arcs) in
     let all = sum_below-all flows n lawful.one_each in
-    let part = sum_below-le m (λ a. if slice_index places a == f then slice_index flows a else 0) (λ a. slice_index flows a) (λ a _. if_le (slice_index places a == f) (slice_index flows a)) in
+    let part = sum_below-le m (λ a. if slice_index places a == f then slice_index flows a else 0) (λ a. slice_index flows a)
+    (λ a _. if_le (slice_index places a == f) (slice_index flows a)) in
     omega (arith, all, part, sum_below_front m n (λ a. slice_index flows a) (omega (arith, arcs_long net)), all_flow net flows is lawful)
 
 pub flows_are_bounded : FlowsAreBounded

@@ -49,12 +49,18 @@ one_claim n ad ac w p q x a in' debtor creditor apart =
 pub crossing : (m n : ℕ) (cd cc ad ac : ℕ → ℕ) (w : ℕ → ℕ → ℕ) (x : ℕ → ℕ) →
     ((c : ℕ) → c < m → (a : ℕ) × (a < n) × (cd c ≡ ad a) × (cc c ≡ ac a)) →
     ((a b : ℕ) → a < n → b < n → ad a ≡ ad b → ac a ≡ ac b → a ≡ b) →
-    sum_below n (λ a. w (ad a) (ac a) * sum_below m (λ c. if cd c == ad a && cc c == ac a then x c else 0)) ≡ sum_below m (λ c. w (cd c) (cc c) * x c)
+    sum_below n (λ a. w (ad a) (ac a) * sum_below m (λ c. if cd c == ad a && cc c == ac a then x c else 0))
+    ≡ sum_below m (λ c. w (cd c) (cc c) * x c)
 crossing zero n cd cc ad ac w x has apart = sum_below-same n _ (λ _. 0) (λ k _. omega arith) ∙ sum_below-zero n
 crossing (suc m) n cd cc ad ac w x has apart =
     let hit : ℕ → ℕ → ℕ = λ c a. if cd c == ad a && cc c == ac a then x c else 0 in
     let arc = has m (omega arith) in
-    let split = sum_below-add n (λ a. w (ad a) (ac a) * sum_below m (λ c. if cd c == ad a && cc c == ac a then x c else 0)) (λ a. w (ad a) (ac a) * (if cd m == ad a && cc m == ac a then x m else 0)) in
-    let apart' = sum_below-same n (λ a. w (ad a) (ac a) * sum_below (suc m) (λ c. if cd c == ad a && cc c == ac a then x c else 0)) (λ a. w (ad a) (ac a) * sum_below m (λ c. if cd c == ad a && cc c == ac a then x c else 0) + w (ad a) (ac a) * (if cd m == ad a && cc m == ac a then x m else 0)) (λ k _. omega arith) in
-    let last = one_claim n ad ac w (cd m) (cc m) (x m) arc.0 arc.1 arc.2 arc.3 (λ b l ne d c. ne (apart b arc.0 l arc.1 (sym d ∙ arc.2) (sym c ∙ arc.3))) in
+    let split = sum_below-add n (λ a. w (ad a) (ac a) * sum_below m (λ c. if cd c == ad a && cc c == ac a then x c else 0))
+    (λ a. w (ad a) (ac a) * (if cd m == ad a && cc m == ac a then x m else 0)) in
+    let apart' = sum_below-same n
+    (λ a. w (ad a) (ac a) * sum_below (suc m) (λ c. if cd c == ad a && cc c == ac a then x c else 0))
+    (λ a. w (ad a) (ac a) * sum_below m (λ c. if cd c == ad a && cc c == ac a then x c else 0)
+    + w (ad a) (ac a) * (if cd m == ad a && cc m == ac a then x m else 0)) (λ k _. omega arith) in
+    let last = one_claim n ad ac w (cd m) (cc m) (x m) arc.0 arc.1 arc.2 arc.3
+    (λ b l ne d c. ne (apart b arc.0 l arc.1 (sym d ∙ arc.2) (sym c ∙ arc.3))) in
     omega (arith, split, apart', crossing m n cd cc ad ac w x (λ c l. has c (omega arith)) apart, last)

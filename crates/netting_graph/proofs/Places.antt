@@ -26,7 +26,8 @@ both : (p q r s : ℕ) → (p == r && q == s) ≡ true → (r ≡ p) × (s ≡ q
 both p q r s holds = (grind (arith, nat_tests), grind (arith, nat_tests))
 
 -- a pair that passes stands in the columns
-at_place : (test : Pair → Bool) (pairs : List Pair) (debtor creditor a : ℕ) → IsTestOf test debtor creditor → a < length pairs → test (get_or pairs a no_pair) ≡ true → IsPairAt (columns pairs) debtor creditor a
+at_place : (test : Pair → Bool) (pairs : List Pair) (debtor creditor a : ℕ) → IsTestOf test debtor creditor
+    → a < length pairs → test (get_or pairs a no_pair) ≡ true → IsPairAt (columns pairs) debtor creditor a
 at_place test pairs debtor creditor a is in' holds =
     let p : Pair = get_or pairs a no_pair in
     let same = both debtor creditor p.debtor p.creditor (sym (is p) ∙ holds) in
@@ -37,16 +38,19 @@ at_place test pairs debtor creditor a is in' holds =
     }
 
 -- a pair of the columns passes
-passes : (test : Pair → Bool) (pairs : List Pair) (debtor creditor a : ℕ) → IsTestOf test debtor creditor → IsPairAt (columns pairs) debtor creditor a → list_any test pairs ≡ true
+passes : (test : Pair → Bool) (pairs : List Pair) (debtor creditor a : ℕ) → IsTestOf test debtor creditor
+    → IsPairAt (columns pairs) debtor creditor a → list_any test pairs ≡ true
 passes test pairs debtor creditor a is at =
     let p : Pair = get_or pairs a no_pair in
     let in' : a < length pairs = omega (arith, at.within, length-map pairs (λ (p : Pair). p.debtor)) in
     let d = get_or-map (λ (p : Pair). p.debtor) pairs a no_pair 0 in' in
     let c = get_or-map (λ (p : Pair). p.creditor) pairs a no_pair 0 in' in
-    list_any_at test pairs a no_pair in' (is p ∙ pair_yes debtor creditor p.debtor p.creditor (sym at.debtor_is ∙ d) (sym at.creditor_is ∙ c))
+    list_any_at test pairs a no_pair in'
+    (is p ∙ pair_yes debtor creditor p.debtor p.creditor (sym at.debtor_is ∙ d) (sym at.creditor_is ∙ c))
 
 -- what a look-up answers
-pub found : (test : Pair → Bool) (pairs : List Pair) (debtor creditor : ℕ) (r : Option ℕ) → IsTestOf test debtor creditor → r ≡ position test pairs → is_some r ≡ list_any test pairs →
+pub found : (test : Pair → Bool) (pairs : List Pair) (debtor creditor : ℕ) (r : Option ℕ) → IsTestOf test debtor creditor
+    → r ≡ position test pairs → is_some r ≡ list_any test pairs →
     MatchOption r ((a : ℕ) → IsPairAt (columns pairs) debtor creditor a → ⊥) (IsPairAt (columns pairs) debtor creditor)
 found test pairs debtor creditor (Some a) is e some =
     let first = position-Some test pairs a no_pair (sym e) in
@@ -55,7 +59,8 @@ found test pairs debtor creditor None is e some =
     λ a at. true≢false (sym (some ∙ passes test pairs debtor creditor a is at))
 
 -- no pair passes where none of the columns is the pair
-none_passes : (test : Pair → Bool) (pairs : List Pair) (debtor creditor : ℕ) → IsTestOf test debtor creditor → ((a : ℕ) → IsPairAt (columns pairs) debtor creditor a → ⊥) → list_any test pairs ≡ false
+none_passes : (test : Pair → Bool) (pairs : List Pair) (debtor creditor : ℕ) → IsTestOf test debtor creditor
+    → ((a : ℕ) → IsPairAt (columns pairs) debtor creditor a → ⊥) → list_any test pairs ≡ false
 none_passes test pairs debtor creditor is none =
     let each : (a : ℕ) (d : Pair) → a < length pairs → test (get_or pairs a d) ≡ false =
     λ a d in'.
@@ -69,15 +74,21 @@ none_passes test pairs debtor creditor is none =
     is_false false h = refl
 
 -- a new pair goes last
-pub put_last : (test : Pair → Bool) (pairs new : List Pair) (debtor creditor : ℕ) → IsTestOf test debtor creditor → ((a : ℕ) → IsPairAt (columns pairs) debtor creditor a → ⊥) →
+pub put_last : (test : Pair → Bool) (pairs new : List Pair) (debtor creditor : ℕ) → IsTestOf test debtor creditor
+    → ((a : ℕ) → IsPairAt (columns pairs) debtor creditor a → ⊥) →
     new ≡ (if list_any test pairs then pairs else pairs ++ record { debtor = debtor; creditor = creditor } ∷ []) →
-    columns new ≡ record { debtors = map (λ (p : Pair). p.debtor) pairs ++ debtor ∷ []; creditors = map (λ (p : Pair). p.creditor) pairs ++ creditor ∷ [] }
+    columns new ≡ record {
+      debtors = map (λ (p : Pair). p.debtor) pairs ++ debtor ∷ [];
+      creditors = map (λ (p : Pair). p.creditor) pairs ++ creditor ∷ [];
+    }
 put_last test pairs new debtor creditor is none e =
     let last : Pair = record { debtor = debtor; creditor = creditor } in
-    let longer : new ≡ pairs ++ last ∷ [] = e ∙ ap (λ (b : Bool). if b then pairs else pairs ++ last ∷ []) (none_passes test pairs debtor creditor is none) in
+    let longer : new ≡ pairs ++ last ∷ [] =
+    e ∙ ap (λ (b : Bool). if b then pairs else pairs ++ last ∷ []) (none_passes test pairs debtor creditor is none) in
     let d = map-append (λ (p : Pair). p.debtor) pairs (last ∷ []) in
     let c = map-append (λ (p : Pair). p.creditor) pairs (last ∷ []) in
-    ap columns longer ∙ ap (λ (ds : List ℕ). two ds (map (λ (p : Pair). p.creditor) (pairs ++ last ∷ []))) d ∙ ap (λ (cs : List ℕ). two (map (λ (p : Pair). p.debtor) pairs ++ debtor ∷ []) cs) c
+    ap columns longer ∙ ap (λ (ds : List ℕ). two ds (map (λ (p : Pair). p.creditor) (pairs ++ last ∷ []))) d
+    ∙ ap (λ (cs : List ℕ). two (map (λ (p : Pair). p.debtor) pairs ++ debtor ∷ []) cs) c
   where
     two : List ℕ → List ℕ → Pairs
     two ds cs = record { debtors = ds; creditors = cs }

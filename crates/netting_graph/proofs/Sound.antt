@@ -51,15 +51,23 @@ module _ (cut : CutView) (net : NetView) (formed : WellFormed cut) (is : IsNetOf
       let here = pair_yes (cd claim.0) (cc claim.0) (ad a) (ac a) claim.2.debtor claim.2.creditor in
       let one : hit a claim.0 ≡ 1 = rw here refl in
       omega (arith, one, sum_below_term m (hit a) claim.0 claim.1) in
-      let all = crossing m n cd cc ad ac (λ _ _. 1) (λ _. 1) has (one_arc (obligations cut) (obligations_of_net net) (net_merged cut net is)) in
+      let all = crossing m n cd cc ad ac (λ _ _. 1) (λ _. 1) has
+      (one_arc (obligations cut) (obligations_of_net net) (net_merged cut net is)) in
       omega (arith, all, ones n, ones m, sum_below-le n (λ _. 1) (λ a. 1 * sum_below m (hit a)) counted, arcs_long net)
 
   -- all arcs have what all claims have
   small_total : total_of (arc_amounts net.arcs) ≤ most_claims * most_amount
   small_total =
-      let same = same_total (obligations cut) (obligations_of_net net) (amounts cut.claims) (arc_amounts net.arcs) (net_merged cut net is) (net_merged cut net is).amount refl refl in
+      let same = same_total (obligations cut) (obligations_of_net net) (amounts cut.claims) (arc_amounts net.arcs)
+      (net_merged cut net is) (net_merged cut net is).amount refl refl in
       let all = sum_below-all (amounts cut.claims) (length cut.claims) (claims_long cut) in
-      omega (arith, same, all, formed.few_claims, sum_below_limit (length cut.claims) most_amount (λ c. slice_index (amounts cut.claims) c) (λ c l. amount_small cut c formed l))
+      omega (
+        arith,
+        same,
+        all,
+        formed.few_claims,
+        sum_below_limit (length cut.claims) most_amount (λ c. slice_index (amounts cut.claims) c) (λ c l. amount_small cut c formed l),
+      )
 
   -- an arc is between the parties of its claims
   among : (k : ℕ) (d : Arc) → k < length net.arcs → IsArcAmong net.parties (get_or net.arcs k d)
@@ -76,10 +84,13 @@ module _ (cut : CutView) (net : NetView) (formed : WellFormed cut) (is : IsNetOf
       let p : ℕ = slice_index (arc_debtors net.arcs) k in
       let q : ℕ = slice_index (arc_creditors net.arcs) k in
       let debtor_is : (get_or net.arcs k d).debtor ≡ (get_or cut.claims claim.0 no_claim).debtor = sym ad ∙ sym claim.2.debtor ∙ cd in
-      let creditor_is : (get_or net.arcs k d).creditor ≡ (get_or cut.claims claim.0 no_claim).creditor = sym ac ∙ sym claim.2.creditor ∙ cc in
+      let creditor_is : (get_or net.arcs k d).creditor ≡ (get_or cut.claims claim.0 no_claim).creditor =
+      sym ac ∙ sym claim.2.creditor ∙ cc in
       let places : length net.parties ≡ length cut.parties = ap (λ (ps : List Party). length ps) is.parties in
-      let term : ℕ → ℕ = λ c. if slice_index (debtors cut.claims) c == p && slice_index (creditors cut.claims) c == q then slice_index (amounts cut.claims) c else 0 in
-      let here = pair_yes (slice_index (debtors cut.claims) claim.0) (slice_index (creditors cut.claims) claim.0) p q claim.2.debtor claim.2.creditor in
+      let term : ℕ → ℕ = λ c. if slice_index (debtors cut.claims) c == p && slice_index (creditors cut.claims) c == q then
+      slice_index (amounts cut.claims) c else 0 in
+      let here = pair_yes (slice_index (debtors cut.claims) claim.0) (slice_index (creditors cut.claims) claim.0) p q
+      claim.2.debtor claim.2.creditor in
       let own : term claim.0 ≡ slice_index (amounts cut.claims) claim.0 = rw here refl in
       let sum = sum_below_term (length cut.claims) term claim.0 claim.1 in
       let whole = sum_below-all (arc_amounts net.arcs) (length net.arcs) (arcs_long net) in
@@ -92,11 +103,14 @@ module _ (cut : CutView) (net : NetView) (formed : WellFormed cut) (is : IsNetOf
         limit = omega (arith, au, part, whole, small_total);
       }
 
-  pairs_differ : (i j : ℕ) (d : Arc) → i < j → j < length net.arcs → (get_or net.arcs i d).debtor ≡ (get_or net.arcs j d).debtor → (get_or net.arcs i d).creditor ≡ (get_or net.arcs j d).creditor → ⊥
+  pairs_differ : (i j : ℕ) (d : Arc) → i < j → j < length net.arcs
+      → (get_or net.arcs i d).debtor ≡ (get_or net.arcs j d).debtor → (get_or net.arcs i d).creditor ≡ (get_or net.arcs j d).creditor → ⊥
   pairs_differ i j d lt l debtor creditor =
       is.merged.apart i j lt (omega (arith, arcs_long net)) (record {
-        debtor = get_or-map (λ (a : Arc). a.debtor) net.arcs i d 0 (omega arith) ∙ debtor ∙ sym (get_or-map (λ (a : Arc). a.debtor) net.arcs j d 0 l);
-        creditor = get_or-map (λ (a : Arc). a.creditor) net.arcs i d 0 (omega arith) ∙ creditor ∙ sym (get_or-map (λ (a : Arc). a.creditor) net.arcs j d 0 l);
+        debtor = get_or-map (λ (a : Arc). a.debtor) net.arcs i d 0 (omega arith) ∙ debtor
+            ∙ sym (get_or-map (λ (a : Arc). a.debtor) net.arcs j d 0 l);
+        creditor = get_or-map (λ (a : Arc). a.creditor) net.arcs i d 0 (omega arith) ∙ creditor
+            ∙ sym (get_or-map (λ (a : Arc). a.creditor) net.arcs j d 0 l);
       })
 
   small_spends : All (λ (f : Party). f.spend ≤ most_window) cut.parties

@@ -13,4 +13,5 @@ returns c =
     let pairs = c.self.inside.pairs.keys in
     let none : (a : ℕ) → IsPairAt (columns pairs) c.args.debtor c.args.creditor a → ⊥ =
     subst (λ (v : Pairs). (a : ℕ) → IsPairAt v c.args.debtor c.args.creditor a → ⊥) (sym c.self.view_is) c.requires in
-    put_last _ pairs c.insert.new.self.keys c.args.debtor c.args.creditor (λ x. refl) none c.in_ok-insert.ensures.keys ∙ ap (λ (v : Pairs). longer v c.args.debtor c.args.creditor) c.self.view_is
+    put_last _ pairs c.insert.new.self.keys c.args.debtor c.args.creditor (λ x. refl) none c.in_ok-insert.ensures.keys
+    ∙ ap (λ (v : Pairs). longer v c.args.debtor c.args.creditor) c.self.view_is
