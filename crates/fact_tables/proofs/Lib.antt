@@ -1,4 +1,5 @@
 pub mod Places
+pub mod Putting
 pub mod Balances
 pub mod Flowing
 pub mod Keyed
