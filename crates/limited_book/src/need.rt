@@ -3,10 +3,10 @@ ghost use Rattle.std.specs.Prelude.{◌≡◌, ◌+◌, ◌*◌, ◌≤◌, leng
 ghost use Rattle.setoff_model.specs.CutView.{WellFormed};
 ghost use Rattle.claim_history.specs.Acts.{is_valid};
 ghost use Rattle.act_bodies.specs.Bodies.{most_body};
-ghost use Rattle.claim_history.specs.Needs.{is_counted, is_of_device, own_bytes as bytes_of};
+ghost use Rattle.claim_history.specs.Needs.{is_counted, own_bytes as bytes_of};
 
 use act_bodies::body_length;
-use claim_history::{Act, Entry, Reply, Why};
+use claim_history::{Act, Entry, Reply, tells_of_device};
 use setoff_model::Cut;
 
 /// Entries of a history, and bytes of a journal.
@@ -36,15 +36,9 @@ pub(crate) fn use_of(entry: &Entry) -> Need
     ensures one { result.entries ≤ 1 }
     ensures few { result.bytes ≤ most_body + 5 }
 {
-    let entries = if tells_of_device(entry.reply) { 0 } else { 1 };
+    let entries = if tells_of_device(&entry.reply) { 0 } else { 1 };
     let bytes = own_bytes(&entry.act, entry.reply);
     Need { entries, bytes }
-}
-
-fn tells_of_device(reply: Reply) -> bool
-    ensures { result ≡ is_of_device reply }
-{
-    matches!(reply, Reply::Refused(Why::Device { .. }))
 }
 
 /// What both endings of the round of a cut need: its publication and an abandonment.
