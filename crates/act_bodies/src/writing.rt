@@ -1,5 +1,5 @@
 //! Writing a body.
-ghost use Rattle.std.specs.Prelude.{◌≡◌, ◌+◌, ◌*◌, ◌≤◌, ◌<◌, ◌^◌, ◌++◌, ◌∷◌, [], All, length, unsigned_abs, vec_len, vec_capacity, true};
+ghost use Rattle.std.specs.Prelude.{◌≡◌, ◌+◌, ◌*◌, ◌≤◌, ◌<◌, ◌++◌, ◌∷◌, All, length, unsigned_abs, vec_len, vec_capacity, true};
 ghost use Rattle.std.specs.List.{flat_map};
 ghost use Rattle.setoff_model.specs.Limits.{most_claims, most_firms};
 ghost use Rattle.setoff_model.specs.declared.kind.Kind.{Kind};
