@@ -1,7 +1,6 @@
 //! The line that a text is, read by its fields.
-ghost use Rattle.std.specs.Prelude.{◌≡◌, ◌↔◌, ◌∷◌, ◌<◌, ◌≤◌, ◌^◌, ℕ, [], codes, decimal, map, true, false, IfOk, IfSome, IfNone, unsigned_abs};
+ghost use Rattle.std.specs.Prelude.{◌≡◌, ◌∷◌, ◌<◌, ◌≤◌, ℕ, [], codes, decimal, map, IfOk, IfSome, IfNone};
 ghost use Rattle.setoff_model.specs.Limits.{most_rounds, most_window};
-ghost use Rattle.setoff_model.specs.Names.{is_name};
 ghost use Rattle.setoff_model.specs.Texts.{cents_text};
 ghost use Rattle.statement_text.specs.Lines.{AreFields, AreNoFields, IsLine, IsNoLine};
 

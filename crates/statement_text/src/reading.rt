@@ -1,7 +1,7 @@
 //! Reading statements.
-ghost use Rattle.std.specs.Prelude.{◌≡◌, ◌+◌, ◌<◌, ◌≤◌, ◌^◌, ◌++◌, ◌∷◌, [], ℕ, List, length, IfOk, IfErr};
+ghost use Rattle.std.specs.Prelude.{◌≡◌, ◌+◌, ◌<◌, ◌++◌, ◌∷◌, [], ℕ, List, length, IfOk, IfErr};
 ghost use Rattle.std.specs.Str.Lines.{lines};
-ghost use Rattle.statement_text.specs.Lines.{IsInRange, IsLine, IsNoLine};
+ghost use Rattle.statement_text.specs.Lines.{IsInRange};
 ghost use Rattle.statement_text.specs.Statements.{CanBeStated, IsStatement, IsNoStatement, IsNoFront, IsFirstBadLine, OnBadLine};
 ghost use Rattle.statement_text.specs.Drafts.{lines_of, texts_of, IsNoNext};
 ghost use Rattle.statement_text.specs.Causes.{HasCause, HasLineCause, HasTextCause, IsNoHeadText, OnCause};
