@@ -1,5 +1,5 @@
 //! The bytes of a journal on its disk, and the writes of an append.
-ghost use Rattle.std.specs.Prelude.{◌≡◌, ◌+◌, ◌^◌, ◌<◌, ◌≤◌, ℕ, true, false, List, [], ◌∷◌, ◌++◌, length, Option, Some, None, IsTrue, OnOk, OnErr, vec_capacity};
+ghost use Rattle.std.specs.Prelude.{◌≡◌, ◌+◌, ◌<◌, ◌≤◌, ℕ, true, false, List, [], ◌∷◌, ◌++◌, length, Option, Some, None, IsTrue, OnOk, OnErr, vec_capacity};
 ghost use Rattle.disk_model.specs.Calls.{Passes};
 ghost use Rattle.setoff_model.specs.Limits.{most_journal_bytes};
 ghost use Rattle.fault_count.specs.Counts.{IsCounted};

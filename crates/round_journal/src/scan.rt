@@ -1,5 +1,5 @@
 //! Reads the records in the bytes of a journal.
-ghost use Rattle.std.specs.Prelude.{◌≡◌, ◌+◌, ◌<◌, ◌≤◌, ◌↔◌, true, [], length, take, drop, slice_index, IfOk, IfErr, IsTrue, MatchBool, MatchOption, MatchResult};
+ghost use Rattle.std.specs.Prelude.{◌≡◌, ◌+◌, ◌<◌, ◌≤◌, ◌↔◌, true, [], length, take, IfOk, IfErr, IsTrue, MatchBool, MatchOption, MatchResult};
 ghost use Rattle.act_bodies.specs.Bodies.{body_of, is_keepable};
 ghost use Rattle.round_journal.specs.Bytes.{header, StandsFor, StandsForNone};
 ghost use Rattle.round_journal.specs.Reading.{HasRecord, IsShort};

@@ -1,5 +1,5 @@
 //! Reads all bytes of a disk.
-ghost use Rattle.std.specs.Prelude.{◌≡◌, ◌≤◌, IfErr, IfOk, IsTrue};
+ghost use Rattle.std.specs.Prelude.{◌≡◌, IfErr, IfOk, IsTrue};
 ghost use Rattle.round_journal.specs.Opened.{IsQuiet};
 ghost use Rattle.round_journal.specs.Stops.{IsHalt};
 
