@@ -1,6 +1,5 @@
 -- Invoices as CSV: a row of names, and below it a row for each invoice, which are read as FILE requests.
-use Rattle.std.specs.Prelude.{◌≡◌, ◌≢◌, ℕ, zero, suc, ◌+◌, true, List, [], ◌∷◌, ◌++◌, length, map, codes}
-use Rattle.claim_history.specs.Days.{day_text}
+use Rattle.std.specs.Prelude.{◌≡◌, ◌≢◌, ℕ, ◌+◌, List, [], ◌∷◌, ◌++◌, length, map, codes}
 use Rattle.claim_history.specs.declared.act.Act.{Act}
 use Rattle.request_text.specs.Grammar.{AreArgs, Asked, request_line, batch_text, numbered, IsRequestText}
 use Rattle.request_text.specs.Lanes.{IsLane}

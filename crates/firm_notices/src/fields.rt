@@ -1,5 +1,5 @@
 //! The texts of fields.
-ghost use Rattle.std.specs.Prelude.{◌≡◌, ◌-◌, ℤ, pos, IfOk, decimal};
+ghost use Rattle.std.specs.Prelude.{◌≡◌, ◌-◌, IfOk, decimal};
 ghost use Rattle.setoff_model.specs.Texts.{cents_text, signed_cents_text};
 ghost use Rattle.claim_history.specs.Days.{day_text};
 ghost use Rattle.firm_notices.specs.Notices.{status_text};

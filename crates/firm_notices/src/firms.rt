@@ -2,7 +2,6 @@
 ghost use Rattle.std.specs.Prelude.{◌≡◌, ◌∷◌, [], ◌++◌, ℕ, List, IfOk, OnOk};
 ghost use Rattle.csv.specs.Writing.{row_text, default_writer};
 ghost use Rattle.claim_book.specs.Book.{ledger_of};
-ghost use Rattle.claim_history.specs.Facts.{account_facts};
 ghost use Rattle.firm_notices.specs.Tables.{HoldsText};
 ghost use Rattle.firm_notices.specs.Positions.{position_fields, positions_text};
 

@@ -1,8 +1,5 @@
 //! The FILE of a row's fields.
-ghost use Rattle.std.specs.Prelude.{◌≡◌, ◌∷◌, [], true, false, IsTrue, ◌↔◌, get_or, IfOk, IfErr, IfSome, IfNone};
-ghost use Rattle.setoff_model.specs.Texts.{cents_text};
-ghost use Rattle.claim_history.specs.Acts.{is_claim_amount};
-ghost use Rattle.request_text.specs.Causes.{HasForm, some_cents};
+ghost use Rattle.std.specs.Prelude.{◌≡◌, ◌∷◌, [], true, false, IsTrue, ◌↔◌, get_or, IfOk, IfErr};
 ghost use Rattle.csv.specs.Records.{fields_of};
 ghost use Rattle.firm_notices.specs.Invoices.{IsInvoice, HasCause, invoice_names};
 

@@ -1,7 +1,7 @@
 //! The rows of a CSV text, read one after another.
-ghost use Rattle.std.specs.Prelude.{◌≡◌, ◌<◌, ◌++◌, ◌∷◌, [], ℕ, List, Bool, true, false, IfOk};
+ghost use Rattle.std.specs.Prelude.{◌<◌, [], ℕ, List, true, false, IfOk};
 ghost use Rattle.csv.specs.Records.{fields_of};
-ghost use Rattle.firm_notices.specs.Rows.{StandsAt, AreRows, bytes_left, MovesOn};
+ghost use Rattle.firm_notices.specs.Rows.{StandsAt, MovesOn};
 
 use csv::{ByteRecord, Reader, ReaderBuilder};
 use std::alloc::{AllocError, Global};
