@@ -1,7 +1,7 @@
 -- The text of a run, piece by piece.
 use Rattle.std.specs.Prelude.{reverse, slice_get, codes, Option, Some, None, ℤ, pos, unsigned_abs}
 use Rattle.std.specs.Option.{option_map}
-use Rattle.std.proofs.Common.{◌≡◌, ℕ, ◌+◌, ◌<◌, ◌≤◌, ◌^◌, Bool, true, List, [], ◌∷◌, ◌++◌, length, get_or, drop, take, All, refl, sym, ◌∙◌, ap, ap₂, subst, append_assoc, add-one, drop-cons, arith}
+use Rattle.std.proofs.Common.{◌≡◌, ℕ, ◌+◌, ◌<◌, ◌≤◌, ◌^◌, true, List, [], ◌∷◌, ◌++◌, length, get_or, drop, take, All, refl, sym, ◌∙◌, ap, ap₂, subst, append_assoc, add-one, drop-cons, arith}
 use Rattle.std.proofs.lemmas.Option.{slice_get-get_or, slice_get_read, slice_get_within}
 use Rattle.std.proofs.lemmas.List.{append-nil, drop_more, get_or_at, length-append, length-drop, length-reverse, get_or-drop, take-append-drop, take_more}
 use Rattle.std.proofs.lemmas.List.Folds.{flat_map-map}

@@ -1,8 +1,7 @@
 //! Fault lines that end a run.
-ghost use Rattle.std.specs.Prelude.{◌≡◌, ◌≢◌, ◌⊎◌, ◌≤◌};
+ghost use Rattle.std.specs.Prelude.{◌≡◌, ◌≢◌, ◌⊎◌};
 ghost use Rattle.fault_count.specs.Counts.{HasRisen};
-ghost use Rattle.printed_text.specs.Texts.{bad_line_text};
-ghost use Rattle.printed_text.specs.Writing.{IsWritten, Wrote};
+ghost use Rattle.printed_text.specs.Writing.{IsWritten};
 
 use bureau_edge::{Sink, write_all};
 

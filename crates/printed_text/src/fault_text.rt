@@ -1,7 +1,7 @@
 //! The lines that tell of faults.
-ghost use Rattle.std.specs.Prelude.{◌≡◌, ◌+◌, ◌≤◌, ◌++◌, length, vec_len, vec_capacity};
+ghost use Rattle.std.specs.Prelude.{◌≡◌, ◌+◌, ◌≤◌, ◌++◌, codes, decimal, length, vec_len, vec_capacity};
 ghost use Rattle.setoff_model.specs.Limits.{line_bytes};
-ghost use Rattle.printed_text.specs.Texts.{memory_line, full_line, room_text, fault_line_text, cause_text, bad_line_text, row_cause_text, bad_row_text, statement_cause_text, bad_statement_text};
+ghost use Rattle.printed_text.specs.Texts.{memory_line, full_line, room_text, cause_text, bad_line_text, row_cause_text, bad_row_text, statement_cause_text, bad_statement_text};
 
 use firm_notices::RowCause;
 use limited_book::Room;
@@ -49,6 +49,19 @@ pub fn write_full_line(buffer: &mut Vec<u8>, line: u64, what: Room, needed: u64,
     put(buffer, b"\n");
 }
 
+// Words with a space behind them, a number, and a space.
+fn write_place(buffer: &mut Vec<u8>, words: &[u8], number: u64)
+    requires spare { vec_len buffer.old + line_bytes ≤ vec_capacity buffer.old }
+    requires words { length words.now ≤ 11 }
+    ensures text { buffer.new.items ≡ buffer.old.items ++ (words.now ++ decimal number ++ codes " ") }
+    ensures len { vec_len buffer.new ≤ vec_len buffer.old + 40 }
+    ensures room { vec_capacity buffer.old ≤ vec_capacity buffer.new }
+{
+    put(buffer, words);
+    write_whole(buffer, number);
+    put(buffer, b" ");
+}
+
 fn write_cause(buffer: &mut Vec<u8>, cause: LineCause)
     requires { vec_len buffer.old + 70 ≤ vec_capacity buffer.old }
     ensures text { buffer.new.items ≡ buffer.old.items ++ cause_text cause }
@@ -74,9 +87,7 @@ pub fn write_bad_line(buffer: &mut Vec<u8>, line: u64, cause: LineCause)
     ensures len { vec_len buffer.new ≤ vec_len buffer.old + line_bytes }
     ensures room { vec_capacity buffer.old ≤ vec_capacity buffer.new }
 {
-    put(buffer, b"fault line ");
-    write_whole(buffer, line);
-    put(buffer, b" ");
+    write_place(buffer, b"fault line ", line);
     write_cause(buffer, cause);
     put(buffer, b"\n");
 }
@@ -105,9 +116,7 @@ pub fn write_bad_row(buffer: &mut Vec<u8>, row: u64, cause: RowCause)
     ensures len { vec_len buffer.new ≤ vec_len buffer.old + line_bytes }
     ensures room { vec_capacity buffer.old ≤ vec_capacity buffer.new }
 {
-    put(buffer, b"fault row ");
-    write_whole(buffer, row);
-    put(buffer, b" ");
+    write_place(buffer, b"fault row ", row);
     write_row_cause(buffer, cause);
     put(buffer, b"\n");
 }
@@ -137,9 +146,7 @@ pub fn write_bad_statement(buffer: &mut Vec<u8>, line: u64, cause: StatementCaus
     ensures len { vec_len buffer.new ≤ vec_len buffer.old + line_bytes }
     ensures room { vec_capacity buffer.old ≤ vec_capacity buffer.new }
 {
-    put(buffer, b"fault line ");
-    write_whole(buffer, line);
-    put(buffer, b" ");
+    write_place(buffer, b"fault line ", line);
     put(buffer, statement_cause(cause));
     put(buffer, b"\n");
 }
