@@ -1,5 +1,5 @@
 //! A statement as far as it is read.
-ghost use Rattle.std.specs.Prelude.{◌≡◌, ◌↔◌, ◌<◌, ◌≤◌, ◌^◌, true, IfErr, IfOk, IfSome, OnErr, IsNone, IsTrue, unsigned_abs};
+ghost use Rattle.std.specs.Prelude.{◌≡◌, ◌≢◌, ◌↔◌, ◌++◌, ◌∷◌, [], All, OnOk, ◌<◌, ◌≤◌, ◌^◌, true, IfErr, IfOk, IfSome, OnErr, IsNone, IsTrue, unsigned_abs};
 ghost use Rattle.setoff_model.specs.Limits.{most_amount, most_window};
 ghost use Rattle.setoff_model.specs.CutView.{IsWindowOf};
 
@@ -44,6 +44,44 @@ fn has_window_of(kind: Kind, party: &Party) -> bool
         Kind::Plain => party.spend == 0 && party.room == 0,
         Kind::Funded => true,
     }
+}
+
+// Puts a party behind the others, and its price behind theirs.
+fn put_party(
+    firms: &mut IndexSet<Name>,
+    parties: &mut Vec<Party>,
+    prices: &mut Vec<i64>,
+    party: Party,
+    price: i64,
+) -> Result<(), AllocError>
+    requires { All (λ f. f ≢ party.firm) firms.old.keys }
+    ensures firms { OnOk result (firms.new.keys ≡ firms.old.keys ++ party.firm ∷ []) }
+    ensures parties { OnOk result (parties.new.items ≡ parties.old.items ++ party ∷ []) }
+    ensures prices { OnOk result (prices.new.items ≡ prices.old.items ++ price ∷ []) }
+{
+    add_firm(firms, party.firm)?;
+    parties.push(party)?;
+    prices.push(price)?;
+    Ok(())
+}
+
+// Puts a claim behind the others, and its discharge behind theirs.
+fn put_claim(
+    keys: &mut IndexSet<Key>,
+    claims: &mut Vec<CutClaim>,
+    discharges: &mut Vec<u64>,
+    claim: CutClaim,
+    discharge: u64,
+) -> Result<(), AllocError>
+    requires { All (λ k. k ≢ claim.key) keys.old.keys }
+    ensures keys { OnOk result (keys.new.keys ≡ keys.old.keys ++ claim.key ∷ []) }
+    ensures claims { OnOk result (claims.new.items ≡ claims.old.items ++ claim ∷ []) }
+    ensures discharges { OnOk result (discharges.new.items ≡ discharges.old.items ++ discharge ∷ []) }
+{
+    add_key(keys, claim.key)?;
+    claims.push(claim)?;
+    discharges.push(discharge)?;
+    Ok(())
 }
 
 impl Draft {
@@ -100,9 +138,13 @@ impl Draft {
         ensures more { IfOk result (λ d. d ≡ with_party self party price) }
         ensures stated { IfOk result (λ d. CanBeStated d.cut d.outcome) }
     {
-        add_firm(&mut self.firms, party.firm)?;
-        self.parties.push(party)?;
-        self.prices.push(price)?;
+        put_party(
+            &mut self.firms,
+            &mut self.parties,
+            &mut self.prices,
+            party,
+            price,
+        )?;
         Ok(self)
     }
 
@@ -151,9 +193,13 @@ impl Draft {
         ensures more { IfOk result (λ d. d ≡ with_claim self claim discharge) }
         ensures stated { IfOk result (λ d. CanBeStated d.cut d.outcome) }
     {
-        add_key(&mut self.keys, claim.key)?;
-        self.claims.push(claim)?;
-        self.discharges.push(discharge)?;
+        put_claim(
+            &mut self.keys,
+            &mut self.claims,
+            &mut self.discharges,
+            claim,
+            discharge,
+        )?;
         Ok(self)
     }
 

@@ -41,12 +41,16 @@ fn line_of_word(word: &[u8], args: &[&[u8]]) -> Option<Line>
     ensures found { IfSome result (AreFields (word.now ∷ map (λ f. f.now) args.now)) }
     ensures none { IfNone result (AreNoFields (word.now ∷ map (λ f. f.now) args.now)) }
 {
-    match word {
-        b"ROUND" => head_of(args),
-        b"PARTY" => party_of(args),
-        b"CLAIM" => claim_of(args),
-        b"END" => end_of(args),
-        _ => None,
+    if word == b"ROUND".as_slice() {
+        head_of(args)
+    } else if word == b"PARTY".as_slice() {
+        party_of(args)
+    } else if word == b"CLAIM".as_slice() {
+        claim_of(args)
+    } else if word == b"END".as_slice() {
+        end_of(args)
+    } else {
+        None
     }
 }
 

@@ -32,10 +32,13 @@ fn take_party(draft: Draft, number: u64, party: Party, price: i64) -> Result<Ste
     ensures cause { IfErr result (OnCause (λ n cause. (n ≡ number) × HasLineCause draft (Line.Party party price) cause)) }
 {
     match draft.party_refusal(&party) {
-        Some(cause) => Err(StatementError::BadLine {
-            line: number,
-            cause,
-        }),
+        Some(cause) => {
+            drop(draft);
+            Err(StatementError::BadLine {
+                line: number,
+                cause,
+            })
+        }
         None => Ok(Step::More(draft.with_party(party, price)?)),
     }
 }
@@ -55,10 +58,13 @@ fn take_claim(
     ensures cause { IfErr result (OnCause (λ n cause. (n ≡ number) × HasLineCause draft (Line.Claim key debtor amount discharge) cause)) }
 {
     match draft.placed(&key, &debtor, amount) {
-        Err(cause) => Err(StatementError::BadLine {
-            line: number,
-            cause,
-        }),
+        Err(cause) => {
+            drop(draft);
+            Err(StatementError::BadLine {
+                line: number,
+                cause,
+            })
+        }
         Ok(claim) => Ok(Step::More(draft.with_claim(claim, discharge)?)),
     }
 }
@@ -80,10 +86,13 @@ fn take_line(draft: Draft, number: u64, line: Line) -> Result<Step, StatementErr
             discharge,
         } => take_claim(draft, number, key, debtor, amount, discharge),
         Line::End => Ok(Step::Last(draft)),
-        Line::Head { .. } => Err(StatementError::BadLine {
-            line: number,
-            cause: StatementCause::Shape,
-        }),
+        Line::Head { .. } => {
+            drop(draft);
+            Err(StatementError::BadLine {
+                line: number,
+                cause: StatementCause::Shape,
+            })
+        }
     }
 }
 
@@ -94,12 +103,22 @@ fn take_text(alloc: Global, draft: Draft, number: u64, text: &[u8]) -> Result<St
     ensures bad { IfErr result (OnBadLine (λ n. (n ≡ number) × IsNoFront (texts_of draft ++ text.now ∷ []))) }
     ensures cause { IfErr result (OnCause (λ n cause. (n ≡ number) × HasTextCause draft text.now cause)) }
 {
-    match read_line(alloc, text)? {
+    let read = match read_line(alloc, text) {
+        Ok(read) => read,
+        Err(e) => {
+            drop(draft);
+            return Err(StatementError::from(e));
+        }
+    };
+    match read {
         Some(line) => take_line(draft, number, line),
-        None => Err(StatementError::BadLine {
-            line: number,
-            cause: StatementCause::Shape,
-        }),
+        None => {
+            drop(draft);
+            Err(StatementError::BadLine {
+                line: number,
+                cause: StatementCause::Shape,
+            })
+        }
     }
 }
 
@@ -110,10 +129,13 @@ fn finished(draft: Draft, number: u64, rest: &[u8]) -> Result<(Cut, Outcome), St
     ensures cause { IfErr result (OnCause (λ n cause. cause ≡ StatementCause.After)) }
 {
     match next_line(rest) {
-        Some(_) => Err(StatementError::BadLine {
-            line: number,
-            cause: StatementCause::After,
-        }),
+        Some(_) => {
+            drop(draft);
+            Err(StatementError::BadLine {
+                line: number,
+                cause: StatementCause::After,
+            })
+        }
         None => Ok(draft.finish()),
     }
 }
@@ -138,6 +160,7 @@ fn read_rest(alloc: Global, head: Draft, text: &[u8]) -> Result<(Cut, Outcome), 
         rest = after;
         number = number.saturating_add(1);
     }
+    drop(draft);
     Err(StatementError::BadLine {
         line: number,
         cause: StatementCause::NoEnd,
