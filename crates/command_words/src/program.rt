@@ -1,8 +1,8 @@
 //! The program as `clap` sees it: one level of subcommands with positional words.
-ghost use Rattle.std.specs.Prelude.{◌≡◌, IfOk, false};
+ghost use Rattle.std.specs.Prelude.{◌≡◌, ◌∷◌, [], IfOk, codes, false};
 ghost use Rattle.clap.specs.Words.{app_of, with_rule};
 ghost use Rattle.clap.specs.declared.builder.command.Command.TheViews.{out-Command};
-ghost use Rattle.command_words.specs.Program.{plain, program as whole, value};
+ghost use Rattle.command_words.specs.Program.{knowing, plain, program as whole, shape_of, trial_values, value};
 
 use clap::{Arg, Command};
 use std::alloc::{AllocError, Global};
@@ -15,19 +15,45 @@ fn taking<'a>(alloc: Global, command: Command<'a>, id: &'a str) -> Result<Comman
     command.arg(Arg::new(alloc, id).required(true))
 }
 
+// A command that takes one value, added to the program.
+fn with_one<'a>(
+    alloc: Global,
+    program: Command<'a>,
+    name: &'a str,
+    id: &'a str,
+) -> Result<Command<'a>, AllocError>
+    ensures shape { IfOk result (λ c. app_of c ≡ knowing name.entry.now (value id.entry.now ∷ []) (app_of program.entry)) }
+{
+    let command = taking(alloc, Command::new(alloc, name), id)?;
+    program.subcommand(command)
+}
+
+// The command `trial`, which takes three values.
+fn trial<'a>(alloc: Global) -> Result<Command<'a>, AllocError>
+    ensures shape { IfOk result (λ c. (app_of c).top ≡ shape_of (codes "trial") trial_values) }
+    ensures globals { IfOk result (λ c. (out-Command c).has_globals ≡ false) }
+{
+    let trial = taking(alloc, Command::new(alloc, "trial"), "FIRMS")?;
+    let trial = taking(alloc, trial, "CLAIMS")?;
+    let trial = taking(alloc, trial, "SEED")?;
+    Ok(trial)
+}
+
+// The same, added to the program.
+fn with_trial<'a>(alloc: Global, program: Command<'a>) -> Result<Command<'a>, AllocError>
+    ensures shape { IfOk result (λ c. app_of c ≡ knowing (codes "trial") trial_values (app_of program.entry)) }
+{
+    let trial = trial(alloc)?;
+    program.subcommand(trial)
+}
+
 // The commands that take values, added to the program.
 fn with_values<'a>(alloc: Global, program: Command<'a>) -> Result<Command<'a>, AllocError>
     ensures shape { app_of program.entry ≡ plain → IfOk result (λ c. app_of c ≡ whole) }
 {
-    let notices = taking(alloc, Command::new(alloc, "notices"), "DATE")?;
-    let import = taking(alloc, Command::new(alloc, "import"), "LANE")?;
-    let trial = taking(alloc, Command::new(alloc, "trial"), "FIRMS")?;
-    let trial = taking(alloc, trial, "CLAIMS")?;
-    let trial = taking(alloc, trial, "SEED")?;
-    program
-        .subcommand(notices)?
-        .subcommand(import)?
-        .subcommand(trial)
+    let known = with_one(alloc, program, "notices", "DATE")?;
+    let known = with_one(alloc, known, "import", "LANE")?;
+    with_trial(alloc, known)
 }
 
 /// The program with its commands. The only error is that memory is missing.
