@@ -56,10 +56,6 @@ fn fund(firm: Name, amount: u64) -> Act {
     Act::Fund { firm, amount }
 }
 
-fn close(kind: Kind, horizon: Day) -> Act {
-    Act::Close { kind, horizon }
-}
-
 // Asks the book for an act of a caller that opens no round, and puts its entry at the end.
 #[tactic(auto, using(claim_history::proofs::Growth::due_follows))]
 fn ask(rt: &impl Abort, book: &mut Book, caller: u32, act: Act) -> Reply {
@@ -73,12 +69,44 @@ fn ask(rt: &impl Abort, book: &mut Book, caller: u32, act: Act) -> Reply {
     reply
 }
 
-fn ask_all(rt: &impl Abort, book: &mut Book, acts: Vec<Act>, due: &[Reply]) {
+// The book gives a caller these replies, one after another.
+fn replies(rt: &impl Abort, book: &mut Book, caller: u32, acts: Vec<Act>, due: &[Reply]) {
     assert!(rt; acts.len() == due.len());
     for (place, act) in acts.into_iter().enumerate() {
-        let reply = ask(rt, book, 1, act);
+        let reply = ask(rt, book, caller, act);
         assert!(rt; due.get(place) == Some(&reply), "reply {place}");
     }
+}
+
+// ---- stories, each of a new book
+
+#[derive(Clone, Copy)]
+enum Story {
+    LimitsHold,
+    ClaimLives,
+    AllIsSummed,
+    ClaimsAreHeld,
+    NewClaimGoesOn,
+    TwoFund(Kind),
+    OnlyTheOwnerContinues,
+}
+
+fn tell(rt: &impl Abort, alloc: Global, book: &mut Book, story: Story) {
+    match story {
+        Story::LimitsHold => limits_hold(rt, alloc, book),
+        Story::ClaimLives => claim_lives(rt, alloc, book),
+        Story::AllIsSummed => all_is_summed(rt, alloc, book),
+        Story::ClaimsAreHeld => claims_are_held(rt, alloc, book),
+        Story::NewClaimGoesOn => new_claim_goes_on(rt, alloc, book),
+        Story::TwoFund(kind) => two_fund(rt, alloc, book, kind),
+        Story::OnlyTheOwnerContinues => only_the_owner_continues(rt, alloc, book),
+    }
+}
+
+// No other function owns a book: to give one up takes long to prove.
+fn on_a_new_book(rt: &impl Abort, alloc: Global, story: Story) {
+    let mut book = Book::new(alloc);
+    tell(rt, alloc, &mut book, story);
 }
 
 // ---- accounts
@@ -114,25 +142,21 @@ fn limits_hold(rt: &impl Abort, alloc: Global, book: &mut Book) {
         Reply::Done,
         Reply::Refused(Why::FirmExists),
     ];
-    ask_all(rt, book, acts.expect(rt, "memory"), &due);
+    replies(rt, book, 1, acts.expect(rt, "memory"), &due);
+    account_is_as_set(rt, book);
 }
 
 fn account_is_as_set(rt: &impl Abort, book: &Book) {
     let account = book.account(name(rt, b"A")).expect(rt, "an account");
-    assert!(rt; account.balance == 10_000);
-    assert!(rt; account.credit == 5_000);
-    assert!(rt; account.ceiling == 10_000);
-    assert!(rt; account.offer == 7);
-    assert!(rt; book.accounts().len() == 1);
+    assert!(rt; account.balance == 10_000 && account.credit == 5_000);
+    assert!(rt; account.ceiling == 10_000 && account.offer == 7);
     assert!(rt; book.account(name(rt, b"B")).is_none());
-    assert!(rt; book.history().len() == 10);
+    assert!(rt; book.accounts().len() == 1 && book.history().len() == 10);
 }
 
 #[test]
 fn limits_of_an_account(rt: HostRuntime) {
-    let mut book = Book::new(rt.alloc());
-    limits_hold(&rt, rt.alloc(), &mut book);
-    account_is_as_set(&rt, &book);
+    on_a_new_book(&rt, rt.alloc(), Story::LimitsHold);
 }
 
 // ---- claims
@@ -156,111 +180,80 @@ fn make_parts(rt: &impl Abort) -> Parts {
     }
 }
 
-// An act gets this reply, and the claim is such afterwards.
-fn goes(
-    rt: &impl Abort,
-    book: &mut Book,
-    parts: &Parts,
-    act: Act,
-    due: Reply,
-    status: Status,
-    left: u64,
-) {
-    let reply = ask(rt, book, 1, act);
-    assert!(rt; reply == due);
-    let claim = book.claim(&parts.key).expect(rt, "a claim");
-    assert!(rt; claim.status == status);
-    assert!(rt; claim.left == left);
+fn are_registered(rt: &impl Abort, alloc: Global, book: &mut Book, parts: &Parts) {
+    let firms = vec![in alloc; Act::Firm { firm: parts.a }, Act::Firm { firm: parts.b }];
+    replies(rt, book, 1, firms.expect(rt, "memory"), &[Reply::Done; 2]);
+    assert!(rt; book.claim(&parts.key).is_none() && book.claims().len() == 0);
 }
 
-fn are_registered(rt: &impl Abort, book: &mut Book, parts: &Parts) {
-    let reply = ask(rt, book, 1, Act::Firm { firm: parts.a });
-    assert!(rt; reply == Reply::Done);
-    let reply = ask(rt, book, 1, Act::Firm { firm: parts.b });
-    assert!(rt; reply == Reply::Done);
-    assert!(rt; book.claim(&parts.key).is_none());
-    assert!(rt; book.claims().len() == 0);
+// What an act is answered, and the status of the claim and what is left of it then.
+type Stage = (Reply, Status, u64);
+
+// The claim goes through these stages.
+fn goes_through(rt: &impl Abort, book: &mut Book, parts: &Parts, acts: Vec<Act>, stages: &[Stage]) {
+    assert!(rt; acts.len() == stages.len());
+    for (act, (due, status, left)) in acts.into_iter().zip(stages) {
+        let reply = ask(rt, book, 1, act);
+        let claim = book.claim(&parts.key).expect(rt, "a claim");
+        assert!(rt; reply == *due && claim.status == *status && claim.left == *left);
+    }
 }
 
-fn is_confirmed_in_part(rt: &impl Abort, book: &mut Book, parts: &Parts) {
-    let filed = file(parts.key, parts.a, 1_000, parts.due);
-    let confirmed = confirm(parts.key, parts.a);
-    let received = receive(parts.key, 400);
-    let more = receive(parts.key, 601);
-    let over = Reply::Refused(Why::OverOpen);
-    goes(rt, book, parts, filed, Reply::Done, Status::Filed, 1_000);
-    goes(
-        rt,
-        book,
-        parts,
-        confirmed,
-        Reply::Done,
-        Status::Confirmed,
-        1_000,
-    );
-    goes(
-        rt,
-        book,
-        parts,
-        received,
-        Reply::Done,
-        Status::Confirmed,
-        600,
-    );
-    goes(rt, book, parts, more, over, Status::Confirmed, 600);
+fn is_confirmed_in_part(rt: &impl Abort, alloc: Global, book: &mut Book, parts: &Parts) {
+    let acts = vec![in alloc;
+        file(parts.key, parts.a, 1_000, parts.due),
+        confirm(parts.key, parts.a),
+        receive(parts.key, 400),
+        receive(parts.key, 601),
+    ];
+    let stages = [
+        (Reply::Done, Status::Filed, 1_000),
+        (Reply::Done, Status::Confirmed, 1_000),
+        (Reply::Done, Status::Confirmed, 600),
+        (Reply::Refused(Why::OverOpen), Status::Confirmed, 600),
+    ];
+    goes_through(rt, book, parts, acts.expect(rt, "memory"), &stages);
 }
 
+// B's claim of 6.00 on A is all that the two have.
 fn is_owed(rt: &impl Abort, book: &Book, parts: &Parts) {
-    let owed = Position {
-        balance: 0,
-        receivable: 600,
-        payable: 0,
-    };
-    let owing = Position {
-        balance: 0,
-        receivable: 0,
-        payable: 600,
-    };
-    assert!(rt; book.position(parts.b) == Some(owed));
-    assert!(rt; book.position(parts.a) == Some(owing));
+    for (firm, receivable, payable) in [(parts.b, 600, 0), (parts.a, 0, 600)] {
+        let due = Position {
+            balance: 0,
+            receivable,
+            payable,
+        };
+        assert!(rt; book.position(firm) == Some(due));
+    }
 }
 
-fn is_withdrawn(rt: &impl Abort, book: &mut Book, parts: &Parts) {
-    let disputed = dispute(parts.key, parts.a);
-    let withdrawn = Act::Withdraw { key: parts.key };
-    let confirmed = confirm(parts.key, parts.a);
-    let wrong = Reply::Refused(Why::WrongState);
-    goes(
-        rt,
-        book,
-        parts,
-        disputed,
-        Reply::Done,
-        Status::Disputed,
-        600,
-    );
-    goes(
-        rt,
-        book,
-        parts,
-        withdrawn,
-        Reply::Done,
-        Status::Withdrawn,
-        600,
-    );
-    goes(rt, book, parts, confirmed, wrong, Status::Withdrawn, 600);
-    assert!(rt; book.claims().len() == 1);
-    assert!(rt; book.history().len() == 9);
+fn is_withdrawn(rt: &impl Abort, alloc: Global, book: &mut Book, parts: &Parts) {
+    let acts = vec![in alloc;
+        dispute(parts.key, parts.a),
+        Act::Withdraw { key: parts.key },
+        confirm(parts.key, parts.a),
+    ];
+    let stages = [
+        (Reply::Done, Status::Disputed, 600),
+        (Reply::Done, Status::Withdrawn, 600),
+        (Reply::Refused(Why::WrongState), Status::Withdrawn, 600),
+    ];
+    goes_through(rt, book, parts, acts.expect(rt, "memory"), &stages);
+    assert!(rt; book.claims().len() == 1 && book.history().len() == 9);
+}
+
+// The life of a claim, from its firms to its end.
+fn claim_lives(rt: &impl Abort, alloc: Global, book: &mut Book) {
+    let parts = make_parts(rt);
+    are_registered(rt, alloc, book, &parts);
+    is_confirmed_in_part(rt, alloc, book, &parts);
+    is_owed(rt, book, &parts);
+    is_withdrawn(rt, alloc, book, &parts);
 }
 
 #[test]
 fn life_of_a_claim(rt: HostRuntime) {
-    let parts = make_parts(&rt);
-    let mut book = Book::new(rt.alloc());
-    are_registered(&rt, &mut book, &parts);
-    is_confirmed_in_part(&rt, &mut book, &parts);
-    is_owed(&rt, &book, &parts);
-    is_withdrawn(&rt, &mut book, &parts);
+    on_a_new_book(&rt, rt.alloc(), Story::ClaimLives);
 }
 
 // ---- a full register
@@ -277,20 +270,18 @@ fn numbered(rt: &impl Abort, number: u32) -> Name {
     name(rt, &text)
 }
 
-fn register(rt: &impl Abort, book: &mut Book, number: u32) -> Reply {
+fn registers(rt: &impl Abort, book: &mut Book, number: u32, due: Reply) {
     let firm = numbered(rt, number);
-    ask(rt, book, 1, Act::Firm { firm })
+    let reply = ask(rt, book, 1, Act::Firm { firm });
+    assert!(rt; reply == due);
 }
 
 fn fill_with_firms(rt: &impl Abort, book: &mut Book) {
     for number in 0..16_384 {
-        let reply = register(rt, book, number);
-        assert!(rt; reply == Reply::Done);
+        registers(rt, book, number, Reply::Done);
     }
-    let reply = register(rt, book, 16_384);
-    assert!(rt; reply == Reply::Refused(Why::FirmsFull));
-    let reply = register(rt, book, 77);
-    assert!(rt; reply == Reply::Refused(Why::FirmExists));
+    registers(rt, book, 16_384, Reply::Refused(Why::FirmsFull));
+    registers(rt, book, 77, Reply::Refused(Why::FirmExists));
     assert!(rt; book.accounts().len() == 16_384);
 }
 
@@ -313,11 +304,9 @@ fn ring_parts(rt: &impl Abort, alloc: Global, number: u32) -> Parts {
 
 // Lets a firm owe another an amount, on a claim that is filed and confirmed.
 fn owe(rt: &impl Abort, book: &mut Book, parts: &Parts, amount: u64) {
-    let filed = file(parts.key, parts.a, amount, parts.due);
-    let filed = ask(rt, book, 1, filed);
+    let filed = ask(rt, book, 1, file(parts.key, parts.a, amount, parts.due));
     let confirmed = ask(rt, book, 1, confirm(parts.key, parts.a));
-    assert!(rt; filed == Reply::Done);
-    assert!(rt; confirmed == Reply::Done);
+    assert!(rt; filed == Reply::Done && confirmed == Reply::Done);
 }
 
 // Lets firms owe the next ones in a ring, on each claim a cent more than its number.
@@ -340,13 +329,16 @@ fn owed_in_all(rt: &impl Abort, book: &Book) -> (u64, u64) {
     (receivable, payable)
 }
 
+fn all_is_summed(rt: &impl Abort, alloc: Global, book: &mut Book) {
+    fill_with_firms(rt, book);
+    owe_in_a_ring(rt, alloc, book);
+    assert!(rt; owed_in_all(rt, book) == (5_000_050_000, 5_000_050_000));
+}
+
 // A book that looked through its entries for each answer would not end within a test's time.
 #[test]
 fn sums_of_a_full_register(rt: HostRuntime) {
-    let mut book = Book::new(rt.alloc());
-    fill_with_firms(&rt, &mut book);
-    owe_in_a_ring(&rt, rt.alloc(), &mut book);
-    assert!(rt; owed_in_all(&rt, &book) == (5_000_050_000, 5_000_050_000));
+    on_a_new_book(&rt, rt.alloc(), Story::AllIsSummed);
 }
 
 // ---- rounds
@@ -393,7 +385,7 @@ fn fill(rt: &impl Abort, alloc: Global, book: &mut Book, circle: &Circle) {
         confirm(circle.owed_by_b, b),
         confirm(circle.owed_by_c, c),
     ];
-    ask_all(rt, book, acts.expect(rt, "memory"), &[Reply::Done; 9]);
+    replies(rt, book, 1, acts.expect(rt, "memory"), &[Reply::Done; 9]);
 }
 
 // Opens round 1 of caller 1.
@@ -415,119 +407,113 @@ fn open(rt: &impl Abort, alloc: Global, book: &mut Book, kind: Kind, horizon: Da
     );
 }
 
-// Lets caller 1 open round 1 over the circle, with the day on which the claims are due as its horizon.
-fn open_circle(rt: &impl Abort, alloc: Global, book: &mut Book, circle: &Circle, kind: Kind) {
-    fill(rt, alloc, book, circle);
+// Lets caller 1 open round 1 over a circle, with the day on which the claims are due as its horizon.
+fn open_circle(rt: &impl Abort, alloc: Global, book: &mut Book, kind: Kind) -> Circle {
+    let circle = make_circle(rt);
+    fill(rt, alloc, book, &circle);
     open(rt, alloc, book, kind, circle.due);
+    circle
 }
 
-fn frozen(rt: &impl Abort, book: &mut Book, act: Act) {
-    let reply = ask(rt, book, 2, act);
-    assert!(rt; reply == Reply::Refused(Why::Frozen { round: 1 }));
-}
-
-fn done(rt: &impl Abort, book: &mut Book, act: Act) {
-    let reply = ask(rt, book, 2, act);
-    assert!(rt; reply == Reply::Done);
-}
-
-fn others_are_frozen(rt: &impl Abort, book: &mut Book, circle: &Circle) {
-    let withdrawn = Act::Withdraw {
-        key: circle.owed_by_a,
-    };
-    frozen(rt, book, dispute(circle.owed_by_a, circle.a));
-    frozen(rt, book, receive(circle.owed_by_a, 1));
-    frozen(rt, book, withdrawn);
-    assert!(rt; book.open_round() == Some(1));
-    assert!(rt; book.owner() == Some(1));
+fn others_are_frozen(rt: &impl Abort, alloc: Global, book: &mut Book, circle: &Circle) {
+    let key = circle.owed_by_a;
+    let acts = vec![in alloc;
+        dispute(key, circle.a),
+        receive(key, 1),
+        Act::Withdraw { key },
+    ];
+    let frozen = Reply::Refused(Why::Frozen { round: 1 });
+    replies(rt, book, 2, acts.expect(rt, "memory"), &[frozen; 3]);
+    assert!(rt; book.open_round() == Some(1) && book.owner() == Some(1));
 }
 
 fn bureau_abandons(rt: &impl Abort, book: &mut Book, circle: &Circle) {
-    let not_owner = Reply::Refused(Why::NotOwner { round: 1 });
-    let reply = ask(rt, book, 2, Act::Abandon);
-    assert!(rt; reply == not_owner);
-    let reply = ask(rt, book, 0, Act::Abandon);
-    assert!(rt; reply == Reply::Abandoned { round: 1 });
-    assert!(rt; book.open_round().is_none());
-    assert!(rt; book.owner().is_none());
-    done(rt, book, dispute(circle.owed_by_a, circle.a));
-    let reply = ask(rt, book, 1, Act::Abandon);
-    assert!(rt; reply == Reply::Refused(Why::NoRound));
+    let not_owner = ask(rt, book, 2, Act::Abandon);
+    assert!(rt; not_owner == Reply::Refused(Why::NotOwner { round: 1 }));
+    let abandoned = ask(rt, book, 0, Act::Abandon);
+    assert!(rt; abandoned == Reply::Abandoned { round: 1 });
+    assert!(rt; book.open_round().is_none() && book.owner().is_none());
+    let disputed = ask(rt, book, 2, dispute(circle.owed_by_a, circle.a));
+    let no_round = ask(rt, book, 1, Act::Abandon);
+    assert!(rt; disputed == Reply::Done && no_round == Reply::Refused(Why::NoRound));
+}
+
+fn claims_are_held(rt: &impl Abort, alloc: Global, book: &mut Book) {
+    let circle = open_circle(rt, alloc, book, Kind::Plain);
+    others_are_frozen(rt, alloc, book, &circle);
+    bureau_abandons(rt, book, &circle);
 }
 
 #[test]
 fn others_while_a_round_is_open(rt: HostRuntime) {
-    let circle = make_circle(&rt);
-    let mut book = Book::new(rt.alloc());
-    open_circle(&rt, rt.alloc(), &mut book, &circle, Kind::Plain);
-    others_are_frozen(&rt, &mut book, &circle);
-    bureau_abandons(&rt, &mut book, &circle);
+    on_a_new_book(&rt, rt.alloc(), Story::ClaimsAreHeld);
 }
 
-fn new_claim_goes_on(rt: &impl Abort, book: &mut Book, circle: &Circle) {
+fn new_claim_goes_on(rt: &impl Abort, alloc: Global, book: &mut Book) {
+    let circle = open_circle(rt, alloc, book, Kind::Plain);
     let key = key(circle.b, name(rt, b"I-4"));
-    let debtor = circle.a;
-    done(rt, book, file(key, debtor, 500, circle.due));
-    done(rt, book, confirm(key, debtor));
-    done(rt, book, receive(key, 200));
-    done(rt, book, dispute(key, debtor));
+    let acts = vec![in alloc;
+        file(key, circle.a, 500, circle.due),
+        confirm(key, circle.a),
+        receive(key, 200),
+        dispute(key, circle.a),
+    ];
+    replies(rt, book, 2, acts.expect(rt, "memory"), &[Reply::Done; 4]);
     let claim = book.claim(&key).expect(rt, "a claim");
-    assert!(rt; claim.status == Status::Disputed);
-    assert!(rt; claim.left == 300);
+    assert!(rt; claim.status == Status::Disputed && claim.left == 300);
 }
 
 #[test]
 fn claims_outside_the_cut_go_on(rt: HostRuntime) {
-    let circle = make_circle(&rt);
-    let mut book = Book::new(rt.alloc());
-    open_circle(&rt, rt.alloc(), &mut book, &circle, Kind::Plain);
-    new_claim_goes_on(&rt, &mut book, &circle);
+    on_a_new_book(&rt, rt.alloc(), Story::NewClaimGoesOn);
 }
 
-fn only_parties_are_frozen(rt: &impl Abort, book: &mut Book, circle: &Circle) {
+// A party and another firm fund in a round of this kind.
+fn two_fund(rt: &impl Abort, alloc: Global, book: &mut Book, kind: Kind) {
+    let circle = open_circle(rt, alloc, book, kind);
     let other = name(rt, b"D");
-    frozen(rt, book, fund(circle.a, 1));
-    done(rt, book, Act::Firm { firm: other });
-    done(rt, book, fund(other, 1));
+    let acts = vec![in alloc;
+        fund(circle.a, 1),
+        Act::Firm { firm: other },
+        fund(other, 1),
+    ];
+    let of_a_party = match kind {
+        Kind::Plain => Reply::Done,
+        Kind::Funded => Reply::Refused(Why::Frozen { round: 1 }),
+    };
+    let due = [of_a_party, Reply::Done, Reply::Done];
+    replies(rt, book, 2, acts.expect(rt, "memory"), &due);
 }
 
 #[test]
 fn funds_are_held_in_a_funded_round_alone(rt: HostRuntime) {
-    let circle = make_circle(&rt);
-    let mut plain = Book::new(rt.alloc());
-    open_circle(&rt, rt.alloc(), &mut plain, &circle, Kind::Plain);
-    done(&rt, &mut plain, fund(circle.a, 1));
-    let mut funded = Book::new(rt.alloc());
-    open_circle(&rt, rt.alloc(), &mut funded, &circle, Kind::Funded);
-    only_parties_are_frozen(&rt, &mut funded, &circle);
-}
-
-fn only_the_owner_continues(rt: &impl Abort, book: &mut Book, horizon: Day) {
-    let open = Reply::Refused(Why::RoundOpen { round: 1 });
-    let continued = Reply::Continued { round: 1 };
-    let reply = ask(rt, book, 1, close(Kind::Funded, horizon));
-    assert!(rt; reply == open);
-    let reply = ask(rt, book, 2, close(Kind::Plain, horizon));
-    assert!(rt; reply == open);
-    let reply = ask(rt, book, 1, close(Kind::Plain, horizon));
-    assert!(rt; reply == continued);
+    on_a_new_book(&rt, rt.alloc(), Story::TwoFund(Kind::Plain));
+    on_a_new_book(&rt, rt.alloc(), Story::TwoFund(Kind::Funded));
 }
 
 fn keeps_the_cut(rt: &impl Abort, book: &Book) {
     let cut = book.kept_cut().expect(rt, "a cut");
-    assert!(rt; cut.round() == 1);
     let claims = cut.claims();
-    assert!(rt; claims.len() == 3);
-    assert!(rt; claims[0].amount == 1_000);
-    assert!(rt; claims[1].amount == 700);
-    assert!(rt; claims[2].amount == 1_200);
+    assert!(rt; cut.round() == 1 && claims.len() == 3);
+    assert!(rt; claims[0].amount == 1_000 && claims[1].amount == 700 && claims[2].amount == 1_200);
+}
+
+fn only_the_owner_continues(rt: &impl Abort, alloc: Global, book: &mut Book) {
+    let horizon = open_circle(rt, alloc, book, Kind::Plain).due;
+    let is_open = Reply::Refused(Why::RoundOpen { round: 1 });
+    let cases = [
+        (1, Kind::Funded, is_open),
+        (2, Kind::Plain, is_open),
+        (1, Kind::Plain, Reply::Continued { round: 1 }),
+    ];
+    for (caller, kind, due) in cases {
+        let reply = ask(rt, book, caller, Act::Close { kind, horizon });
+        assert!(rt; reply == due);
+    }
+    keeps_the_cut(rt, book);
 }
 
 #[test]
 fn a_close_continues_its_own_round_alone(rt: HostRuntime) {
-    let circle = make_circle(&rt);
-    let mut book = Book::new(rt.alloc());
-    open_circle(&rt, rt.alloc(), &mut book, &circle, Kind::Plain);
-    only_the_owner_continues(&rt, &mut book, circle.due);
-    keeps_the_cut(&rt, &book);
+    on_a_new_book(&rt, rt.alloc(), Story::OnlyTheOwnerContinues);
 }

@@ -7,7 +7,8 @@ use claim_history::{AccountFact, ClaimFact, Day, Status};
 use round_cut::{build_cut, cut_of_a_history_is_of_its_facts, open_cut_is_well_formed, window};
 use setoff_model::limits::{FIRST_CEILING, MOST_CLAIMS, MOST_FIRMS};
 use setoff_model::{Cut, CutClaim, Key, Kind, Name, Party, same_names};
-use std::alloc::{AllocError, Global};
+use std::alloc::Global;
+use std::process::Abort;
 
 // ---- whether a cut may be made of claims and accounts
 
@@ -82,18 +83,17 @@ fn keeps_limits(account: &AccountFact) -> bool
         && account.balance <= account.ceiling as i64
 }
 
-// The cut of a round 1. None where claims and accounts are not such that a cut may be made of them.
+// The cut of a round 1 of claims and accounts of which one may be made.
 fn cut_of(
+    rt: &impl Abort,
     alloc: Global,
     claims: &[ClaimFact],
     accounts: &[AccountFact],
     kind: Kind,
     horizon: Day,
-) -> Result<Option<Cut>, AllocError> {
-    if !are_facts(claims, accounts) {
-        return Ok(None);
-    }
-    Ok(Some(build_cut(alloc, claims, accounts, kind, horizon, 1)?))
+) -> Cut {
+    assert!(rt; are_facts(claims, accounts));
+    build_cut(alloc, claims, accounts, kind, horizon, 1).expect(rt, "memory")
 }
 
 // ---- windows
@@ -113,34 +113,33 @@ fn new_account(firm: Name) -> AccountFact {
     account(firm, 0, 0, 1_000_000_000_000_000, 0)
 }
 
-// The window of the account. None where the account is not within its limits.
-fn window_of(account: &AccountFact, kind: Kind) -> Option<(u64, u64)> {
-    if !keeps_limits(account) {
-        return None;
-    }
-    Some(window(account, kind))
+// The window of an account that is within its limits.
+fn window_of(rt: &impl Abort, account: &AccountFact, kind: Kind) -> (u64, u64) {
+    assert!(rt; keeps_limits(account));
+    window(account, kind)
 }
 
 #[test]
 fn windows_of_accounts(rt: HostRuntime) {
     cut_of_a_history_is_of_its_facts();
     open_cut_is_well_formed();
-    let firm = Name::of(b"A").expect(&rt, "a name");
-    let rich = account(firm, 6_000, 0, 1_000_000_000_000_000, 6_000);
-    assert!(rt; window_of(&rich, Kind::Funded) == Some((6_000, 999_999_999_994_000)));
-    assert!(rt; window_of(&rich, Kind::Plain) == Some((0, 0)));
+    let firm = name(&rt, b"A");
+    let most = 999_999_999_999;
+    let ceiling = 1_000_000_000_000_000;
+    let rich = account(firm, 6_000, 0, ceiling, 6_000);
     let owing = account(firm, -2_000, 5_000, 1_000, 10_000);
-    assert!(rt; window_of(&owing, Kind::Funded) == Some((3_000, 3_000)));
-    let deep = account(firm, -999_999_999_999, 999_999_999_999, 0, 1);
-    assert!(rt; window_of(&deep, Kind::Funded) == Some((0, 999_999_999_999)));
-    let full = account(
-        firm,
-        1_000_000_000_000_000,
-        999_999_999_999,
-        1_000_000_000_000_000,
-        7,
-    );
-    assert!(rt; window_of(&full, Kind::Funded) == Some((7, 0)));
+    let deep = account(firm, -999_999_999_999, most, 0, 1);
+    let full = account(firm, 1_000_000_000_000_000, most, ceiling, 7);
+    let cases = [
+        (&rich, Kind::Funded, (6_000, 999_999_999_994_000)),
+        (&rich, Kind::Plain, (0, 0)),
+        (&owing, Kind::Funded, (3_000, 3_000)),
+        (&deep, Kind::Funded, (0, most)),
+        (&full, Kind::Funded, (7, 0)),
+    ];
+    for (account, kind, due) in cases {
+        assert!(rt; window_of(&rt, account, kind) == due);
+    }
 }
 
 // ---- the triangle
@@ -155,19 +154,27 @@ struct Names {
     day: Day,
 }
 
-fn make_names() -> Option<Names> {
-    Some(Names {
-        a: Name::of(b"A")?,
-        b: Name::of(b"B")?,
-        c: Name::of(b"C")?,
+fn name(rt: &impl Abort, text: &[u8]) -> Name {
+    Name::of(text).expect(rt, "a name")
+}
+
+fn day(rt: &impl Abort, number: u32) -> Day {
+    Day::of_number(number).expect(rt, "a day")
+}
+
+fn make_names(rt: &impl Abort) -> Names {
+    Names {
+        a: name(rt, b"A"),
+        b: name(rt, b"B"),
+        c: name(rt, b"C"),
         invoices: [
-            Name::of(b"I-1")?,
-            Name::of(b"I-2")?,
-            Name::of(b"I-3")?,
-            Name::of(b"I-4")?,
+            name(rt, b"I-1"),
+            name(rt, b"I-2"),
+            name(rt, b"I-3"),
+            name(rt, b"I-4"),
         ],
-        day: Day::of_number(20_119)?,
-    })
+        day: day(rt, 20_119),
+    }
 }
 
 fn claim(
@@ -212,20 +219,20 @@ fn is_cut(cut: &Cut, names: &Names, claims: &[CutClaim]) -> bool {
     is_first && cut.parties() == parties.as_slice() && cut.claims() == claims
 }
 
-// Whether the cut of these claims among the three firms has these claims. None where memory is missing, or it cannot be made.
-fn cuts_to(alloc: Global, names: &Names, claims: &[ClaimFact], due: &[CutClaim]) -> Option<bool> {
+// The cut of these claims among the three firms has these claims.
+fn cuts_to(rt: &impl Abort, alloc: Global, names: &Names, claims: &[ClaimFact], due: &[CutClaim]) {
     let accounts = [
         new_account(names.c),
         new_account(names.b),
         new_account(names.a),
     ];
-    let cut = cut_of(alloc, claims, &accounts, Kind::Plain, names.day).ok()??;
-    Some(is_cut(&cut, names, due))
+    let cut = cut_of(rt, alloc, claims, &accounts, Kind::Plain, names.day);
+    assert!(rt; is_cut(&cut, names, due));
 }
 
 #[test]
 fn the_triangle(rt: HostRuntime) {
-    let names = make_names().expect(&rt, "names");
+    let names = make_names(&rt);
     let Names {
         a,
         b,
@@ -243,13 +250,13 @@ fn the_triangle(rt: HostRuntime) {
         placed(c, i2, 1, 2, 700),
         placed(a, i3, 2, 0, 1200),
     ];
-    assert!(rt; cuts_to(rt.alloc(), &names, &claims, &due) == Some(true));
+    cuts_to(&rt, rt.alloc(), &names, &claims, &due);
 }
 
 // After a round of 7.00 on each claim of the triangle, and B I-4 A 2.00.
 #[test]
 fn the_triangle_after_a_round(rt: HostRuntime) {
-    let names = make_names().expect(&rt, "names");
+    let names = make_names(&rt);
     let Names {
         a,
         b,
@@ -268,24 +275,21 @@ fn the_triangle_after_a_round(rt: HostRuntime) {
         placed(a, i3, 2, 0, 500),
         placed(b, i4, 0, 1, 200),
     ];
-    assert!(rt; cuts_to(rt.alloc(), &names, &claims, &due) == Some(true));
+    cuts_to(&rt, rt.alloc(), &names, &claims, &due);
 }
 
 #[test]
 fn no_claims(rt: HostRuntime) {
-    let day = Day::of_number(0).expect(&rt, "a day");
-    let cut = cut_of(rt.alloc(), &[], &[], Kind::Funded, day).expect(&rt, "memory");
-    let cut = cut.expect(&rt, "facts");
-    assert!(rt; cut.parties().is_empty() && cut.claims().is_empty());
-    assert!(rt; cut.kind() == Kind::Funded);
+    let cut = cut_of(&rt, rt.alloc(), &[], &[], Kind::Funded, day(&rt, 0));
+    assert!(rt; cut.parties().is_empty() && cut.claims().is_empty() && cut.kind() == Kind::Funded);
 }
 
 // ---- a table of claims
 
 // The name of this letter and three digits of the number.
-fn numbered(letter: u8, number: u32) -> Option<Name> {
+fn numbered(rt: &impl Abort, letter: u8, number: u32) -> Name {
     let digit = |unit: u32| b'0' + (number / unit % 10) as u8;
-    Name::of(&[letter, digit(100), digit(10), digit(1)])
+    name(rt, &[letter, digit(100), digit(10), digit(1)])
 }
 
 fn ruled_status(number: u32) -> Status {
@@ -298,7 +302,7 @@ fn ruled_status(number: u32) -> Status {
 }
 
 // A claim by a fixed rule, between two of nine firms: one in eleven is paid, and due days are around day 20,000.
-fn ruled_claim(number: u32) -> Option<ClaimFact> {
+fn ruled_claim(rt: &impl Abort, number: u32) -> ClaimFact {
     let debtor = number / 3 % 9;
     let creditor = (debtor + 1 + number % 8) % 9;
     let amount = 1 + u64::from(number % 101 * 37 % 101);
@@ -307,46 +311,41 @@ fn ruled_claim(number: u32) -> Option<ClaimFact> {
     } else {
         amount.div_ceil(2)
     };
-    Some(ClaimFact {
+    ClaimFact {
         key: Key {
-            creditor: numbered(b'F', creditor)?,
-            invoice: numbered(b'I', number)?,
+            creditor: numbered(rt, b'F', creditor),
+            invoice: numbered(rt, b'I', number),
         },
-        debtor: numbered(b'F', debtor)?,
+        debtor: numbered(rt, b'F', debtor),
         status: ruled_status(number),
         amount,
         left,
-        due: Day::of_number(19_994 + number % 13)?,
-    })
+        due: day(rt, 19_994 + number % 13),
+    }
 }
 
-fn ruled_claims(alloc: Global) -> Result<Option<Vec<ClaimFact>>, AllocError> {
+fn ruled_claims(rt: &impl Abort, alloc: Global) -> Vec<ClaimFact> {
     let mut claims = Vec::new(alloc);
     for number in 0..400 {
-        match ruled_claim(number) {
-            Some(claim) => claims.push(claim)?,
-            None => return Ok(None),
-        }
+        claims.push(ruled_claim(rt, number)).expect(rt, "memory");
     }
-    Ok(Some(claims))
+    claims
 }
 
 // Accounts of twelve firms, three of which have no claim.
-fn ruled_accounts(alloc: Global) -> Result<Option<Vec<AccountFact>>, AllocError> {
+fn ruled_accounts(rt: &impl Abort, alloc: Global) -> Vec<AccountFact> {
     let mut accounts = Vec::new(alloc);
     for number in 0..12_u32 {
-        match numbered(b'F', 11 - number) {
-            Some(firm) => accounts.push(account(
-                firm,
-                i64::from(number) * 700 - 3_000,
-                3_000,
-                5_000 + u64::from(number),
-                u64::from(number) * 500,
-            ))?,
-            None => return Ok(None),
-        }
+        let account = account(
+            numbered(rt, b'F', 11 - number),
+            i64::from(number) * 700 - 3_000,
+            3_000,
+            5_000 + u64::from(number),
+            u64::from(number) * 500,
+        );
+        accounts.push(account).expect(rt, "memory");
     }
-    Ok(Some(accounts))
+    accounts
 }
 
 // Whether the party at a place is the firm, and whether each party before the place was seen before.
@@ -361,57 +360,57 @@ fn is_next(parties: &[Party], place: u32, firm: Name, seen: &mut usize) -> bool 
     }
 }
 
-// Whether the party's window is that of its account, by the rule.
-fn has_window(accounts: &[AccountFact], party: &Party) -> bool {
-    accounts.iter().any(|account| {
-        let balance = i128::from(account.balance);
-        let reach = balance + i128::from(account.credit);
-        account.firm == party.firm
-            && i128::from(party.spend) == reach.min(i128::from(account.offer))
-            && i128::from(party.room) == i128::from(account.ceiling) - balance
-    })
+// Whether the window of a party is that of an account, by the rule.
+fn has_window(account: &AccountFact, party: &Party) -> bool {
+    let balance = i128::from(account.balance);
+    let reach = balance + i128::from(account.credit);
+    i128::from(party.spend) == reach.min(i128::from(account.offer))
+        && i128::from(party.room) == i128::from(account.ceiling) - balance
+}
+
+// Whether the window of each party is that of its account.
+fn windows_match(cut: &Cut, accounts: &[AccountFact]) -> bool {
+    for party in cut.parties() {
+        let mut is_right = false;
+        for account in accounts {
+            if account.firm == party.firm {
+                is_right = has_window(account, party);
+            }
+        }
+        if !is_right {
+            return false;
+        }
+    }
+    true
 }
 
 fn takes_part(claim: &ClaimFact, horizon: Day) -> bool {
     claim.status == Status::Confirmed && claim.left != 0 && claim.due <= horizon
 }
 
-// Whether the cut's claims are those of the table that take part, in its order, among parties in order of appearance.
-fn claims_match(cut: &Cut, claims: &[ClaimFact], horizon: Day) -> bool {
+// The cut's claims are those of the table that take part, in its order, among parties in order of appearance.
+fn claims_match(rt: &impl Abort, cut: &Cut, claims: &[ClaimFact], horizon: Day) {
     let mut seen = 0;
     let mut place = 0;
-    for claim in claims.iter().filter(|claim| takes_part(claim, horizon)) {
-        let Some(found) = cut.claims().get(place) else {
-            return false;
-        };
-        if found.key != claim.key || found.amount != claim.left {
-            return false;
+    for claim in claims {
+        if takes_part(claim, horizon) {
+            let found = cut.claims().get(place).expect(rt, "a claim");
+            assert!(rt; found.key == claim.key && found.amount == claim.left);
+            assert!(rt; is_next(cut.parties(), found.debtor, claim.debtor, &mut seen));
+            assert!(rt; is_next(cut.parties(), found.creditor, claim.key.creditor, &mut seen));
+            place += 1;
         }
-        if !is_next(cut.parties(), found.debtor, claim.debtor, &mut seen) {
-            return false;
-        }
-        if !is_next(cut.parties(), found.creditor, claim.key.creditor, &mut seen) {
-            return false;
-        }
-        place += 1;
     }
-    place == cut.claims().len() && seen == cut.parties().len()
+    assert!(rt; place == cut.claims().len() && seen == cut.parties().len());
 }
 
 #[test]
 fn a_table_of_claims(rt: HostRuntime) {
-    let claims = ruled_claims(rt.alloc()).expect(&rt, "memory");
-    let claims = claims.expect(&rt, "names and days");
-    let accounts = ruled_accounts(rt.alloc()).expect(&rt, "memory");
-    let accounts = accounts.expect(&rt, "names");
-    let horizon = Day::of_number(20_000).expect(&rt, "a day");
-    let cut = cut_of(rt.alloc(), &claims, &accounts, Kind::Funded, horizon).expect(&rt, "memory");
-    let cut = cut.expect(&rt, "facts");
+    let claims = ruled_claims(&rt, rt.alloc());
+    let accounts = ruled_accounts(&rt, rt.alloc());
+    let horizon = day(&rt, 20_000);
+    let cut = cut_of(&rt, rt.alloc(), &claims, &accounts, Kind::Funded, horizon);
     assert!(rt; cut.claims().len() > 100 && cut.parties().len() == 9);
-    assert!(rt; claims_match(&cut, &claims, horizon));
-    assert!(rt;
-        cut.parties()
-            .iter()
-            .all(|party| has_window(&accounts, party))
-    );
+    claims_match(&rt, &cut, &claims, horizon);
+    assert!(rt; windows_match(&cut, &accounts));
 }
