@@ -1,5 +1,5 @@
 //! A batch.
-ghost use Rattle.std.specs.Prelude.{◌≡◌, ◌≤◌, true, length, All, MatchOption};
+ghost use Rattle.std.specs.Prelude.{◌≡◌, ◌≤◌, true, length, All};
 ghost use Rattle.claim_history.specs.Acts.{is_request};
 ghost use Rattle.turn_lock.specs.Seats.{lock_of, made, registrar_view, registry};
 ghost use Rattle.lane_runner.specs.Batches.{HasRunBatch};

@@ -1,13 +1,13 @@
 //! The memory for a batch.
 ghost use Rattle.std.specs.Prelude.{◌≡◌, ◌≤◌, length, All, IfOk};
+ghost use Rattle.request_text.specs.Lanes.{most_lanes};
 ghost use Rattle.lane_runner.specs.Lanes.{of_lane};
 ghost use Rattle.lane_runner.specs.Rooms.{HavePlaces, IsRoomFor};
 
 use crate::lane::Lane;
-use crate::merge::MOST_LANES;
 use bureau_desk::Desk;
 use disk_model::Disk;
-use request_text::Request;
+use request_text::{MOST_LANES, Request};
 use served_lines::{Answer, LineEnd};
 use std::alloc::{AllocError, Global};
 use turn_lock::Seat;
@@ -25,7 +25,7 @@ pub struct BatchRoom<D: Disk> {
 impl<D: Disk> BatchRoom<D> {
     /// The room for a batch. The only error is that memory is missing.
     pub fn make(alloc: Global, requests: &[Request]) -> Result<BatchRoom<D>, AllocError>
-        requires { All (λ r. r.lane ≤ 16) requests.now }
+        requires { All (λ r. r.lane ≤ most_lanes) requests.now }
         ensures { IfOk result (IsRoomFor requests.now) }
     {
         let highest = highest_lane(requests);
@@ -40,9 +40,9 @@ impl<D: Disk> BatchRoom<D> {
 
 // The highest lane of the requests, and 0 where there are none.
 fn highest_lane(requests: &[Request]) -> u32
-    requires { All (λ r. r.lane ≤ 16) requests.now }
+    requires { All (λ r. r.lane ≤ most_lanes) requests.now }
     ensures all { All (λ r. r.lane ≤ result) requests.now }
-    ensures few { result ≤ 16 }
+    ensures few { result ≤ most_lanes }
 {
     let mut highest = 0;
     for request in requests {
@@ -72,7 +72,7 @@ fn places(
     requests: &[Request],
     highest: u32,
 ) -> Result<Vec<Vec<LineEnd>>, AllocError>
-    requires { highest ≤ 16 }
+    requires { highest ≤ most_lanes }
     ensures { IfOk result (λ v. (length v.items ≡ highest) × HavePlaces requests.now highest v.items) }
 {
     let mut places = Vec::with_capacity(alloc, MOST_LANES)?;

@@ -2,6 +2,7 @@
 ghost use Rattle.std.specs.Prelude.{◌≡◌, ◌≤◌, [], length, map, reverse, vec_capacity};
 ghost use Rattle.turn_lock.specs.Seats.{lock_of, made, registrar_view, registry};
 ghost use Rattle.turn_lock.specs.Turns.{EachOf};
+ghost use Rattle.request_text.specs.Lanes.{most_lanes};
 ghost use Rattle.lane_runner.specs.Rooms.{HavePlaces};
 ghost use Rattle.lane_runner.specs.Seating.{HasMade, IsNewLane};
 
@@ -23,10 +24,10 @@ pub fn seat_lanes<D: Disk>(
     lanes: &mut Vec<Lane<D>>,
 )
     requires made { (registry registrar.old ≡ lock_of shared.now.turn) × (made registrar.old ≡ 0) }
-    requires few { length places.items ≤ 16 }
+    requires few { length places.items ≤ most_lanes }
     requires places { HavePlaces requests.now (length places.items) places.items }
     requires empty { lanes.old.items ≡ [] }
-    requires spare { 16 ≤ vec_capacity lanes.old }
+    requires spare { most_lanes ≤ vec_capacity lanes.old }
     ensures registrar { HasMade registrar.old registrar.new (length places.items) }
     ensures all { length lanes.new.items ≡ length places.items }
     ensures lanes { EachOf (IsNewLane shared.now.turn (registrar_view registrar.old).opened requests.now) lanes.new.items }
