@@ -7,7 +7,7 @@ use Rattle.entry_text.specs.Entries.{reply_text}
 use Rattle.round_journal.specs.declared.cause.RecordWhy.{RecordWhy}
 use Rattle.round_journal.specs.declared.cause.RecordWhy.TheVariants.{Short, Body}
 use Rattle.bureau_desk.specs.declared.desk_refused.DeskCause.{DeskCause}
-use Rattle.bureau_desk.specs.declared.desk_refused.DeskCause.TheVariants.{Memory, Device, BadHeader, BadRecord, BadAct, Overfull}
+use Rattle.bureau_desk.specs.declared.desk_refused.DeskCause.TheVariants.{Memory, Device, BadRecord, BadAct, Overfull}
 
 -- ---- journals that are not sound
 

@@ -1,5 +1,5 @@
 //! What an audit finds.
-ghost use Rattle.std.specs.Prelude.{◌≡◌, ◌+◌, ◌≤◌, ◌++◌, count_by, length, vec_len, vec_capacity};
+ghost use Rattle.std.specs.Prelude.{◌≡◌, ◌+◌, ◌≤◌, ◌++◌, count_by, vec_len, vec_capacity};
 ghost use Rattle.setoff_model.specs.Limits.{line_bytes};
 ghost use Rattle.claim_history.specs.Acts.{is_publication};
 ghost use Rattle.desk_text.specs.Texts.{sound_text, unsound_text, unsound_status, IsTellable};

@@ -1,5 +1,5 @@
 //! Disks on which no desk was opened.
-ghost use Rattle.std.specs.Prelude.{◌≡◌, ◌+◌, ◌≤◌, ◌++◌, codes, length, vec_len, vec_capacity};
+ghost use Rattle.std.specs.Prelude.{◌≡◌, ◌+◌, ◌≤◌, ◌++◌, length, vec_len, vec_capacity};
 ghost use Rattle.setoff_model.specs.Limits.{line_bytes};
 ghost use Rattle.desk_text.specs.Texts.{offset_of, record_why, fault_of, told_fault, told_counts, opening_text, opening_status, IsTellable};
 
