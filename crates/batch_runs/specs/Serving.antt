@@ -1,12 +1,9 @@
 -- Batches that are served on a desk in turn.
-use Rattle.std.specs.Prelude.{◌≡◌, ℕ, List, [], ◌++◌, length, Option, Some, None, MatchOption}
+use Rattle.std.specs.Prelude.{◌≡◌, ℕ, List, [], ◌++◌, Option, Some, None}
 use Rattle.disk_model.specs.Calls.{Seen}
-use Rattle.claim_history.specs.declared.entry.Entry.{Entry}
-use Rattle.claim_history.specs.Rounds.{cuts_after}
 use Rattle.request_text.specs.declared.request.Request.{Request}
 use Rattle.bureau_desk.specs.Desks.{DeskView, base_of}
 use Rattle.served_lines.specs.declared.answer.Answer.{Answer}
-use Rattle.served_lines.specs.Served.{IsServed}
 use Rattle.served_lines.specs.Ends.{is_memory_end, is_full_end}
 use Rattle.printed_text.specs.Printing.{unanswered}
 use Rattle.printed_text.specs.Writing.{IsWritten}
