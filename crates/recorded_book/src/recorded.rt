@@ -128,7 +128,7 @@ impl<D: Disk> RecordedBook<D> {
         ensures untouched { IsUntouched self.old self.new }
         ensures later { IsLater D.seen self.old.recorder self.new.recorder }
     {
-        self.recorder.reserve(body_length(act) as usize)?;
+        self.reserve_body(body_length(act) as usize)?;
         self.book.reserve(act)?;
         Ok(())
     }
@@ -196,6 +196,16 @@ impl<D: Disk> RecordedBook<D> {
         }
     }
 
+    // Makes room for a body of so many bytes. The only error is that memory is missing.
+    fn reserve_body(&mut self, bytes: usize) -> Result<(), AllocError>
+        ensures spare { OnOk result (bytes ≤ self.new.recorder.spare) }
+        ensures book { self.new.book ≡ self.old.book }
+        ensures journal { self.new.recorder.journal ≡ self.old.recorder.journal }
+        ensures later { IsLater D.seen self.old.recorder self.new.recorder }
+    {
+        self.recorder.reserve(bytes)
+    }
+
     // Opens a round of this number.
     fn open_round(
         &mut self,
@@ -218,7 +228,7 @@ impl<D: Disk> RecordedBook<D> {
         let Ok(copy) = cut.clone() else {
             return Err(ActError::Memory);
         };
-        if self.recorder.reserve(publication_length(&cut)).is_err() {
+        if self.reserve_body(publication_length(&cut)).is_err() {
             return Err(ActError::Memory);
         }
         match self.book.fits_opening(caller, kind, horizon, &cut) {
