@@ -6,8 +6,7 @@ use act_bodies::{
 };
 use claim_history::{Act, Day};
 use setoff_model::{Key, Kind, Name, Outcome};
-use std::alloc::{AllocError, Global};
-use std::test::Fail;
+use std::process::Abort;
 
 const FIRM: [u8; 7] = [0, 0, 0, 1, 1, 1, 0x41];
 
@@ -27,87 +26,88 @@ const PUBLISH: [u8; 53] = [
 
 const ABANDON: [u8; 5] = [0, 0, 0, 0, 13];
 
+fn name(rt: &impl Abort, text: &[u8]) -> Name {
+    Name::of(text).expect(rt, "a name")
+}
+
+fn day(rt: &impl Abort, number: u32) -> Day {
+    Day::of_number(number).expect(rt, "a day")
+}
+
+// What names B's claim I-1.
+fn key(rt: &impl Abort) -> Key {
+    Key {
+        creditor: name(rt, b"B"),
+        invoice: name(rt, b"I-1"),
+    }
+}
+
 // B's claim I-1 against A, of 10.00, due on 31 January 2025.
-fn file() -> Option<Act> {
-    Some(Act::File {
-        key: key()?,
-        debtor: Name::of(b"A")?,
+fn file(rt: &impl Abort) -> Act {
+    Act::File {
+        key: key(rt),
+        debtor: name(rt, b"A"),
         amount: 1000,
-        due: Day::of_number(20_119)?,
-    })
+        due: day(rt, 20_119),
+    }
 }
 
-fn confirm() -> Option<Act> {
-    Some(Act::Confirm {
-        key: key()?,
-        debtor: Name::of(b"A")?,
-    })
+fn confirm(rt: &impl Abort) -> Act {
+    Act::Confirm {
+        key: key(rt),
+        debtor: name(rt, b"A"),
+    }
 }
 
-fn close() -> Option<Act> {
-    Some(Act::Close {
+fn close(rt: &impl Abort) -> Act {
+    Act::Close {
         kind: Kind::Plain,
-        horizon: Day::of_number(20_453)?,
-    })
-}
-
-fn key() -> Option<Key> {
-    let creditor = Name::of(b"B")?;
-    let invoice = Name::of(b"I-1")?;
-    Some(Key { creditor, invoice })
+        horizon: day(rt, 20_453),
+    }
 }
 
 // Three discharges of 7.00, by the prices 1, 2 and 0.
-fn publish(alloc: Global) -> Result<Act, AllocError> {
-    let discharges = vec![in alloc; 700, 700, 700]?;
-    let prices = vec![in alloc; 1, 2, 0]?;
-    Ok(Act::Publish {
+fn publish(rt: &(impl Abort + AllocGlobal)) -> Act {
+    let discharges = vec![in rt.alloc(); 700, 700, 700].expect(rt, "memory");
+    let prices = vec![in rt.alloc(); 1, 2, 0].expect(rt, "memory");
+    Act::Publish {
         round: 1,
         outcome: Outcome::new(discharges, prices),
-    })
-}
-
-// The body of a call, or nothing where the call cannot be kept.
-fn body_of(alloc: Global, caller: u32, act: &Act) -> Result<Vec<u8>, AllocError> {
-    if !can_be_kept(caller, act) || !act.valid() {
-        return Ok(Vec::new(alloc));
     }
-    let mut buffer = Vec::with_capacity(alloc, body_length(act) as usize)?;
-    encode(&mut buffer, caller, act);
-    Ok(buffer)
 }
 
-// Whether the body of a call is this one.
-fn is_written(alloc: Global, caller: u32, act: &Act, bytes: &[u8]) -> Result<bool, AllocError> {
-    let body = body_of(alloc, caller, act)?;
-    Ok(body.as_slice() == bytes)
+// The body of a call, which can be kept, is this one.
+fn is_written(rt: &(impl Abort + AllocGlobal), caller: u32, act: &Act, bytes: &[u8]) {
+    assert!(rt; can_be_kept(caller, act));
+    assert!(rt; act.valid());
+    let length = body_length(act) as usize;
+    let mut buffer = Vec::with_capacity(rt.alloc(), length).expect(rt, "memory");
+    encode(&mut buffer, caller, act);
+    assert!(rt; buffer.as_slice() == bytes);
 }
 
 #[test]
-fn bodies_are_written(rt: HostRuntime) -> Result<(), Fail> {
+fn bodies_are_written(rt: HostRuntime) {
     each_body_is_of_one_call();
     bodies_have_their_lengths();
-    let alloc = rt.alloc();
-    let firm = Name::of(b"A").ok_or("a name")?;
-    assert!(rt; is_written(alloc, 1, &Act::Firm { firm }, &FIRM)?);
-    assert!(rt; is_written(alloc, 1, &file().ok_or("a file")?, &FILE)?);
-    assert!(rt; is_written(alloc, 1, &confirm().ok_or("a confirmation")?, &CONFIRM)?);
-    assert!(rt; is_written(alloc, 1, &close().ok_or("a close")?, &CLOSE)?);
-    assert!(rt; is_written(alloc, 1, &publish(alloc)?, &PUBLISH)?);
-    assert!(rt; is_written(alloc, 0, &Act::Abandon, &ABANDON)?);
-    Ok(())
+    let firm = name(&rt, b"A");
+    is_written(&rt, 1, &Act::Firm { firm }, &FIRM);
+    is_written(&rt, 1, &file(&rt), &FILE);
+    is_written(&rt, 1, &confirm(&rt), &CONFIRM);
+    is_written(&rt, 1, &close(&rt), &CLOSE);
+    is_written(&rt, 1, &publish(&rt), &PUBLISH);
+    is_written(&rt, 0, &Act::Abandon, &ABANDON);
 }
 
-// Whether a body is that of a call, and is written again from it.
-fn is_read_back(alloc: Global, bytes: &[u8]) -> Result<bool, AllocError> {
-    match read_body(alloc, bytes)? {
-        Some(call) => is_written(alloc, call.caller, &call.act, bytes),
-        None => Ok(false),
-    }
+// A body is that of a call, and is written again from it.
+fn is_read_back(rt: &(impl Abort + AllocGlobal), bytes: &[u8]) {
+    let read = read_body(rt.alloc(), bytes).expect(rt, "memory");
+    let call = read.expect(rt, "a call");
+    is_written(rt, call.caller, &call.act, bytes);
 }
 
 #[test]
-fn bodies_are_read_back(rt: HostRuntime) -> Result<(), Fail> {
+fn bodies_are_read_back(rt: HostRuntime) {
     let bodies: [&[u8]; 17] = [
         &FIRM,
         &FILE,
@@ -132,13 +132,12 @@ fn bodies_are_read_back(rt: HostRuntime) -> Result<(), Fail> {
         b"\0\0\0\x01\x0e\0\0\0\x01\0\0\0\0\0\0\0\x01\0\0\0\0",
     ];
     for bytes in bodies {
-        assert!(rt; is_read_back(rt.alloc(), bytes)?);
+        is_read_back(&rt, bytes);
     }
-    Ok(())
 }
 
 #[test]
-fn other_bytes_are_no_bodies(rt: HostRuntime) -> Result<(), Fail> {
+fn other_bytes_are_no_bodies(rt: HostRuntime) {
     let refused: [&[u8]; 21] = [
         b"",
         b"\0\0\0\x01",
@@ -171,10 +170,7 @@ fn other_bytes_are_no_bodies(rt: HostRuntime) -> Result<(), Fail> {
         b"\0\0\0\x01\x0e\0\0\0\x01\xff\xff\xff\xff\0\0\0\0",
     ];
     for (place, bytes) in refused.into_iter().enumerate() {
-        assert!(rt;
-            read_body(rt.alloc(), bytes)?.is_none(),
-            "a call at {place}"
-        );
+        let read = read_body(rt.alloc(), bytes).expect(&rt, "memory");
+        assert!(rt; read.is_none(), "a call at {place}");
     }
-    Ok(())
 }

@@ -5,7 +5,6 @@ use disk_model::MemoryDisk;
 use round_journal::{Device, Journal, JournalCause, Record, RecordWhy, read_records};
 use std::alloc::Global;
 use std::process::Abort;
-use std::test::Fail;
 
 // The body of caller 1 and FIRM A, and that of caller 0 and ABANDON.
 const FIRM_A: [u8; 7] = [0, 0, 0, 1, 1, 1, b'A'];
@@ -19,29 +18,29 @@ const ONE: [u8; 21] = [
 
 // Appends to a journal in memory.
 fn append(rt: &impl Abort, journal: &mut Journal<MemoryDisk>, body: &[u8]) -> Result<(), Device> {
-    assert!(rt; journal.gate() < 1000 && body.len() < 1000);
+    assert!(rt; journal.gate() < 1000);
+    assert!(rt; body.len() < 1000);
     journal.append(body)
 }
 
 // A disk in memory with these bytes, of whose calls one fails.
-fn disk_of(rt: &impl AllocGlobal, bytes: &[u8], fails: u64) -> Result<MemoryDisk, Fail> {
-    let alloc = rt.alloc();
-    Ok(MemoryDisk::new(
-        alloc,
-        Vec::from_slice(alloc, bytes)?,
-        Vec::from_slice(alloc, &[fails])?,
-    ))
+fn disk_of(rt: &(impl Abort + AllocGlobal), bytes: &[u8], fails: u64) -> MemoryDisk {
+    let bytes = Vec::from_slice(rt.alloc(), bytes).expect(rt, "memory");
+    let fails = Vec::from_slice(rt.alloc(), &[fails]).expect(rt, "memory");
+    MemoryDisk::new(rt.alloc(), bytes, fails)
 }
 
-// Whether the records are one, of caller 1 and FIRM A at 8.
-fn is_firm_a(records: &[Record]) -> bool {
+// The records are one, of caller 1 and FIRM A at 8.
+fn is_firm_a(rt: &impl Abort, records: &[Record]) {
     let [record] = records else {
-        return false;
+        panic!(rt; "one record");
     };
     let Act::Firm { firm } = &record.act else {
-        return false;
+        panic!(rt; "a firm");
     };
-    record.offset == 8 && record.caller == 1 && firm.bytes() == b"A".as_slice()
+    assert!(rt; record.offset == 8);
+    assert!(rt; record.caller == 1);
+    assert!(rt; firm.bytes() == b"A".as_slice());
 }
 
 // How many records are there, or why they are not read.
@@ -51,59 +50,81 @@ fn read(alloc: Global, disk: &mut MemoryDisk) -> Found {
     Ok(read_records(alloc, disk)?.len())
 }
 
-// What is read, what is found at an opening, and the number of bytes after it.
-fn opened(rt: &impl AllocGlobal, bytes: &[u8]) -> Result<(Found, Found, usize), Fail> {
-    let mut disk = disk_of(rt, bytes, 0)?;
+// What is found at an opening, and the number of bytes after it.
+fn opening(alloc: Global, disk: MemoryDisk) -> (Found, usize) {
+    match Journal::open(alloc, disk) {
+        Ok((journal, records)) => (Ok(records.len()), journal.close().bytes().len()),
+        Err(refused) => (Err(refused.cause), refused.disk.bytes().len()),
+    }
+}
+
+// This is what is read, and what is found at an opening, and no byte more is there after it, or less.
+fn is_found(rt: &(impl Abort + AllocGlobal), bytes: &[u8], due: Found, length: usize) {
+    let mut disk = disk_of(rt, bytes, 0);
     let before = read(rt.alloc(), &mut disk);
-    match Journal::open(rt.alloc(), disk) {
-        Ok((journal, records)) => { Ok((before, Ok(records.len()), journal.close().bytes().len())) }
-        Err(refused) => Ok((before, Err(refused.cause), refused.disk.bytes().len())),
-    }
+    assert!(rt; before == due);
+    let (found, after) = opening(rt.alloc(), disk);
+    assert!(rt; found == due);
+    assert!(rt; after == length);
+}
+
+// An open journal on this disk, and its records.
+fn open(rt: &(impl Abort + AllocGlobal), disk: MemoryDisk) -> (Journal<MemoryDisk>, Vec<Record>) {
+    let opened = Journal::open(rt.alloc(), disk).ok();
+    opened.expect(rt, "no fault")
+}
+
+// The records of this disk.
+fn records_of(rt: &(impl Abort + AllocGlobal), disk: &mut MemoryDisk) -> Vec<Record> {
+    let records = read_records(rt.alloc(), disk).ok();
+    records.expect(rt, "no fault")
 }
 
 #[test]
-fn an_empty_disk_becomes_a_journal(rt: HostRuntime) -> Result<(), Fail> {
-    let mut disk = disk_of(&rt, b"", 0)?;
-    let none = read_records(rt.alloc(), &mut disk)
-        .ok()
-        .expect(&rt, "no fault");
-    assert!(rt; none.is_empty() && disk.bytes().is_empty());
-    assert_eq!(rt; disk.moment(), 2);
-    let (journal, records) = Journal::open(rt.alloc(), disk).ok().expect(&rt, "no fault");
+fn an_empty_disk_becomes_a_journal(rt: HostRuntime) {
+    let mut disk = disk_of(&rt, b"", 0);
+    assert!(rt; records_of(&rt, &mut disk).is_empty());
+    assert!(rt; disk.bytes().is_empty());
+    assert!(rt; disk.moment() == 2);
+    let (journal, records) = open(&rt, disk);
     assert!(rt; records.is_empty());
-    assert_eq!(rt; journal.gate(), 8);
+    assert!(rt; journal.gate() == 8);
     let disk = journal.close();
-    assert_eq!(rt; disk.bytes(), b"BUREAUJ1\0".as_slice());
-    assert_eq!(rt; disk.moment(), 10);
-    Ok(())
+    assert!(rt; disk.bytes() == b"BUREAUJ1\0".as_slice());
+    assert!(rt; disk.moment() == 10);
 }
 
 #[test]
-fn a_record_is_read_whole_or_not_at_all(rt: HostRuntime) -> Result<(), Fail> {
+fn a_record_is_read_whole_or_not_at_all(rt: HostRuntime) {
     for n in 0..=9 {
-        assert_eq!(rt; opened(&rt, &ONE[..n])?, (Ok(0), Ok(0), 9));
+        is_found(&rt, &ONE[..n], Ok(0), 9);
     }
+    let short = JournalCause::BadRecord {
+        offset: 8,
+        why: RecordWhy::Short,
+    };
     for n in 10..21 {
-        let short = JournalCause::BadRecord {
-            offset: 8,
-            why: RecordWhy::Short,
-        };
-        assert_eq!(rt; opened(&rt, &ONE[..n])?, (Err(short), Err(short), n));
+        is_found(&rt, &ONE[..n], Err(short), n);
     }
-    let mut disk = disk_of(&rt, &ONE, 0)?;
-    let records = read_records(rt.alloc(), &mut disk)
-        .ok()
-        .expect(&rt, "no fault");
-    assert!(rt; is_firm_a(&records));
-    let (journal, records) = Journal::open(rt.alloc(), disk).ok().expect(&rt, "no fault");
-    assert!(rt; is_firm_a(&records));
-    assert_eq!(rt; journal.gate(), 20);
-    assert_eq!(rt; journal.close().moment(), 10);
-    Ok(())
+    let mut disk = disk_of(&rt, &ONE, 0);
+    is_firm_a(&rt, &records_of(&rt, &mut disk));
+    let (journal, records) = open(&rt, disk);
+    is_firm_a(&rt, &records);
+    assert!(rt; journal.gate() == 20);
+    assert!(rt; journal.close().moment() == 10);
+}
+
+// The journal with one record, with a piece over its bytes from a place on.
+fn damaged(rt: &impl Abort, at: usize, piece: &[u8]) -> [u8; 21] {
+    let mut bytes = ONE;
+    assert!(rt; at < 21);
+    assert!(rt; piece.len() <= 21 - at);
+    bytes[at..at + piece.len()].copy_from_slice(piece);
+    bytes
 }
 
 #[test]
-fn damage_is_found(rt: HostRuntime) -> Result<(), Fail> {
+fn damage_is_found(rt: HostRuntime) {
     let short = JournalCause::BadRecord {
         offset: 8,
         why: RecordWhy::Short,
@@ -129,80 +150,61 @@ fn damage_is_found(rt: HostRuntime) -> Result<(), Fail> {
         (20, &[1], Err(last)),
     ];
     for (at, piece, answer) in table {
-        let mut bytes = ONE;
-        assert!(rt; at < 21 && piece.len() <= 21 - at);
-        bytes[at..at + piece.len()].copy_from_slice(piece);
-        assert_eq!(rt; opened(&rt, &bytes)?, (answer, answer, 21));
-    }
-    Ok(())
-}
-
-// A journal on an empty disk, of whose calls one fails.
-fn journal_of(rt: &impl AllocGlobal, fails: u64) -> Result<Journal<MemoryDisk>, Fail> {
-    let disk = disk_of(rt, b"", fails)?;
-    match Journal::open(rt.alloc(), disk) {
-        Ok((journal, _)) => Ok(journal),
-        Err(_) => Err("a journal".into()),
+        is_found(&rt, &damaged(&rt, at, piece), answer, 21);
     }
 }
 
-// Whether a first append fails, and a second one puts its record in the place.
-fn goes_on(rt: &impl Abort, journal: &mut Journal<MemoryDisk>) -> bool {
-    let failed = append(rt, journal, &FIRM_A)
-        == Err(Device {
-            before: 0,
-            after: 1,
-        });
-    let kept = append(rt, journal, &ABANDON).is_ok();
-    failed && kept && journal.gate() == 18
+// A first append fails, and a second one puts its record in the place.
+fn goes_on(rt: &impl Abort, journal: &mut Journal<MemoryDisk>) {
+    let failed = append(rt, journal, &FIRM_A);
+    let kept = append(rt, journal, &ABANDON);
+    let device = Device {
+        before: 0,
+        after: 1,
+    };
+    assert!(rt; failed == Err(device));
+    assert!(rt; kept.is_ok());
+    assert!(rt; journal.gate() == 18);
 }
 
 // Call 8 is the last sync of the first append, and the calls before it are those of an opening and an append. An append
 // that failed before it wrote its gate is not settled: so many moments are there at the end.
 #[test]
-fn a_failed_append_is_settled(rt: HostRuntime) -> Result<(), Fail> {
+fn a_failed_append_is_settled(rt: HostRuntime) {
     for (fails, moment) in [(5, 18), (6, 20), (7, 26), (8, 28)] {
-        let mut journal = journal_of(&rt, fails)?;
-        assert!(rt; goes_on(&rt, &mut journal));
+        let (mut journal, _) = open(&rt, disk_of(&rt, b"", fails));
+        goes_on(&rt, &mut journal);
         let disk = journal.close();
-        assert_eq!(rt; disk.moment(), moment);
-        let bytes = disk.bytes();
-        assert!(rt; bytes.len() >= 19);
-        assert_eq!(rt;
-            &bytes[8..19],
-            [1, 0, 0, 0, 5, 0, 0, 0, 0, 13, 0].as_slice()
-        );
+        assert!(rt; disk.moment() == moment);
+        let kept = disk.bytes().get(8..19);
+        assert!(rt; kept == Some([1, 0, 0, 0, 5, 0, 0, 0, 0, 13, 0].as_slice()));
     }
-    Ok(())
 }
 
 // After an append whose last sync failed a crash leaves the record or leaves it out, and an opening tells which.
 #[test]
-fn a_crash_leaves_the_last_record_or_not(rt: HostRuntime) -> Result<(), Fail> {
-    let mut journal = journal_of(&rt, 8)?;
-    assert!(rt; append(&rt, &mut journal, &FIRM_A).is_err());
+fn a_crash_leaves_the_last_record_or_not(rt: HostRuntime) {
+    let (mut journal, _) = open(&rt, disk_of(&rt, b"", 8));
+    let failed = append(&rt, &mut journal, &FIRM_A);
+    assert!(rt; failed.is_err());
     let disk = journal.close();
-    assert_eq!(rt; disk.moment(), 16);
-    let without = disk.image(rt.alloc(), 16, 0)?;
-    let with_it = disk.image(rt.alloc(), 16, 1)?;
-    assert_eq!(rt; opened(&rt, &without)?, (Ok(0), Ok(0), 21));
-    assert_eq!(rt; opened(&rt, &with_it)?, (Ok(1), Ok(1), 21));
-    Ok(())
+    assert!(rt; disk.moment() == 16);
+    for (pick, count) in [(0, 0), (1, 1)] {
+        let image = disk.image(rt.alloc(), 16, pick).expect(&rt, "memory");
+        is_found(&rt, &image, Ok(count), 21);
+    }
 }
 
 #[test]
-fn a_failed_opening_hands_the_disk_back(rt: HostRuntime) -> Result<(), Fail> {
+fn a_failed_opening_hands_the_disk_back(rt: HostRuntime) {
+    let device = JournalCause::Device {
+        before: 0,
+        after: 1,
+    };
     for fails in 1..=4 {
-        let disk = disk_of(&rt, b"", fails)?;
-        let refused = Journal::open(rt.alloc(), disk).err().expect(&rt, "a fault");
-        assert_eq!(rt;
-            refused.cause,
-            JournalCause::Device {
-                before: 0,
-                after: 1
-            }
-        );
-        assert_eq!(rt; refused.disk.moment(), 2 * fails);
+        let opened = Journal::open(rt.alloc(), disk_of(&rt, b"", fails));
+        let refused = opened.err().expect(&rt, "a fault");
+        assert!(rt; refused.cause == device);
+        assert!(rt; refused.disk.moment() == 2 * fails);
     }
-    Ok(())
 }

@@ -10,6 +10,7 @@ use limited_book::LimitedBook;
 use round_journal::Record;
 use setoff_model::{Key, Kind, Name, Outcome};
 use std::alloc::Global;
+use std::process::Abort;
 
 // Whether the calls can be kept in a journal.
 fn are_keepable(records: &[Record]) -> bool
@@ -64,26 +65,28 @@ fn replayed(alloc: Global, records: Vec<Record>) -> Result<Told, ReplayStop>
     requires { AreKeepable records.items }
 {
     let book = replay(alloc, records)?;
-    Ok(tell(&book))
+    let told = tell(&book);
+    drop(book);
+    Ok(told)
 }
 
-// The same of acts of caller 1, whose records have the offsets 0, 1 and so on. None where memory is missing or the acts cannot be kept.
-fn acted(alloc: Global, acts: Vec<Act>) -> Option<Result<Told, ReplayStop>> {
-    let mut records = Vec::new(alloc);
-    for act in acts {
-        let offset = records.len() as u64;
+// The same of acts of caller 1, which can be kept, and whose records have the offsets 0, 1 and so on.
+fn acted(rt: &(impl Abort + AllocGlobal), acts: Vec<Act>) -> Result<Told, ReplayStop> {
+    let mut records = Vec::new(rt.alloc());
+    for (place, act) in acts.into_iter().enumerate() {
         let record = Record {
-            offset,
+            offset: place as u64,
             caller: 1,
             act,
         };
-        records.push(record).ok()?;
+        records.push(record).expect(rt, "memory");
     }
-    if are_keepable(&records) {
-        Some(replayed(alloc, records))
-    } else {
-        None
-    }
+    assert!(rt; are_keepable(&records));
+    replayed(rt.alloc(), records)
+}
+
+fn name(rt: &impl Abort, text: &[u8]) -> Name {
+    Name::of(text).expect(rt, "a name")
 }
 
 // A creditor's invoice I-1 against a debtor, and its confirmation.
@@ -103,13 +106,11 @@ fn confirm(creditor: Name, invoice: Name, debtor: Name) -> Act {
 }
 
 // A owes B 10.00, B owes C 7.00, and C owes A 12.00; a round is opened.
-fn triangle(alloc: Global) -> Option<Vec<Act>> {
-    let a = Name::of(b"A")?;
-    let b = Name::of(b"B")?;
-    let c = Name::of(b"C")?;
-    let one = Name::of(b"I-1")?;
-    let horizon = Day::of_number(20_119)?;
-    let acts = vec![in alloc;
+fn triangle(rt: &(impl Abort + AllocGlobal)) -> Vec<Act> {
+    let (a, b, c) = (name(rt, b"A"), name(rt, b"B"), name(rt, b"C"));
+    let one = name(rt, b"I-1");
+    let horizon = Day::of_number(20_119).expect(rt, "a day");
+    let acts = vec![in rt.alloc();
         Act::Firm { firm: a },
         Act::Firm { firm: b },
         Act::Firm { firm: c },
@@ -124,27 +125,26 @@ fn triangle(alloc: Global) -> Option<Vec<Act>> {
             horizon
         },
     ];
-    acts.ok()
+    acts.expect(rt, "memory")
 }
 
 // The round of the triangle: 7.00 of each claim.
-fn publication(alloc: Global) -> Option<Act> {
-    let discharges = vec![in alloc; 700, 700, 700].ok()?;
-    let prices = vec![in alloc; 1, 2, 0].ok()?;
+fn publication(rt: &(impl Abort + AllocGlobal)) -> Act {
+    let discharges = vec![in rt.alloc(); 700, 700, 700].expect(rt, "memory");
+    let prices = vec![in rt.alloc(); 1, 2, 0].expect(rt, "memory");
     let outcome = Outcome::new(discharges, prices);
-    Some(Act::Publish { round: 1, outcome })
+    Act::Publish { round: 1, outcome }
 }
 
 // The triangle with its round published.
-fn settled(alloc: Global) -> Option<Vec<Act>> {
-    let mut acts = triangle(alloc)?;
-    acts.push(publication(alloc)?).ok()?;
-    Some(acts)
+fn settled(rt: &(impl Abort + AllocGlobal)) -> Vec<Act> {
+    let mut acts = triangle(rt);
+    acts.push(publication(rt)).expect(rt, "memory");
+    acts
 }
 
 #[test]
 fn a_round_stays_open(rt: HostRuntime) {
-    let acts = triangle(rt.alloc()).expect(&rt, "acts");
     let told = Told {
         entries: 10,
         bytes: 204,
@@ -156,12 +156,12 @@ fn a_round_stays_open(rt: HostRuntime) {
             payable: 1000,
         }),
     };
-    assert_eq!(rt; acted(rt.alloc(), acts), Some(Ok(told)));
+    let found = acted(&rt, triangle(&rt));
+    assert!(rt; found == Ok(told));
 }
 
 #[test]
 fn a_publication_settles(rt: HostRuntime) {
-    let acts = settled(rt.alloc()).expect(&rt, "acts");
     let told = Told {
         entries: 11,
         bytes: 262,
@@ -173,26 +173,24 @@ fn a_publication_settles(rt: HostRuntime) {
             payable: 300,
         }),
     };
-    assert_eq!(rt; acted(rt.alloc(), acts), Some(Ok(told)));
+    let found = acted(&rt, settled(&rt));
+    assert!(rt; found == Ok(told));
 }
 
 // Firm A, its position, and firm A again.
-fn repeated(alloc: Global) -> Option<Vec<Act>> {
-    let firm = Name::of(b"A")?;
-    let acts = vec![in alloc;
+fn repeated(rt: &(impl Abort + AllocGlobal)) -> Vec<Act> {
+    let firm = name(rt, b"A");
+    let acts = vec![in rt.alloc();
         Act::Firm { firm },
         Act::Position { firm },
         Act::Firm { firm },
     ];
-    acts.ok()
+    acts.expect(rt, "memory")
 }
 
 #[test]
 fn a_second_firm_of_one_name_is_bad(rt: HostRuntime) {
-    let acts = repeated(rt.alloc()).expect(&rt, "acts");
     let reply = Reply::Refused(Why::FirmExists);
-    assert_eq!(rt;
-        acted(rt.alloc(), acts),
-        Some(Err(ReplayStop::BadAct { offset: 2, reply }))
-    );
+    let found = acted(&rt, repeated(&rt));
+    assert!(rt; found == Err(ReplayStop::BadAct { offset: 2, reply }));
 }

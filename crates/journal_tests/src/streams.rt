@@ -6,60 +6,72 @@ use bureau_edge::{
 };
 use fault_count::next_count;
 use std::io::{self, ErrorKind, Read, Write};
-use std::test::Fail;
+use std::process::Abort;
+
+// A source of the letters a to e, whose second call fails.
+fn failing_source(rt: &(impl Abort + AllocGlobal)) -> BytesSource {
+    let bytes = Vec::from_slice(rt.alloc(), b"abcde").expect(rt, "memory");
+    let fails = Vec::from_slice(rt.alloc(), &[2]).expect(rt, "memory");
+    BytesSource::new(bytes, fails)
+}
 
 #[test]
-fn a_source_is_read_in_pieces_and_fails_at_the_named_call(rt: HostRuntime) -> Result<(), Fail> {
-    let bytes = Vec::from_slice(rt.alloc(), b"abcde")?;
-    let fails = Vec::from_slice(rt.alloc(), &[2])?;
-    let mut source = BytesSource::new(bytes, fails);
+fn a_source_is_read_in_pieces_and_fails_at_the_named_call(rt: HostRuntime) {
+    let mut source = failing_source(&rt);
     let mut into = [0; 3];
-    assert_eq!(rt; source.read(&mut into), Ok(3));
-    assert_eq!(rt; into.as_slice(), b"abc".as_slice());
-    assert_eq!(rt; source.read(&mut into), Err(Failed));
-    assert_eq!(rt; source.read(&mut into), Ok(2));
-    assert_eq!(rt; into.as_slice(), b"dec".as_slice());
-    assert_eq!(rt; source.read(&mut into), Ok(0));
-    Ok(())
+    // What each read answers, and what is in the buffer behind it.
+    let reads: [(Result<usize, Failed>, &[u8]); 4] = [
+        (Ok(3), b"abc"),
+        (Err(Failed), b"abc"),
+        (Ok(2), b"dec"),
+        (Ok(0), b"dec"),
+    ];
+    for (due, held) in reads {
+        let read = source.read(&mut into);
+        assert!(rt; read == due);
+        assert!(rt; into.as_slice() == held);
+    }
 }
 
 #[test]
-fn a_sink_fails_at_the_named_call(rt: HostRuntime) -> Result<(), Fail> {
-    let fails = Vec::from_slice(rt.alloc(), &[2])?;
+fn a_sink_fails_at_the_named_call(rt: HostRuntime) {
+    let fails = Vec::from_slice(rt.alloc(), &[2]).expect(&rt, "memory");
     let mut sink = BytesSink::new(rt.alloc(), fails);
-    assert_eq!(rt; write_all(&mut sink, b"one "), Ok(()));
-    assert_eq!(rt; sink.write(b"two "), Err(Failed));
-    assert_eq!(rt; sink.write(b"three"), Ok(5));
-    assert_eq!(rt; sink.bytes(), b"one three".as_slice());
-    assert_eq!(rt; sink.refused(), 0);
-    Ok(())
+    let one = write_all(&mut sink, b"one ");
+    let two = sink.write(b"two ");
+    let three = sink.write(b"three");
+    assert!(rt; one == Ok(()));
+    assert!(rt; two == Err(Failed));
+    assert!(rt; three == Ok(5));
+    assert!(rt; sink.bytes() == b"one three".as_slice());
+    assert!(rt; sink.refused() == 0);
 }
 
-#[test]
-fn a_source_is_read_whole_up_to_the_limit(rt: HostRuntime) -> Result<(), Fail> {
-    for (limit, ends) in [(4, Some(ReadEnd::TooLong)), (5, None), (u64::MAX, None)] {
-        let mut source = SureSource::new(Vec::from_slice(rt.alloc(), b"abcde")?);
-        match read_whole(rt.alloc(), &mut source, limit) {
-            Ok(bytes) => {
-                assert_eq!(rt; ends, None, "at {limit}");
-                assert_eq!(rt; bytes.as_slice(), b"abcde".as_slice(), "at {limit}");
-            }
-            Err(end) => assert_eq!(rt; ends, Some(end), "at {limit}"),
+// Why the letters a to e are not read whole within a limit; None where they are.
+fn end_within(rt: &(impl Abort + AllocGlobal), limit: u64) -> Option<ReadEnd> {
+    let bytes = Vec::from_slice(rt.alloc(), b"abcde").expect(rt, "memory");
+    let mut source = SureSource::new(bytes);
+    match read_whole(rt.alloc(), &mut source, limit) {
+        Ok(bytes) => {
+            assert!(rt; bytes.as_slice() == b"abcde".as_slice(), "at {limit}");
+            None
         }
+        Err(end) => Some(end),
     }
-    Ok(())
 }
 
 #[test]
-fn a_failing_source_is_not_read_whole(rt: HostRuntime) -> Result<(), Fail> {
-    let bytes = Vec::from_slice(rt.alloc(), b"abcde")?;
-    let fails = Vec::from_slice(rt.alloc(), &[2])?;
-    let mut source = BytesSource::new(bytes, fails);
-    match read_whole(rt.alloc(), &mut source, 5) {
-        Ok(_) => assert!(rt; false, "the second read fails"),
-        Err(end) => assert_eq!(rt; end, ReadEnd::Failed),
+fn a_source_is_read_whole_up_to_the_limit(rt: HostRuntime) {
+    for (limit, end) in [(4, Some(ReadEnd::TooLong)), (5, None), (u64::MAX, None)] {
+        assert!(rt; end_within(&rt, limit) == end, "at {limit}");
     }
-    Ok(())
+}
+
+#[test]
+fn a_failing_source_is_not_read_whole(rt: HostRuntime) {
+    let mut source = failing_source(&rt);
+    let end = read_whole(rt.alloc(), &mut source, 5).err();
+    assert!(rt; end == Some(ReadEnd::Failed));
 }
 
 #[test]
@@ -69,13 +81,14 @@ fn the_standard_streams_answer(rt: HostRuntime) {
         Ok(count) => assert!(rt; count <= 8),
         Err(Failed) => {}
     }
-    assert_eq!(rt; write_all(&mut StandardOut::new(&rt), b"written\n"), Ok(()));
+    let written = write_all(&mut StandardOut::new(&rt), b"written\n");
+    assert!(rt; written == Ok(()));
 }
 
 #[test]
 fn a_count_goes_on_to_the_last_number(rt: HostRuntime) {
-    assert_eq!(rt; next_count(0), 1);
-    assert_eq!(rt; next_count(u64::MAX), u64::MAX);
+    assert!(rt; next_count(0) == 1);
+    assert!(rt; next_count(u64::MAX) == u64::MAX);
 }
 
 // A device, each of whose calls a signal interrupts so often before it gets through.
@@ -112,6 +125,18 @@ impl Write for Interrupted {
     }
 }
 
+// How a read from a device ends, each of whose calls is interrupted so often.
+fn read_through(calls: u32, flushes: u32) -> Result<usize, Failed> {
+    let mut source = StandardIn::over(Interrupted { calls, flushes });
+    source.read(&mut [0])
+}
+
+// How a piece is written to it.
+fn written_through(calls: u32, flushes: u32) -> Result<(), Failed> {
+    let mut sink = StandardOut::over(Interrupted { calls, flushes });
+    write_all(&mut sink, b"piece")
+}
+
 #[test]
 fn an_interrupted_call_is_made_again(rt: HostRuntime) {
     for (calls, flushes, read, written) in [
@@ -120,11 +145,9 @@ fn an_interrupted_call_is_made_again(rt: HostRuntime) {
         (64, 0, Err(Failed), Err(Failed)),
         (0, 64, Ok(0), Err(Failed)),
     ] {
-        let mut source = StandardIn::over(Interrupted { calls, flushes });
-        assert_eq!(rt; source.read(&mut [0]), read, "a read, at {calls}");
-        let mut sink = StandardOut::over(Interrupted { calls, flushes });
-        let end = write_all(&mut sink, b"piece");
-        assert_eq!(rt; end, written, "a write, at {calls} and {flushes}");
+        assert!(rt; read_through(calls, flushes) == read, "a read, at {calls}");
+        let end = written_through(calls, flushes);
+        assert!(rt; end == written, "a write, at {calls} and {flushes}");
     }
 }
 
@@ -156,8 +179,8 @@ fn the_standard_output_is_flushed_in_each_call(rt: HostRuntime) {
     };
     for calls in 1..4 {
         let written = write_all(&mut StandardOut::over(&mut device), b"line\n");
-        assert_eq!(rt; written, Ok(()));
-        assert_eq!(rt; device.unflushed, 0, "after {calls}");
-        assert_eq!(rt; device.flushes, calls);
+        assert!(rt; written == Ok(()));
+        assert!(rt; device.unflushed == 0, "after {calls}");
+        assert!(rt; device.flushes == calls);
     }
 }
