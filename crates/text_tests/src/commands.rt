@@ -2,17 +2,20 @@
 use claim_history::Day;
 use command_words::{Command, USAGE, WordsError, command_of};
 use std::alloc::Global;
+use std::process::Abort;
 
-// What is told of these words.
-fn told(alloc: Global, texts: &[&str]) -> Result<Command, WordsError> {
+fn words_of(rt: &impl Abort, alloc: Global, texts: &[&str]) -> Vec<String> {
     let mut words = Vec::new(alloc);
     for text in texts {
-        let word = String::from_str(alloc, text)?;
-        if words.push(word).is_err() {
-            return Err(WordsError::Memory);
-        }
+        let word = String::from_str(alloc, text).expect(rt, "memory");
+        words.push(word).expect(rt, "memory");
     }
-    command_of(alloc, words.as_slice())
+    words
+}
+
+// What is told of these words.
+fn told(rt: &impl Abort, alloc: Global, texts: &[&str]) -> Result<Command, WordsError> {
+    command_of(alloc, words_of(rt, alloc, texts).as_slice())
 }
 
 #[test]
@@ -68,59 +71,61 @@ fn each_list_of_words_is_its_command(rt: HostRuntime) {
         ),
     ];
     for (words, command) in lists {
-        assert_eq!(rt; told(rt.alloc(), words), Ok(command));
+        assert!(rt; told(&rt, rt.alloc(), words) == Ok(command));
     }
 }
 
+// Words that are no command.
+const NO_COMMANDS: &[&[&str]] = &[
+    &[],
+    &[""],
+    &["runs"],
+    &["ru"],
+    &["RUN"],
+    &["run "],
+    &["bureau", "run"],
+    &["run", "check"],
+    &["run", ""],
+    &["help"],
+    &["help", "run"],
+    &["-h"],
+    &["--help"],
+    &["run", "--help"],
+    &["-V"],
+    &["-"],
+    &["--"],
+    &["--", "run"],
+    &["run", "--"],
+    &["notices"],
+    &["notices", ""],
+    &["notices", "2025-02-29"],
+    &["notices", "2025-3-31"],
+    &["notices", "--", "2025-03-31"],
+    &["notices", "2025-03-31", "2025-03-31"],
+    &["import"],
+    &["import", "0"],
+    &["import", "17"],
+    &["import", "007"],
+    &["import", "+4"],
+    &["import", "-1"],
+    &["import", "4", "4"],
+    &["import", "LANE"],
+    &["trial"],
+    &["trial", "60", "400"],
+    &["trial", "60", "400", "7", "7"],
+    &["trial", "1", "400", "7"],
+    &["trial", "16385", "400", "7"],
+    &["trial", "60", "0", "7"],
+    &["trial", "60", "262145", "7"],
+    &["trial", "60", "400", "4294967296"],
+    &["trial", "60", "400", "07"],
+    &["trial", "60", "400", "18446744073709551623"],
+];
+
 #[test]
 fn other_words_are_refused(rt: HostRuntime) {
-    let lists: [&[&str]; 43] = [
-        &[],
-        &[""],
-        &["runs"],
-        &["ru"],
-        &["RUN"],
-        &["run "],
-        &["bureau", "run"],
-        &["run", "check"],
-        &["run", ""],
-        &["help"],
-        &["help", "run"],
-        &["-h"],
-        &["--help"],
-        &["run", "--help"],
-        &["-V"],
-        &["-"],
-        &["--"],
-        &["--", "run"],
-        &["run", "--"],
-        &["notices"],
-        &["notices", ""],
-        &["notices", "2025-02-29"],
-        &["notices", "2025-3-31"],
-        &["notices", "--", "2025-03-31"],
-        &["notices", "2025-03-31", "2025-03-31"],
-        &["import"],
-        &["import", "0"],
-        &["import", "17"],
-        &["import", "007"],
-        &["import", "+4"],
-        &["import", "-1"],
-        &["import", "4", "4"],
-        &["import", "LANE"],
-        &["trial"],
-        &["trial", "60", "400"],
-        &["trial", "60", "400", "7", "7"],
-        &["trial", "1", "400", "7"],
-        &["trial", "16385", "400", "7"],
-        &["trial", "60", "0", "7"],
-        &["trial", "60", "262145", "7"],
-        &["trial", "60", "400", "4294967296"],
-        &["trial", "60", "400", "07"],
-        &["trial", "60", "400", "18446744073709551623"],
-    ];
-    for words in lists {
-        assert_eq!(rt; told(rt.alloc(), words), Err(WordsError::Unknown));
+    for words in NO_COMMANDS {
+        assert!(rt; told(&rt, rt.alloc(), words) == Err(WordsError::Unknown));
     }
 }
 
@@ -135,8 +140,10 @@ fn each_command_is_told_on_a_line(rt: HostRuntime) {
         "import LANE ",
         "trial FIRMS CLAIMS SEED ",
     ];
-    assert_eq!(rt; USAGE.lines().count(), names.len());
-    for (line, name) in USAGE.lines().zip(names) {
+    let mut lines = USAGE.lines();
+    for name in names {
+        let line = lines.next().expect(&rt, "a line");
         assert!(rt; line.starts_with(name), "{name}");
     }
+    assert!(rt; lines.next().is_none());
 }

@@ -5,107 +5,97 @@ ghost use Rattle.claim_history.specs.Laws.{IsReplyInRange};
 use claim_history::{Act, Entry, Position, Reply, Why};
 use entry_text::write_entry;
 use setoff_model::Name;
-use std::alloc::{AllocError, Global};
+use std::alloc::Global;
+use std::process::Abort;
 
-#[test]
-fn an_entry_is_written(rt: HostRuntime) {
-    let firm = Name::of(b"A").expect(&rt, "a name");
-    let entry = Entry {
-        caller: 12,
-        act: Act::Firm { firm },
-        reply: Reply::Refused(Why::FirmExists),
-    };
-    let mut buffer = Vec::with_capacity(rt.alloc(), 200).expect(&rt, "memory");
-    if entry.act.valid() {
-        write_entry(&mut buffer, &entry);
-    }
-    assert!(rt; buffer.as_slice() == b"12 FIRM A = refused 1 firm-exists\n".as_slice());
-}
-
-// The line of a reply to an ABANDON by caller 0.
-fn reply_line(alloc: Global, reply: Reply) -> Result<Vec<u8>, AllocError> {
-    let entry = Entry {
-        caller: 0,
-        act: Act::Abandon,
-        reply,
-    };
-    let mut buffer = Vec::with_capacity(alloc, 200)?;
-    if entry.act.valid() && in_range(&entry.reply) {
-        write_entry(&mut buffer, &entry);
-    }
-    Ok(buffer)
-}
-
-// Whether the total of a publication is one that a line has room for; no position is.
+// Whether the sums of a reply are such that a line has room for them.
 fn in_range(reply: &Reply) -> bool
     ensures { IsTrue result → IsReplyInRange reply.now }
 {
+    let most = 1_000_000_000_000_000_000;
     match reply {
-        Reply::Position(_) => false,
-        Reply::Published { total } => *total < 1_000_000_000_000_000_000,
+        Reply::Position(position) => {
+            position.balance.unsigned_abs() < most
+                && position.receivable < most
+                && position.payable < most
+        }
+        Reply::Published { total } => *total < most,
         _ => true,
     }
+}
+
+// The line of an entry of this caller.
+fn line_of(rt: &impl Abort, alloc: Global, caller: u32, act: Act, reply: Reply) -> Vec<u8> {
+    let entry = Entry { caller, act, reply };
+    let mut buffer = Vec::with_capacity(alloc, 200).expect(rt, "memory");
+    assert!(rt; entry.act.valid());
+    assert!(rt; in_range(&entry.reply));
+    write_entry(&mut buffer, &entry);
+    buffer
+}
+
+#[test]
+fn entries_of_a_firm_are_written(rt: HostRuntime) {
+    let firm = Name::of(b"A").expect(&rt, "a name");
+    let refused = Reply::Refused(Why::FirmExists);
+    let line = line_of(&rt, rt.alloc(), 12, Act::Firm { firm }, refused);
+    assert!(rt; line.as_slice() == b"12 FIRM A = refused 1 firm-exists\n".as_slice());
+    let told = Reply::Position(Position {
+        balance: -5_001,
+        receivable: 262_144_000_000_000_000,
+        payable: 7,
+    });
+    let line = line_of(&rt, rt.alloc(), 1, Act::Position { firm }, told);
+    assert!(rt;
+        line.as_slice()
+            == b"1 POSITION A = balance -50.01 receivable 2621440000000000.00 payable 0.07\n".as_slice()
+    );
 }
 
 #[test]
 fn replies_of_rounds_are_written(rt: HostRuntime) {
     let round = 4_294_967_295;
     let most = 18_446_744_073_709_551_615;
-    let refused = |why| Reply::Refused(why);
     let cases: [(Reply, &[u8]); 10] = [
-        (Reply::Opened { round }, b"opened 4294967295"),
-        (Reply::Continued { round: 1 }, b"continued 1"),
+        (Reply::Opened { round }, b"0 ABANDON = opened 4294967295\n"),
+        (Reply::Continued { round: 1 }, b"0 ABANDON = continued 1\n"),
         (
             Reply::Published {
                 total: 999_999_999_999_999_999,
             },
-            b"published 9999999999999999.99",
+            b"0 ABANDON = published 9999999999999999.99\n",
         ),
-        (Reply::Abandoned { round: 7 }, b"abandoned 7"),
-        (refused(Why::Frozen { round: 1 }), b"refused 10 frozen 1"),
+        (Reply::Abandoned { round: 7 }, b"0 ABANDON = abandoned 7\n"),
         (
-            refused(Why::RoundOpen { round }),
-            b"refused 15 round-open 4294967295",
-        ),
-        (refused(Why::NoRound), b"refused 16 no-round"),
-        (
-            refused(Why::NotOwner { round: 2 }),
-            b"refused 17 not-owner 2",
+            Reply::Refused(Why::Frozen { round: 1 }),
+            b"0 ABANDON = refused 10 frozen 1\n",
         ),
         (
-            refused(Why::Device {
+            Reply::Refused(Why::RoundOpen { round }),
+            b"0 ABANDON = refused 15 round-open 4294967295\n",
+        ),
+        (
+            Reply::Refused(Why::NoRound),
+            b"0 ABANDON = refused 16 no-round\n",
+        ),
+        (
+            Reply::Refused(Why::NotOwner { round: 2 }),
+            b"0 ABANDON = refused 17 not-owner 2\n",
+        ),
+        (
+            Reply::Refused(Why::Device {
                 before: 0,
                 after: most,
             }),
-            b"refused 18 device 0 18446744073709551615",
+            b"0 ABANDON = refused 18 device 0 18446744073709551615\n",
         ),
-        (refused(Why::NotProved), b"refused 19 not-proved"),
+        (
+            Reply::Refused(Why::NotProved),
+            b"0 ABANDON = refused 19 not-proved\n",
+        ),
     ];
     for (reply, text) in cases {
-        let line = reply_line(rt.alloc(), reply).expect(&rt, "memory");
-        assert!(rt; line.starts_with(b"0 ABANDON = ") && line.ends_with(b"\n"));
-        assert!(rt; line.len() == text.len() + 13 && line.as_slice()[12..].starts_with(text));
+        let line = line_of(&rt, rt.alloc(), 0, Act::Abandon, reply);
+        assert!(rt; line.as_slice() == text);
     }
-}
-
-#[test]
-fn a_position_is_written(rt: HostRuntime) {
-    let firm = Name::of(b"A").expect(&rt, "a name");
-    let entry = Entry {
-        caller: 1,
-        act: Act::Position { firm },
-        reply: Reply::Position(Position {
-            balance: -5_001,
-            receivable: 262_144_000_000_000_000,
-            payable: 7,
-        }),
-    };
-    let mut buffer = Vec::with_capacity(rt.alloc(), 200).expect(&rt, "memory");
-    if entry.act.valid() {
-        write_entry(&mut buffer, &entry);
-    }
-    assert!(rt;
-        buffer.as_slice()
-            == b"1 POSITION A = balance -50.01 receivable 2621440000000000.00 payable 0.07\n".as_slice()
-    );
 }

@@ -6,7 +6,8 @@ use claim_history::{
     write_act,
 };
 use setoff_model::{Key, Kind, Name, Outcome};
-use std::alloc::{AllocError, Global};
+use std::alloc::Global;
+use std::process::Abort;
 
 // What the acts below are made of: B's claim I-1 against A, due on 31 January 2025.
 #[derive(Clone, Copy)]
@@ -17,20 +18,22 @@ struct Parts {
     due: Day,
 }
 
-fn make_parts() -> Option<Parts> {
-    let a = Name::of(b"A")?;
-    let b = Name::of(b"B")?;
-    let invoice = Name::of(b"I-1")?;
-    let due = Day::of_number(20_119)?;
-    Some(Parts {
-        a,
+fn name(rt: &impl Abort, text: &[u8]) -> Name {
+    Name::of(text).expect(rt, "a name")
+}
+
+fn make_parts(rt: &impl Abort) -> Parts {
+    let b = name(rt, b"B");
+    let invoice = name(rt, b"I-1");
+    Parts {
+        a: name(rt, b"A"),
         b,
         key: Key {
             creditor: b,
             invoice,
         },
-        due,
-    })
+        due: Day::of_number(20_119).expect(rt, "a day"),
+    }
 }
 
 fn file(parts: &Parts, amount: u64) -> Act {
@@ -83,85 +86,132 @@ fn close(kind: Kind, horizon: Day) -> Act {
     Act::Close { kind, horizon }
 }
 
-fn publication(alloc: Global, discharge: u64, price: i64) -> Result<Act, AllocError> {
-    let discharges = vec![in alloc; discharge]?;
-    let prices = vec![in alloc; price]?;
-    Ok(Act::Publish {
+fn publication(rt: &impl Abort, alloc: Global, discharge: u64, price: i64) -> Act {
+    let discharges = vec![in alloc; discharge].expect(rt, "memory");
+    let prices = vec![in alloc; price].expect(rt, "memory");
+    Act::Publish {
         round: 12,
         outcome: Outcome::new(discharges, prices),
-    })
+    }
 }
 
-fn text_of(alloc: Global, act: &Act) -> Result<Vec<u8>, AllocError> {
-    let mut buffer = Vec::with_capacity(alloc, 160)?;
-    if act.valid() {
-        write_act(&mut buffer, act);
-    }
-    Ok(buffer)
+// A valid act is written so.
+fn has_text(rt: &impl Abort, alloc: Global, act: &Act, text: &[u8]) {
+    let mut buffer = Vec::with_capacity(alloc, 160).expect(rt, "memory");
+    assert!(rt; act.valid());
+    write_act(&mut buffer, act);
+    assert!(rt; buffer.as_slice() == text);
 }
+
+// Acts of all kinds, in the order of the texts below.
+fn acts(rt: &impl Abort, alloc: Global, parts: &Parts) -> Vec<Act> {
+    let (key, firm) = (parts.key, parts.a);
+    let acts = vec![in alloc;
+        Act::Firm { firm },
+        file(parts, 1_000),
+        confirm(parts),
+        dispute(parts),
+        Act::Withdraw { key },
+        receive(parts, 400),
+        fund(firm, 15_001),
+        draw(firm, 1),
+        limit(firm, 0, 9_999),
+        Act::Offer { firm, amount: 50 },
+        Act::Position { firm },
+        close(Kind::Plain, parts.due),
+        close(Kind::Funded, parts.due),
+        Act::Abandon,
+        publication(rt, alloc, 700, 1),
+    ];
+    acts.expect(rt, "memory")
+}
+
+const TEXTS: [&[u8]; 15] = [
+    b"FIRM A",
+    b"FILE B I-1 A 10.00 2025-01-31",
+    b"CONFIRM B I-1 A",
+    b"DISPUTE B I-1 A",
+    b"WITHDRAW B I-1",
+    b"RECEIVE B I-1 4.00",
+    b"FUND A 150.01",
+    b"DRAW A 0.01",
+    b"LIMIT A 0.00 99.99",
+    b"OFFER A 0.50",
+    b"POSITION A",
+    b"CLOSE PLAIN 2025-01-31",
+    b"CLOSE FUNDED 2025-01-31",
+    b"ABANDON",
+    b"PUBLISH 12",
+];
 
 #[test]
 fn texts(rt: HostRuntime) {
-    let parts = make_parts().expect(&rt, "names and a day");
-    let key = parts.key;
-    let firm = parts.a;
-    let horizon = parts.due;
-    let publish = publication(rt.alloc(), 700, 1).expect(&rt, "memory");
-    let texts: [(Act, &[u8]); 15] = [
-        (Act::Firm { firm }, b"FIRM A"),
-        (file(&parts, 1_000), b"FILE B I-1 A 10.00 2025-01-31"),
-        (confirm(&parts), b"CONFIRM B I-1 A"),
-        (dispute(&parts), b"DISPUTE B I-1 A"),
-        (Act::Withdraw { key }, b"WITHDRAW B I-1"),
-        (receive(&parts, 400), b"RECEIVE B I-1 4.00"),
-        (fund(firm, 15_001), b"FUND A 150.01"),
-        (draw(firm, 1), b"DRAW A 0.01"),
-        (limit(firm, 0, 9_999), b"LIMIT A 0.00 99.99"),
-        (Act::Offer { firm, amount: 50 }, b"OFFER A 0.50"),
-        (Act::Position { firm }, b"POSITION A"),
-        (close(Kind::Plain, horizon), b"CLOSE PLAIN 2025-01-31"),
-        (close(Kind::Funded, horizon), b"CLOSE FUNDED 2025-01-31"),
-        (Act::Abandon, b"ABANDON"),
-        (publish, b"PUBLISH 12"),
-    ];
-    for (act, text) in texts.iter() {
-        let written = text_of(rt.alloc(), act).expect(&rt, "memory");
-        assert!(rt; written.as_slice() == *text);
+    let acts = acts(&rt, rt.alloc(), &make_parts(&rt));
+    assert!(rt; acts.len() == TEXTS.len());
+    for (place, text) in TEXTS.iter().enumerate() {
+        has_text(&rt, rt.alloc(), &acts[place], text);
     }
+}
+
+fn are_valid(rt: &impl Abort, acts: &[Act], valid: bool) {
+    for (place, act) in acts.iter().enumerate() {
+        assert!(rt; act.valid() == valid, "act {place}");
+    }
+}
+
+fn acts_in_range(rt: &impl Abort, alloc: Global, parts: &Parts) -> Vec<Act> {
+    let acts = vec![in alloc;
+        file(parts, 1),
+        file(parts, 999_999_999_999),
+        limit(parts.a, 0, 0),
+        limit(parts.a, 999_999_999_999, 0),
+        Act::Abandon,
+        publication(rt, alloc, 999_999_999_999, -1),
+    ];
+    acts.expect(rt, "memory")
+}
+
+fn acts_out_of_range(rt: &impl Abort, alloc: Global, parts: &Parts) -> Vec<Act> {
+    let acts = vec![in alloc;
+        file(parts, 0),
+        file(parts, 1_000_000_000_000),
+        fund(parts.a, 0),
+        limit(parts.a, 0, 1_000_000_000_000),
+        publication(rt, alloc, 1_000_000_000_000, 1),
+        publication(rt, alloc, 0, 2),
+    ];
+    acts.expect(rt, "memory")
 }
 
 #[test]
 fn ranges(rt: HostRuntime) {
-    let parts = make_parts().expect(&rt, "names and a day");
-    assert!(rt; !file(&parts, 0).valid() && file(&parts, 1).valid());
-    assert!(rt; file(&parts, 999_999_999_999).valid() && !file(&parts, 1_000_000_000_000).valid());
-    assert!(rt; !fund(parts.a, 0).valid() && limit(parts.a, 0, 0).valid());
-    assert!(rt;
-        !limit(parts.a, 0, 1_000_000_000_000).valid() && limit(parts.a, 999_999_999_999, 0).valid()
-    );
-    let least = publication(rt.alloc(), 999_999_999_999, -1).expect(&rt, "memory");
-    let too_much = publication(rt.alloc(), 1_000_000_000_000, 1).expect(&rt, "memory");
-    let too_dear = publication(rt.alloc(), 0, 2).expect(&rt, "memory");
-    assert!(rt; least.valid() && least.publishes() && !too_much.valid() && !too_dear.valid());
-    assert!(rt; Act::Abandon.valid() && !Act::Abandon.publishes());
+    let parts = make_parts(&rt);
+    are_valid(&rt, &acts_in_range(&rt, rt.alloc(), &parts), true);
+    are_valid(&rt, &acts_out_of_range(&rt, rt.alloc(), &parts), false);
+    assert!(rt; publication(&rt, rt.alloc(), 999_999_999_999, -1).publishes());
+    assert!(rt; !Act::Abandon.publishes());
 }
 
 #[test]
 fn acceptance(rt: HostRuntime) {
-    let entry = |reply| Entry {
-        caller: 1,
-        act: Act::Abandon,
-        reply,
+    let failed = Why::Device {
+        before: 0,
+        after: 1,
     };
-    assert!(rt; accepted(&entry(Reply::Abandoned { round: 1 })));
-    assert!(rt; accepted(&entry(Reply::Published { total: 0 })));
-    assert!(rt; !accepted(&entry(Reply::Refused(Why::NoRound))));
-    assert!(rt;
-        !accepted(&entry(Reply::Refused(Why::Device {
-            before: 0,
-            after: 1
-        })))
-    );
+    let cases = [
+        (Reply::Abandoned { round: 1 }, true),
+        (Reply::Published { total: 0 }, true),
+        (Reply::Refused(Why::NoRound), false),
+        (Reply::Refused(failed), false),
+    ];
+    for (reply, is_accepted) in cases {
+        let entry = Entry {
+            caller: 1,
+            act: Act::Abandon,
+            reply,
+        };
+        assert!(rt; accepted(&entry) == is_accepted);
+    }
 }
 
 #[test]

@@ -3,71 +3,67 @@ use claim_book::Book;
 use claim_history::{Act, Day, Entry, Reply};
 use firm_notices::{ImportError, RowCause, import, notices, positions};
 use request_text::read_requests;
-use std::alloc::{AllocError, Global};
+use std::alloc::Global;
+use std::process::Abort;
 
-// Asks the book for an act that opens no round, and puts its entry at the end. None where the memory is missing, or the act is none
-// that may be asked so.
+// Asks the book for an act that opens no round, and puts its entry at the end.
 #[tactic(auto, using(claim_history::proofs::Growth::due_follows))]
-fn ask(book: &mut Book, caller: u32, act: Act) -> Option<()> {
-    if !act.valid() || act.publishes() || book.history().len() >= 1_000_000 {
-        return None;
-    }
-    if book.reserve(&act).is_err() {
-        return None;
-    }
+fn ask(rt: &impl Abort, book: &mut Book, caller: u32, act: Act) {
+    assert!(rt; act.valid());
+    assert!(rt; !act.publishes());
+    assert!(rt; book.history().len() < 1_000_000);
+    book.reserve(&act).expect(rt, "memory");
     let reply = book.answer(caller, &act);
-    if matches!(reply, Reply::Opened { .. }) {
-        return None;
-    }
+    assert!(rt; !matches!(reply, Reply::Opened { .. }));
     book.apply(Entry { caller, act, reply });
-    Some(())
 }
 
-// Asks the book for these requests one after another. None where the memory is missing.
-fn ask_all(alloc: Global, book: &mut Book, requests: &[u8]) -> Option<()> {
-    let Ok(batches) = read_requests(alloc, requests) else {
-        return None;
-    };
+// Asks the book for these requests one after another.
+fn ask_all(rt: &impl Abort, alloc: Global, book: &mut Book, requests: &[u8]) {
+    let batches = read_requests(alloc, requests).expect(rt, "requests");
     for batch in &batches {
         for request in batch.requests() {
-            let Ok(act) = request.act.clone() else {
-                return None;
-            };
-            ask(book, request.lane, act)?;
+            let act = request.act.clone().expect(rt, "memory");
+            ask(rt, book, request.lane, act);
         }
     }
-    Some(())
 }
 
-fn is_text(text: Result<Vec<u8>, AllocError>, expected: &[u8]) -> bool {
-    match text {
-        Ok(text) => text.as_slice() == expected,
-        Err(_) => false,
-    }
+// A book has these notices on the day, and these positions.
+fn tells(
+    rt: &impl Abort,
+    alloc: Global,
+    book: &Book,
+    today: &[u8],
+    noticed: &[u8],
+    positioned: &[u8],
+) {
+    let today = Day::read(today).expect(rt, "a day");
+    let text = notices(alloc, book, today).expect(rt, "memory");
+    assert!(rt; text.as_slice() == noticed);
+    let text = positions(alloc, book).expect(rt, "memory");
+    assert!(rt; text.as_slice() == positioned);
 }
 
-// Whether a book in which this was asked has these notices on the day, and these positions.
+// A book in which this was asked has these notices on the day, and these positions.
 fn are_told(
+    rt: &impl Abort,
     alloc: Global,
     requests: &[u8],
     today: &[u8],
     noticed: &[u8],
     positioned: &[u8],
-) -> bool {
-    let Some(today) = Day::read(today) else {
-        return false;
-    };
+) {
     let mut book = Book::new(alloc);
-    ask_all(alloc, &mut book, requests).is_some()
-        && is_text(notices(alloc, &book, today), noticed)
-        && is_text(positions(alloc, &book), positioned)
+    ask_all(rt, alloc, &mut book, requests);
+    tells(rt, alloc, &book, today, noticed, positioned);
 }
 
 #[test]
 fn nothing_is_told_of_nobody(rt: HostRuntime) {
     let noticed = b"debtor,creditor,invoice,status,amount,open,due,overdue\n";
     let positioned = b"firm,balance,credit,ceiling,offer,receivable,payable\n";
-    assert!(rt; are_told(rt.alloc(), b"", b"2026-01-10", noticed, positioned));
+    are_told(&rt, rt.alloc(), b"", b"2026-01-10", noticed, positioned);
 }
 
 // Three firms, of which each owes the next, after 7.00 of each claim.
@@ -86,7 +82,14 @@ fn triangle_is_told(rt: HostRuntime) {
         A,0.00,0.00,10000000000000.00,0.00,5.00,3.00\n\
         B,0.00,0.00,10000000000000.00,0.00,3.00,0.00\n\
         C,0.00,0.00,10000000000000.00,0.00,0.00,5.00\n";
-    assert!(rt; are_told(rt.alloc(), requests, b"2026-01-10", noticed, positioned));
+    are_told(
+        &rt,
+        rt.alloc(),
+        requests,
+        b"2026-01-10",
+        noticed,
+        positioned,
+    );
 }
 
 // A claim of each status, of which one is due on the day and one after it, and an account below zero.
@@ -106,7 +109,14 @@ fn statuses_and_accounts_are_told(rt: HostRuntime) {
     let positioned = b"firm,balance,credit,ceiling,offer,receivable,payable\n\
         B,0.00,0.00,10000000000000.00,0.00,2.00,0.00\n\
         A-1,-49.99,50.00,100.00,0.07,0.00,2.00\n";
-    assert!(rt; are_told(rt.alloc(), requests, b"2025-12-31", noticed, positioned));
+    are_told(
+        &rt,
+        rt.alloc(),
+        requests,
+        b"2025-12-31",
+        noticed,
+        positioned,
+    );
 }
 
 #[test]
@@ -123,10 +133,16 @@ fn invoices_are_filed(rt: HostRuntime) {
         (b"creditor,invoice,debtor,amount,due", b""),
     ];
     for (input, lines) in cases {
-        match import(rt.alloc(), input, 2) {
-            Ok(text) => assert!(rt; text.as_slice() == lines),
-            Err(_) => assert!(rt; false),
-        }
+        let text = import(rt.alloc(), input, 2).expect(&rt, "invoices");
+        assert!(rt; text.as_slice() == lines);
+    }
+}
+
+// The first bad row of an input, and its cause.
+fn bad_row(alloc: Global, input: &[u8]) -> Option<(u64, RowCause)> {
+    match import(alloc, input, 1) {
+        Err(ImportError::BadRow { row, cause }) => Some((row, cause)),
+        _ => None,
     }
 }
 
@@ -184,9 +200,6 @@ fn bad_rows_have_causes(rt: HostRuntime) {
         ),
     ];
     for (input, row, cause) in cases {
-        match import(rt.alloc(), input, 1) {
-            Err(e) => assert!(rt; e == ImportError::BadRow { row, cause }),
-            Ok(_) => assert!(rt; false),
-        }
+        assert!(rt; bad_row(rt.alloc(), input) == Some((row, cause)));
     }
 }

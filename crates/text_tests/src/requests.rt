@@ -1,26 +1,37 @@
 //! Requests as text.
 use claim_history::Act;
-use request_text::{LineCause, RequestError, read_requests, write_request};
-use std::test::Fail;
+use request_text::{Batch, LineCause, Request, RequestError, read_requests, write_request};
+use std::alloc::Global;
+use std::process::Abort;
+
+fn read(rt: &impl Abort, alloc: Global, input: &[u8]) -> Vec<Batch> {
+    read_requests(alloc, input).expect(rt, "requests")
+}
+
+// The only request of a batch.
+fn only_one<'a>(rt: &impl Abort, batch: Option<&'a Batch>) -> &'a Request {
+    let requests = batch.expect(rt, "a batch").requests();
+    assert!(rt; requests.len() == 1);
+    &requests[0]
+}
 
 #[test]
-fn requests_are_read(rt: HostRuntime) -> Result<(), Fail> {
+fn requests_are_read(rt: HostRuntime) {
     let input = b"1 FIRM A\r\n16 FILE B I-1 A 10.00 2025-01-31\n10 CONFIRM B I-1 A";
-    let batches = read_requests(rt.alloc(), input)?;
-    assert_eq!(rt; batches.len(), 1);
+    let batches = read(&rt, rt.alloc(), input);
+    assert!(rt; batches.len() == 1);
     let requests = batches[0].requests();
-    assert_eq!(rt; requests.len(), 3);
+    assert!(rt; requests.len() == 3);
     let request = &requests[1];
     assert!(rt; request.line == 2 && request.lane == 16);
     match &request.act {
         Act::File { amount, due, .. } => assert!(rt; *amount == 1000 && due.number() == 20_119),
         _ => assert!(rt; false),
     }
-    Ok(())
 }
 
 #[test]
-fn fences_end_batches(rt: HostRuntime) -> Result<(), Fail> {
+fn fences_end_batches(rt: HostRuntime) {
     // an input, its batches, and the requests of the first and of the last
     let cases: [(&[u8], usize, usize, usize); 6] = [
         (b"", 1, 0, 0),
@@ -31,76 +42,118 @@ fn fences_end_batches(rt: HostRuntime) -> Result<(), Fail> {
         (b"FENCE\nFENCE\n1 FIRM A\nFENCE\n", 4, 0, 0),
     ];
     for (input, count, first, last) in cases {
-        let batches = read_requests(rt.alloc(), input)?;
-        assert_eq!(rt; batches.len(), count);
-        match batches.as_slice() {
-            [only] => assert_eq!(rt; only.requests().len(), first),
-            [begun, .., end] => {
-                assert!(rt; begun.requests().len() == first && end.requests().len() == last)
-            }
-            [] => assert!(rt; false),
-        }
+        let batches = read(&rt, rt.alloc(), input);
+        assert!(rt; batches.len() == count);
+        let begun = batches.first().expect(&rt, "a batch");
+        let end = batches.last().expect(&rt, "a batch");
+        assert!(rt; begun.requests().len() == first && end.requests().len() == last);
     }
-    let batches = read_requests(rt.alloc(), b"1 FIRM A\nFENCE\n2 FIRM A")?;
-    assert_eq!(rt; batches.len(), 2);
-    match batches[1].requests() {
-        [request] => assert!(rt; request.line == 3 && request.lane == 2),
-        _ => assert!(rt; false),
-    }
-    Ok(())
 }
 
 #[test]
-fn bad_lines_have_causes(rt: HostRuntime) -> Result<(), Fail> {
-    let cases: [(&[u8], u64, LineCause); 45] = [
-        (b"\n", 1, LineCause::Lane),
-        (b"\r", 1, LineCause::Lane),
-        (b"1 FIRM A\n\n1 FIRM B\n", 2, LineCause::Lane),
-        (b"0 FIRM A", 1, LineCause::Lane),
-        (b"17 FIRM A", 1, LineCause::Lane),
-        (b"01 FIRM A", 1, LineCause::Lane),
-        (b"18446744073709551617 FIRM A", 1, LineCause::Lane),
-        (b"FIRM A", 1, LineCause::Lane),
-        (b"fence", 1, LineCause::Lane),
-        (b"FENCE ", 1, LineCause::Lane),
-        (b"FENCE\r", 1, LineCause::Lane),
-        (b"1 FENCE", 1, LineCause::Verb),
-        (b"FENCE\nFENCE\n16 FIRM a\n", 3, LineCause::Field(1)),
-        (b" 1 FIRM A", 1, LineCause::Lane),
-        (b"1", 1, LineCause::Verb),
-        (b"1  FIRM A", 1, LineCause::Verb),
-        (b"1 firm A", 1, LineCause::Verb),
-        (b"1 PUBLISH 1", 1, LineCause::Verb),
-        (b"1 CLOSE PLAIN", 1, LineCause::Fields),
-        (b"1 CLOSE plain 2025-12-31", 1, LineCause::Field(1)),
-        (b"1 CLOSE FUNDED 2025-12-32", 1, LineCause::Field(2)),
-        (b"1 ABANDON 1", 1, LineCause::Fields),
-        (b"1 ABANDON ", 1, LineCause::Fields),
-        (b"1 DISPUTE B I-1", 1, LineCause::Fields),
-        (b"1 WITHDRAW B I-1 A", 1, LineCause::Fields),
-        (b"1 RECEIVE B I-1 0.00", 1, LineCause::Field(3)),
-        (b"1 FUND A 0.00", 1, LineCause::Field(2)),
-        (b"1 FUND a 0.00", 1, LineCause::Field(1)),
-        (b"1 DRAW A -1.00", 1, LineCause::Field(2)),
-        (b"1 LIMIT A 1.0 1.0", 1, LineCause::Field(2)),
-        (b"1 LIMIT A 0.00 10000000000.00", 1, LineCause::Field(3)),
-        (b"1 OFFER A", 1, LineCause::Fields),
-        (b"1 POSITION A_", 1, LineCause::Field(1)),
-        (b"1 FIRM", 1, LineCause::Fields),
-        (b"1 FIRM A ", 1, LineCause::Fields),
-        (b"1 CONFIRM B I-1", 1, LineCause::Fields),
-        (b"1 FIRM A\r", 1, LineCause::Field(1)),
-        (b"1 FIRM 1A", 1, LineCause::Field(1)),
-        (b"1 FIRM ABCDEFGHIJKLMNOPQ", 1, LineCause::Field(1)),
-        (b"1 CONFIRM B i-1 A", 1, LineCause::Field(2)),
-        (b"1 FILE B I-1 a 10.00 2025-01-31", 1, LineCause::Field(3)),
-        (b"1 FILE B I-1 A 0.00 2025-01-31", 1, LineCause::Field(4)),
-        (b"1 FILE B I-1 A 01.00 2025-01-31", 1, LineCause::Field(4)),
-        (
+fn lines_are_counted_over_fences(rt: HostRuntime) {
+    let batches = read(&rt, rt.alloc(), b"1 FIRM A\nFENCE\n2 FIRM A");
+    let request = only_one(&rt, batches.get(1));
+    assert!(rt; batches.len() == 2 && request.line == 3 && request.lane == 2);
+}
+
+// Lines that are faulty, by their causes.
+const BAD_LINES: &[(LineCause, &[&[u8]])] = &[
+    (
+        LineCause::Lane,
+        &[
+            b"\n",
+            b"\r",
+            b"0 FIRM A",
+            b"17 FIRM A",
+            b"01 FIRM A",
+            b"18446744073709551617 FIRM A",
+            b"FIRM A",
+            b"fence",
+            b"FENCE ",
+            b"FENCE\r",
+            b" 1 FIRM A",
+        ],
+    ),
+    (
+        LineCause::Verb,
+        &[b"1 FENCE", b"1", b"1  FIRM A", b"1 firm A", b"1 PUBLISH 1"],
+    ),
+    (
+        LineCause::Fields,
+        &[
+            b"1 CLOSE PLAIN",
+            b"1 ABANDON 1",
+            b"1 ABANDON ",
+            b"1 DISPUTE B I-1",
+            b"1 WITHDRAW B I-1 A",
+            b"1 OFFER A",
+            b"1 FIRM",
+            b"1 FIRM A ",
+            b"1 CONFIRM B I-1",
+        ],
+    ),
+    (
+        LineCause::Field(1),
+        &[
+            b"1 CLOSE plain 2025-12-31",
+            b"1 FUND a 0.00",
+            b"1 POSITION A_",
+            b"1 FIRM A\r",
+            b"1 FIRM 1A",
+            b"1 FIRM ABCDEFGHIJKLMNOPQ",
+        ],
+    ),
+    (
+        LineCause::Field(2),
+        &[
+            b"1 CLOSE FUNDED 2025-12-32",
+            b"1 FUND A 0.00",
+            b"1 DRAW A -1.00",
+            b"1 LIMIT A 1.0 1.0",
+            b"1 CONFIRM B i-1 A",
+        ],
+    ),
+    (
+        LineCause::Field(3),
+        &[
+            b"1 RECEIVE B I-1 0.00",
+            b"1 LIMIT A 0.00 10000000000.00",
+            b"1 FILE B I-1 a 10.00 2025-01-31",
+        ],
+    ),
+    (
+        LineCause::Field(4),
+        &[
+            b"1 FILE B I-1 A 0.00 2025-01-31",
+            b"1 FILE B I-1 A 01.00 2025-01-31",
             b"1 FILE B I-1 A 10000000000.00 2025-02-30",
-            1,
-            LineCause::Field(4),
-        ),
+        ],
+    ),
+];
+
+// The first bad line of an input, and its cause.
+fn bad_line(alloc: Global, input: &[u8]) -> Option<(u64, LineCause)> {
+    match read_requests(alloc, input) {
+        Err(RequestError::BadLine { line, cause }) => Some((line, cause)),
+        _ => None,
+    }
+}
+
+#[test]
+fn bad_lines_have_causes(rt: HostRuntime) {
+    for (cause, lines) in BAD_LINES {
+        for line in *lines {
+            assert!(rt; bad_line(rt.alloc(), line) == Some((1, *cause)));
+        }
+    }
+}
+
+#[test]
+fn the_first_bad_line_is_named(rt: HostRuntime) {
+    let cases: [(&[u8], u64, LineCause); 3] = [
+        (b"1 FIRM A\n\n1 FIRM B\n", 2, LineCause::Lane),
+        (b"FENCE\nFENCE\n16 FIRM a\n", 3, LineCause::Field(1)),
         (
             b"1 FIRM A\n1 FILE B I-1 A 10.00 2025-02-30\n0 FIRM A",
             2,
@@ -108,16 +161,21 @@ fn bad_lines_have_causes(rt: HostRuntime) -> Result<(), Fail> {
         ),
     ];
     for (input, line, cause) in cases {
-        match read_requests(rt.alloc(), input) {
-            Err(e) => assert!(rt; e == RequestError::BadLine { line, cause }),
-            Ok(_) => assert!(rt; false),
-        }
+        assert!(rt; bad_line(rt.alloc(), input) == Some((line, cause)));
     }
-    Ok(())
+}
+
+// A request is written as this line.
+fn is_written(rt: &impl Abort, alloc: Global, request: &Request, line: &[u8]) {
+    let mut written = Vec::with_capacity(alloc, 200).expect(rt, "memory");
+    assert!(rt; 1 <= request.lane && request.lane <= 16);
+    assert!(rt; request.act.valid() && !request.act.publishes());
+    write_request(&mut written, request.lane, &request.act);
+    assert!(rt; written.as_slice() == line);
 }
 
 #[test]
-fn requests_are_written_as_they_were_read(rt: HostRuntime) -> Result<(), Fail> {
+fn requests_are_written_as_they_were_read(rt: HostRuntime) {
     let lines: [&[u8]; 15] = [
         b"1 FIRM A\n",
         b"16 FILE B I-1 A 9999999999.99 9999-12-31\n",
@@ -136,19 +194,7 @@ fn requests_are_written_as_they_were_read(rt: HostRuntime) -> Result<(), Fail> {
         b"1 ABANDON\n",
     ];
     for line in lines {
-        let batches = read_requests(rt.alloc(), line)?;
-        let requests = batches[0].requests();
-        assert_eq!(rt; requests.len(), 1);
-        let request = &requests[0];
-        let mut written = Vec::with_capacity(rt.alloc(), 200)?;
-        if 1 <= request.lane
-            && request.lane <= 16
-            && request.act.valid()
-            && !request.act.publishes()
-        {
-            write_request(&mut written, request.lane, &request.act);
-        }
-        assert!(rt; written.as_slice() == line);
+        let batches = read(&rt, rt.alloc(), line);
+        is_written(&rt, rt.alloc(), only_one(&rt, batches.first()), line);
     }
-    Ok(())
 }

@@ -1,5 +1,6 @@
 //! Statements as text.
-use setoff_model::{Cut, Kind, Name, Party};
+use setoff_model::limits::LINE_BYTES;
+use setoff_model::{Cut, CutClaim, Kind, Name, Party};
 use statement_text::StatementCause::{
     After, Limit, NoEnd, NoParty, Repeat, Round, SameFirm, Shape, Window,
 };
@@ -7,7 +8,8 @@ use statement_text::{
     StatementCause, StatementError, each_statement_has_one_reading, read_statement, write_claim,
     write_end, write_head, write_party,
 };
-use std::alloc::{AllocError, Global};
+use std::alloc::Global;
+use std::process::Abort;
 
 const TRIANGLE: &[u8] = b"ROUND 1 PLAIN
 PARTY A 0.00 0.00 1
@@ -19,54 +21,71 @@ CLAIM A I-3 C 12.00 7.00
 END
 ";
 
+// The claims of the triangle: who owes, to whom, how much.
+fn are_of_the_triangle(rt: &impl Abort, claims: &[CutClaim]) {
+    assert!(rt; claims.len() == 3);
+    let places = [(0, 1, 1000), (1, 2, 700), (2, 0, 1200)];
+    for (claim, (debtor, creditor, amount)) in claims.iter().zip(places) {
+        assert!(rt; claim.debtor == debtor && claim.creditor == creditor && claim.amount == amount);
+    }
+    assert!(rt; claims[0].key.invoice.bytes() == b"I-1".as_slice());
+}
+
 #[test]
 fn triangle_is_read(rt: HostRuntime) {
     let (cut, outcome) = read_statement(rt.alloc(), TRIANGLE).expect(&rt, "a statement");
     assert!(rt; cut.round() == 1 && cut.kind() == Kind::Plain && cut.parties().len() == 3);
-    let places = [(0, 1, 1000), (1, 2, 700), (2, 0, 1200)];
-    let claims = cut.claims();
-    assert!(rt; claims.len() == 3);
-    assert!(rt;
-        claims.iter().zip(places.iter()).all(|(c, (debtor, creditor, amount))| {
-            c.debtor == *debtor && c.creditor == *creditor && c.amount == *amount
-        })
-    );
-    assert!(rt; claims[0].key.invoice.bytes() == b"I-1".as_slice());
+    are_of_the_triangle(&rt, cut.claims());
     assert!(rt; outcome.discharges() == [700, 700, 700].as_slice());
     assert!(rt; outcome.prices() == [1, 2, 0].as_slice());
 }
 
-fn written(alloc: Global, cut: &Cut, firms: [Name; 3]) -> Result<Vec<u8>, AllocError> {
-    let mut buffer = Vec::with_capacity(alloc, 2000)?;
-    if !cut.well_formed() || cut.claims().len() != 3 {
-        return Ok(buffer);
-    }
-    let [a, b, c] = firms;
-    let window = |firm| Party {
-        firm,
+fn put_head(rt: &impl Abort, text: &mut Vec<u8>) {
+    text.reserve(LINE_BYTES).expect(rt, "memory");
+    write_head(text, 1, Kind::Plain);
+}
+
+fn put_party(rt: &impl Abort, text: &mut Vec<u8>, firm: &[u8], price: u8) {
+    let party = Party {
+        firm: Name::of(firm).expect(rt, "a name"),
         spend: 0,
         room: 0,
     };
-    write_head(&mut buffer, 1, Kind::Plain);
-    write_party(&mut buffer, &window(a), 1);
-    write_party(&mut buffer, &window(b), 2);
-    write_party(&mut buffer, &window(c), 0);
-    write_claim(&mut buffer, cut, 0, 700);
-    write_claim(&mut buffer, cut, 1, 700);
-    write_claim(&mut buffer, cut, 2, 700);
-    write_end(&mut buffer);
-    Ok(buffer)
+    text.reserve(LINE_BYTES).expect(rt, "memory");
+    write_party(text, &party, i64::from(price));
+}
+
+fn put_claim(rt: &impl Abort, text: &mut Vec<u8>, cut: &Cut, place: u32) {
+    assert!(rt; cut.well_formed());
+    assert!(rt; (place as usize) < cut.claims().len());
+    text.reserve(LINE_BYTES).expect(rt, "memory");
+    write_claim(text, cut, place, 700);
+}
+
+fn put_end(rt: &impl Abort, text: &mut Vec<u8>) {
+    text.reserve(LINE_BYTES).expect(rt, "memory");
+    write_end(text);
+}
+
+// The text of the triangle's statement.
+fn written(rt: &impl Abort, alloc: Global, cut: &Cut) -> Vec<u8> {
+    let mut text = Vec::new(alloc);
+    put_head(rt, &mut text);
+    put_party(rt, &mut text, b"A", 1);
+    put_party(rt, &mut text, b"B", 2);
+    put_party(rt, &mut text, b"C", 0);
+    for place in 0..3 {
+        put_claim(rt, &mut text, cut, place);
+    }
+    put_end(rt, &mut text);
+    text
 }
 
 #[test]
 fn triangle_is_written(rt: HostRuntime) {
     each_statement_has_one_reading();
     let (cut, _) = read_statement(rt.alloc(), TRIANGLE).expect(&rt, "a statement");
-    let a = Name::of(b"A").expect(&rt, "a name");
-    let b = Name::of(b"B").expect(&rt, "a name");
-    let c = Name::of(b"C").expect(&rt, "a name");
-    let buffer = written(rt.alloc(), &cut, [a, b, c]).expect(&rt, "memory");
-    assert!(rt; buffer.as_slice() == TRIANGLE);
+    assert!(rt; written(&rt, rt.alloc(), &cut).as_slice() == TRIANGLE);
 }
 
 fn bad_line(alloc: Global, text: &[u8]) -> Option<(u64, StatementCause)> {
@@ -106,7 +125,7 @@ fn other_line_ends(rt: HostRuntime) {
         b"ROUND 1 FUNDED\nPARTY A 20000000000000.00 0.00 -999999999\nEND\n",
     ];
     for text in texts {
-        assert!(rt; read_statement(rt.alloc(), text).is_ok());
+        assert!(rt; is_read(rt.alloc(), text) == Some(true));
     }
 }
 
@@ -173,45 +192,41 @@ fn bad_lines(rt: HostRuntime) {
     }
 }
 
+fn put(rt: &impl Abort, text: &mut Vec<u8>, line: &[u8]) {
+    text.extend_from_slice(line).expect(rt, "memory");
+}
+
 // A statement of so many parties and claims, with one more line before its end.
-fn many_lines(
-    alloc: Global,
-    parties: u32,
-    claims: u32,
-    more: &[u8],
-) -> Result<Vec<u8>, AllocError> {
+fn many_lines(rt: &impl Abort, alloc: Global, parties: u32, claims: u32, more: &[u8]) -> Vec<u8> {
     let mut text = Vec::new(alloc);
-    text.extend_from_slice(b"ROUND 1 PLAIN\n")?;
+    put(rt, &mut text, b"ROUND 1 PLAIN\n");
     for k in 0..parties {
-        let line = format!(in alloc; "PARTY F-{k} 0.00 0.00 0\n")?;
-        text.extend_from_slice(line.as_bytes())?;
+        let line = format!(in alloc; "PARTY F-{k} 0.00 0.00 0\n").expect(rt, "memory");
+        put(rt, &mut text, line.as_bytes());
     }
     for k in 0..claims {
-        let line = format!(in alloc; "CLAIM F-1 I-{k} F-0 1.00 0.50\n")?;
-        text.extend_from_slice(line.as_bytes())?;
+        let line = format!(in alloc; "CLAIM F-1 I-{k} F-0 1.00 0.50\n").expect(rt, "memory");
+        put(rt, &mut text, line.as_bytes());
     }
-    text.extend_from_slice(more)?;
-    text.extend_from_slice(b"END\n")?;
-    Ok(text)
+    put(rt, &mut text, more);
+    put(rt, &mut text, b"END\n");
+    text
 }
 
 #[test]
 fn limits(rt: HostRuntime) {
-    let most = many_lines(rt.alloc(), 16_384, 262_144, b"").expect(&rt, "memory");
-    assert!(rt; read_statement(rt.alloc(), &most).is_ok());
+    let most = many_lines(&rt, rt.alloc(), 16_384, 262_144, b"");
+    assert!(rt; is_read(rt.alloc(), &most) == Some(true));
     // The limit comes before all that a line repeats or does not name.
-    let parties: [&[u8]; 2] = [b"PARTY G 0.00 0.00 0\n", b"PARTY F-0 0.00 0.01 0\n"];
-    for line in parties {
-        let text = many_lines(rt.alloc(), 16_384, 0, line).expect(&rt, "memory");
-        assert!(rt; bad_line(rt.alloc(), &text) == Some((16_386, Limit)));
-    }
-    let claims: [&[u8]; 3] = [
-        b"CLAIM F-1 J F-0 1.00 0.50\n",
-        b"CLAIM F-1 I-0 F-0 1.00 0.50\n",
-        b"CLAIM F-1 J G 1.00 0.50\n",
+    let cases: [(u32, u32, &[u8], u64); 5] = [
+        (16_384, 0, b"PARTY G 0.00 0.00 0\n", 16_386),
+        (16_384, 0, b"PARTY F-0 0.00 0.01 0\n", 16_386),
+        (2, 262_144, b"CLAIM F-1 J F-0 1.00 0.50\n", 262_148),
+        (2, 262_144, b"CLAIM F-1 I-0 F-0 1.00 0.50\n", 262_148),
+        (2, 262_144, b"CLAIM F-1 J G 1.00 0.50\n", 262_148),
     ];
-    for line in claims {
-        let text = many_lines(rt.alloc(), 2, 262_144, line).expect(&rt, "memory");
-        assert!(rt; bad_line(rt.alloc(), &text) == Some((262_148, Limit)));
+    for (parties, claims, more, line) in cases {
+        let text = many_lines(&rt, rt.alloc(), parties, claims, more);
+        assert!(rt; bad_line(rt.alloc(), &text) == Some((line, Limit)));
     }
 }
