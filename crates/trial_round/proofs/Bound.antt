@@ -4,15 +4,17 @@ use Rattle.std.proofs.Common.{◌≡◌, ◌∙◌, ℕ, zero, suc, ◌+◌, ◌
 use Rattle.std.proofs.lemmas.List.{append-nil, length-map}
 use Rattle.std.proofs.lemmas.List.Elements.{All-nil, All-cons, All-head, All-tail}
 use Rattle.std.proofs.lemmas.List.Sums.{count_by-le-length}
+use Rattle.setoff_model.specs.Limits.{most_claims, most_firms, most_journal_bytes}
 use Rattle.claim_history.specs.declared.act.Act.{Act}
 use Rattle.claim_history.specs.declared.act.Act.TheVariants as act
 use Rattle.claim_history.specs.declared.entry.Entry.{Entry}
 use Rattle.claim_history.specs.Acts.{is_close, is_filing, is_registration, is_request}
 use Rattle.claim_history.specs.History.{AreValid, IsLegal}
+use Rattle.claim_history.specs.Needs.{used_bytes_of}
 use Rattle.request_text.specs.declared.request.Request.{Request}
 use Rattle.request_text.specs.Grammar.{Asked, numbered}
 use Rattle.served_lines.specs.declared.answer.Answer.{Answer}
-use Rattle.served_lines.specs.Bound.{AreRequests, BoundLaw, IsWithinBound, claims_with, closes, firms_with}
+use Rattle.served_lines.specs.Bound.{AreRequests, BoundLaw, IsWithinBound, claims_with, closes, endings_with, firms_with, most_request_bytes}
 use Rattle.served_lines.specs.Ends.{has_line_end, is_full_end}
 use Rattle.served_lines.specs.Served.{IsServed}
 use Rattle.trial_round.specs.Input.{acts_before_close, by_lane_one, claim_acts, close_act, filed_and_confirmed, firm_acts, firm_name, trial_acts}
@@ -61,18 +63,25 @@ count_closes firms claims seed = closes_of 1 (acts_before_close firms claims see
 
 -- ---- each can be asked for
 
-requests_of : (number : ℕ) (acts : List Act) → All IsAskable acts → AreRequests (numbered number (map by_lane_one acts))
-requests_of number [] asked = All-nil (λ (r : Request). is_request r.act ≡ true)
-requests_of number (a ∷ acts) asked =
+acts_are_requests : (number : ℕ) (acts : List Act) → All IsAskable acts → AreRequests (numbered number (map by_lane_one acts))
+acts_are_requests number [] asked = All-nil (λ (r : Request). is_request r.act ≡ true)
+acts_are_requests number (a ∷ acts) asked =
     All-cons (λ (r : Request). is_request r.act ≡ true) (record { line = number; lane = 1; act = a }) (numbered (number + 1) (map by_lane_one acts)) (All-head IsAskable a acts asked)
-    (requests_of (number + 1) acts (All-tail IsAskable a acts asked))
+    (acts_are_requests (number + 1) acts (All-tail IsAskable a acts asked))
 
 are_requests : (firms claims seed : ℕ) → IsTrialSize firms claims → AreRequests (trial_batch firms claims seed)
 unfolding trial_batch
-are_requests firms claims seed size = requests_of 1 (trial_acts firms claims seed) (acts_asked firms claims seed size)
+are_requests firms claims seed size = acts_are_requests 1 (trial_acts firms claims seed) (acts_asked firms claims seed size)
 
-few_bytes : (lines filings registrations one : ℕ) → lines ≤ 540673 → filings ≤ lines → registrations ≤ lines → one ≡ 1 → 9 + 73 * lines + (32 + (8 * filings + 4 * registrations)) * (one + 1) ≤ 1073741824
-few_bytes lines filings registrations one few p q is = subst (λ (n : ℕ). 9 + 73 * lines + (32 + (8 * filings + 4 * registrations)) * (n + 1) ≤ 1073741824) (sym is) (omega (arith, few, p, q))
+-- the most lines of a trial: one for each firm, two for each claim, and the Close
+abbrev most_trial_lines : ℕ
+most_trial_lines = most_firms + 2 * most_claims + 1
+
+few_bytes : (lines filings registrations one : ℕ) → lines ≤ most_trial_lines → filings ≤ lines → registrations ≤ lines → one ≡ 1
+    → used_bytes_of [] + most_request_bytes * lines + endings_with filings registrations * (one + 1) ≤ most_journal_bytes
+few_bytes lines filings registrations one few p q is =
+    subst (λ (n : ℕ). used_bytes_of [] + most_request_bytes * lines + endings_with filings registrations * (n + 1) ≤ most_journal_bytes) (sym is)
+    (omega (arith, few, p, q))
 
 within : (batch : List Request) (firms claims : ℕ) → IsTrialSize firms claims → length batch ≡ firms + 2 * claims + 1 → closes batch ≡ 1 → IsWithinBound [] batch
 within batch firms claims size lines one =

@@ -29,7 +29,7 @@ use Rattle.trial_round.specs.Trial.{trial_batch, trial_cut}
 use Rattle.trial_round.specs.Round.{HasRound}
 use Rattle.trial_round.proofs.Acts.{acts_close_none, acts_of_none, entries_of_none}
 use Rattle.trial_round.proofs.Lines.{AreParts, trial_parts}
-use Rattle.trial_round.proofs.Replayed.{history_is_replay, none_in_first, none_in_parts, tells_of_device}
+use Rattle.trial_round.proofs.Replayed.{has_device_reply, history_is_replay, none_in_first, none_in_parts}
 use Rattle.trial_round.proofs.Rounded.{cut_after, legal_before, one_cut, opens_first, proved}
 
 ended : (r : Reply) → IsEnding r → is_of_device r ≡ false → (total : ℕ) × (r ≡ reply.Published total)
@@ -51,11 +51,11 @@ module _ (firms claims seed : ℕ) (before : List Entry) (calls : map call_of be
   of = entries_of_none before (acts_before_close firms claims seed) calls (acts_of_none firms claims seed)
 
   -- the Close was accepted
-  not_refused : (close : Entry) (later : List Entry) → close.act ≡ close_act → IsLegal (before ++ close ∷ later) → list_any tells_of_device (before ++ close ∷ later) ≡ false → is_accepted close ≡ false → ⊥
+  not_refused : (close : Entry) (later : List Entry) → close.act ≡ close_act → IsLegal (before ++ close ∷ later) → list_any has_device_reply (before ++ close ∷ later) ≡ false → is_accepted close ≡ false → ⊥
   not_refused close later asks legal none refused = true≢false (sym (ap is_no_refusal (opens_first before later close asks legal none of)) ∙ refused)
 
   module _ (close publication : Entry) (asks : close.act ≡ close_act) (legal : IsLegal (before ++ close ∷ publication ∷ [])) (valid : AreValid before)
-      (none : list_any tells_of_device (before ++ close ∷ publication ∷ []) ≡ false) where
+      (none : list_any has_device_reply (before ++ close ∷ publication ∷ []) ≡ false) where
     is_cut : cut_after before ≡ trial_cut firms claims seed
     is_cut =
         let first = legal_before before close publication asks legal none of in
@@ -72,16 +72,16 @@ module _ (firms claims seed : ℕ) (before : List Entry) (calls : map call_of be
     }
 
   -- what came of the Close
-  of_last : (whole last : List Entry) (request : Request) → request.act ≡ close_act → (IsOne request last ⊎ IsRound whole request last) → IsLegal (before ++ last) → AreValid before → list_any tells_of_device (before ++ last) ≡ false
+  of_last : (whole last : List Entry) (request : Request) → request.act ≡ close_act → (IsOne request last ⊎ IsRound whole request last) → IsLegal (before ++ last) → AreValid before → list_any has_device_reply (before ++ last) ≡ false
       → HasRound (trial_cut firms claims seed) (before ++ last) (cuts_after 0 (before ++ last))
   of_last whole last request closes (inl one) legal valid none =
       let asks : one.call.act ≡ close_act = one.asks.asks ∙ closes in
       let refused : is_accepted one.call ≡ false = subst (λ (a : Act). EndsAtOnce a one.call) closes one.ends in
-      absurd (not_refused one.call [] asks (subst (λ (l : List Entry). IsLegal (before ++ l)) one.is legal) (subst (λ (l : List Entry). list_any tells_of_device (before ++ l) ≡ false) one.is none) refused)
+      absurd (not_refused one.call [] asks (subst (λ (l : List Entry). IsLegal (before ++ l)) one.is legal) (subst (λ (l : List Entry). list_any has_device_reply (before ++ l) ≡ false) one.is none) refused)
   of_last whole last request closes (inr round) legal valid none =
       let asks : round.close.act ≡ close_act = round.closes.call.asks ∙ closes in
       let legal_round = subst (λ (l : List Entry). IsLegal (before ++ l)) round.is legal in
-      let none_round = subst (λ (l : List Entry). list_any tells_of_device (before ++ l) ≡ false) round.is none in
+      let none_round = subst (λ (l : List Entry). list_any has_device_reply (before ++ l) ≡ false) round.is none in
       let none_last = none_in_first round.publication [] (none_in_first round.close (round.publication ∷ []) (none_in_parts before (round.close ∷ round.publication ∷ []) none_round).1).1 in
       let told = ended round.publication.reply round.publishes.ends none_last.0 in
       subst (λ (l : List Entry). HasRound (trial_cut firms claims seed) (before ++ l) (cuts_after 0 (before ++ l))) (sym round.is)
@@ -89,10 +89,10 @@ module _ (firms claims seed : ℕ) (before : List Entry) (calls : map call_of be
 
 -- a trial whose lines were all replied to, without a fault of a device, has its round
 pub has_round : (firms claims seed : ℕ) (answers : List Answer) (added : List Entry) → IsServed (trial_batch firms claims seed) answers [] added → has_line_end is_memory_end answers ≡ false → has_line_end is_full_end answers ≡ false
-    → IsLegal added → AreValid added → list_any tells_of_device added ≡ false → GreatestLaw → FormedLaw → HasRound (trial_cut firms claims seed) added (cuts_after 0 added)
+    → IsLegal added → AreValid added → list_any has_device_reply added ≡ false → GreatestLaw → FormedLaw → HasRound (trial_cut firms claims seed) added (cuts_after 0 added)
 has_round firms claims seed answers added served memory full legal valid none greatest formed =
     let acts = acts_before_close firms claims seed in
     let p : AreParts added acts added = trial_parts acts answers added (acts_close_none firms claims seed) (subst (λ (batch : List Request). IsServed batch answers [] added) (batch_is firms claims seed) served) memory full in
     let round = of_last firms claims seed p.before p.calls greatest formed added p.last p.request p.closes p.ends (subst IsLegal p.parts legal)
-    (All-first (λ (e : Entry). is_valid e.act ≡ true) p.before p.last (subst AreValid p.parts valid)) (subst (λ (l : List Entry). list_any tells_of_device l ≡ false) p.parts none) in
+    (All-first (λ (e : Entry). is_valid e.act ≡ true) p.before p.last (subst AreValid p.parts valid)) (subst (λ (l : List Entry). list_any has_device_reply l ≡ false) p.parts none) in
     subst (λ (l : List Entry). HasRound (trial_cut firms claims seed) l (cuts_after 0 l)) (sym p.parts) round

@@ -13,24 +13,24 @@ use Rattle.claim_history.specs.States.{state}
 use Rattle.claim_history.proofs.Pasts.{entry_of}
 use Rattle.claim_history.proofs.Rows.{or_false}
 
--- some entry tells of a device
-abbrev pub tells_of_device : Entry → Bool
-tells_of_device e = is_of_device e.reply
+-- the reply of an entry tells of the device
+abbrev pub has_device_reply : Entry → Bool
+has_device_reply e = is_of_device e.reply
 
 -- ---- no device
 
-pub none_in_parts : (a b : List Entry) → list_any tells_of_device (a ++ b) ≡ false → (list_any tells_of_device a ≡ false) × (list_any tells_of_device b ≡ false)
-none_in_parts a b none = or_false (list_any tells_of_device a) (list_any tells_of_device b) (sym (list_any-append tells_of_device a b) ∙ none)
+pub none_in_parts : (a b : List Entry) → list_any has_device_reply (a ++ b) ≡ false → (list_any has_device_reply a ≡ false) × (list_any has_device_reply b ≡ false)
+none_in_parts a b none = or_false (list_any has_device_reply a) (list_any has_device_reply b) (sym (list_any-append has_device_reply a b) ∙ none)
 
-pub none_in_first : (e : Entry) (entries : List Entry) → list_any tells_of_device (e ∷ entries) ≡ false → (is_of_device e.reply ≡ false) × (list_any tells_of_device entries ≡ false)
-none_in_first e entries none = or_false (is_of_device e.reply) (list_any tells_of_device entries) none
+pub none_in_first : (e : Entry) (entries : List Entry) → list_any has_device_reply (e ∷ entries) ≡ false → (is_of_device e.reply ≡ false) × (list_any has_device_reply entries ≡ false)
+none_in_first e entries none = or_false (is_of_device e.reply) (list_any has_device_reply entries) none
 
-none_reversed : (entries : List Entry) → list_any tells_of_device entries ≡ false → list_any tells_of_device (reverse entries) ≡ false
+none_reversed : (entries : List Entry) → list_any has_device_reply entries ≡ false → list_any has_device_reply (reverse entries) ≡ false
 none_reversed [] none = refl
 none_reversed (e ∷ entries) none =
     let p = none_in_first e entries none in
-    ap (list_any tells_of_device) (reverse-append (e ∷ []) entries)
-    ∙ list_any-append tells_of_device (reverse entries) (e ∷ [])
+    ap (list_any has_device_reply) (reverse-append (e ∷ []) entries)
+    ∙ list_any-append has_device_reply (reverse entries) (e ∷ [])
     ∙ ap₂ (λ (a b : Bool). a || (b || false)) (none_reversed entries p.1) p.0
 
 -- a legal reply that tells of no device is the one that is due
@@ -44,7 +44,7 @@ abbrev asked_past : List Call → List Entry
 asked_past [] = []
 asked_past (call ∷ calls) = ask (asked_past calls) call
 
-past_is_asked : (past : List Entry) → IsLegalPast past → list_any tells_of_device past ≡ false → past ≡ asked_past (map call_of past)
+past_is_asked : (past : List Entry) → IsLegalPast past → list_any has_device_reply past ≡ false → past ≡ asked_past (map call_of past)
 past_is_asked [] legal none = refl
 past_is_asked (e ∷ past) legal none =
     let p = none_in_first e past none in
@@ -65,7 +65,7 @@ calls_reversed (e ∷ entries) =
     ∙ ap (λ (l : List Call). l ++ call_of e ∷ []) (calls_reversed entries)
     ∙ sym (reverse-append (call_of e ∷ []) (map call_of entries))
 
-pub history_is_replay : (history : List Entry) → IsLegal history → list_any tells_of_device history ≡ false → history ≡ replay_of (map call_of history)
+pub history_is_replay : (history : List Entry) → IsLegal history → list_any has_device_reply history ≡ false → history ≡ replay_of (map call_of history)
 history_is_replay history legal none =
     sym (reverse-reverse history)
     ∙ ap reverse

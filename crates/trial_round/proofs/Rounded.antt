@@ -25,7 +25,7 @@ use Rattle.claim_history.proofs.Pasts.{all_reverse, legal_first}
 use Rattle.claim_history.proofs.Published.{cuts_more}
 use Rattle.claim_history.proofs.Rounds.{same_open}
 use Rattle.trial_round.specs.Input.{close_act, horizon_day}
-use Rattle.trial_round.proofs.Replayed.{none_in_first, none_in_parts, reply_due, tells_of_device}
+use Rattle.trial_round.proofs.Replayed.{has_device_reply, none_in_first, none_in_parts, reply_due}
 
 -- ---- before the round
 
@@ -57,7 +57,7 @@ fresh_opens : (s : State) (caller : ℕ) → IsFresh s → (after caller close_a
 fresh_opens s caller fresh = ap (λ (n : ℕ). Some (record { owner = caller; horizon = horizon_day; cut = cut_of (n + 1) s.ledger Plain horizon_day })) fresh.openings
 
 -- a Close after acts that are not of rounds opens the first round
-pub opens_first : (before later : List Entry) (close : Entry) → close.act ≡ close_act → IsLegal (before ++ close ∷ later) → list_any tells_of_device (before ++ close ∷ later) ≡ false → All (λ e. is_of_rounds e.act ≡ false) before
+pub opens_first : (before later : List Entry) (close : Entry) → close.act ≡ close_act → IsLegal (before ++ close ∷ later) → list_any has_device_reply (before ++ close ∷ later) ≡ false → All (λ e. is_of_rounds e.act ≡ false) before
     → close.reply ≡ reply.Opened 1
 opens_first before later close asks legal none of =
     let first = legal_first before later close legal in
@@ -71,7 +71,7 @@ cut_after before = cut_of 1 (state_of before).ledger Plain horizon_day
 
 -- the entries before a round, its opening and its publication
 module _ (before : List Entry) (close publication : Entry) (asks : close.act ≡ close_act)
-    (legal : IsLegal (before ++ close ∷ publication ∷ [])) (none : list_any tells_of_device (before ++ close ∷ publication ∷ []) ≡ false) (of : All (λ e. is_of_rounds e.act ≡ false) before) where
+    (legal : IsLegal (before ++ close ∷ publication ∷ [])) (none : list_any has_device_reply (before ++ close ∷ publication ∷ []) ≡ false) (of : All (λ e. is_of_rounds e.act ≡ false) before) where
   pub legal_before : IsLegal before
   legal_before = (legal_first before (publication ∷ []) close legal).1
 

@@ -5,7 +5,7 @@ ghost use Rattle.setoff_model.specs.Names.{is_letter, is_name};
 ghost use Rattle.claim_history.specs.Acts.{is_claim_amount, is_key, is_request};
 ghost use Rattle.claim_history.specs.declared.act.Act.TheVariants as acts;
 ghost use Rattle.request_text.specs.Grammar.{request_line};
-ghost use Rattle.trial_round.specs.Input.{claim_acts, claim_cents, claim_key, close_act, creditor_place, debtor_place, due_day, filed_and_confirmed, firm_acts, firm_name, other_than, text_of_acts, trial_input};
+ghost use Rattle.trial_round.specs.Input.{claim_acts, claim_cents, claim_key, close_act, debtor_place, due_day, filed_and_confirmed, firm_acts, firm_name, other_than, text_of_acts, trial_input};
 ghost use Rattle.trial_round.specs.Trial.{IsTrialSize, trial_batch};
 
 use crate::draws::Draws;
