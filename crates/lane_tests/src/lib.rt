@@ -6,10 +6,14 @@
 #[cfg(test)]
 mod acts;
 #[cfg(test)]
+mod lanes;
+#[cfg(test)]
 mod many;
 #[cfg(test)]
 mod rounds;
 #[cfg(test)]
 mod steps;
+#[cfg(test)]
+mod thousand;
 #[cfg(test)]
 mod turns;

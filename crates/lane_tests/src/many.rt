@@ -167,7 +167,9 @@ fn are_same(ones: &[Entry], others: &[Entry]) -> bool {
 // Whether the journal of these bytes replays to these entries.
 fn replays_to(rt: &impl Abort, alloc: Global, bytes: &[u8], kept: &[Entry]) -> bool {
     let desk = desk_on(rt, alloc, bytes);
-    are_same(desk.book().history(), kept)
+    let same = are_same(desk.book().history(), kept);
+    drop(desk);
+    same
 }
 
 #[test]

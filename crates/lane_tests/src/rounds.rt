@@ -217,8 +217,26 @@ fn first_round<R: Wait + Abort>(
     (seat, total)
 }
 
-// The second seat finds the round of the first frozen and not its own, and files more claims. Once that round is published, it
-// closes and publishes one of its own.
+// The second seat asks once the cut of the first round is made. It finds the round frozen and not its own, and files more claims.
+fn answered<R: Wait + Abort>(
+    rt: &R,
+    alloc: Global,
+    shared: &Shared<MemoryDisk>,
+    seat: Seat<MemoryDesk>,
+    steps: &Steps,
+) -> Seat<MemoryDesk>
+    requires { IsReady shared.now.turn seat }
+    ensures { IsReady shared.now.turn result }
+{
+    let mut seat = seat;
+    steps.wait_for(rt, 1);
+    ask_all(rt, shared, &mut seat, other_acts(rt, alloc));
+    finds_open(rt, shared, &mut seat, Kind::Plain);
+    steps.step(rt);
+    seat
+}
+
+// The second seat is answered while the first round is open. Once that round is published, it closes and publishes one of its own.
 fn second_round<R: Wait + Abort>(
     rt: &R,
     alloc: Global,
@@ -229,11 +247,7 @@ fn second_round<R: Wait + Abort>(
     requires { IsReady shared.now.turn seat }
     ensures { IsReady shared.now.turn result.0 }
 {
-    let mut seat = seat;
-    steps.wait_for(rt, 1);
-    ask_all(rt, shared, &mut seat, other_acts(rt, alloc));
-    finds_open(rt, shared, &mut seat, Kind::Plain);
-    steps.step(rt);
+    let mut seat = answered(rt, alloc, shared, seat, steps);
     steps.wait_for(rt, 3);
     let cut = frozen(rt, shared, &mut seat, &[300, 500, 200]);
     assert!(rt; cut.round() == 2 && has_three_parties(&cut));
@@ -287,6 +301,7 @@ fn a_round_stays_its_owners(rt: HostRuntime) {
     let seats = vec![in alloc; first, second].ok().expect(&rt, "memory");
     let desk = shared.finish(registrar, seats);
     assert!(rt; desk.rounds().len() == 2);
+    drop(desk);
 }
 
 // ---- the turn while a round is solved
@@ -312,24 +327,6 @@ fn closed<R: Wait + Abort>(
     }
 }
 
-// The second seat asks once the cut of the round is made.
-fn answered<R: Wait + Abort>(
-    rt: &R,
-    alloc: Global,
-    shared: &Shared<MemoryDisk>,
-    seat: Seat<MemoryDesk>,
-    steps: &Steps,
-) -> Seat<MemoryDesk>
-    requires { IsReady shared.now.turn seat }
-    ensures { IsReady shared.now.turn result }
-{
-    let mut seat = seat;
-    steps.wait_for(rt, 1);
-    ask_all(rt, shared, &mut seat, other_acts(rt, alloc));
-    steps.step(rt);
-    seat
-}
-
 #[test]
 fn others_are_answered_while_a_round_is_solved(rt: HostRuntime) {
     let alloc = rt.alloc();
@@ -345,7 +342,8 @@ fn others_are_answered_while_a_round_is_solved(rt: HostRuntime) {
     let seats = vec![in alloc; first, second].ok().expect(&rt, "memory");
     let desk = shared.finish(registrar, seats);
     let history = desk.book().history();
-    assert!(rt; history.len() == 19);
+    assert!(rt; history.len() == 20);
     assert!(rt; history[9].reply == Reply::Opened { round: 1 });
-    assert!(rt; history[18].reply == Reply::Published { total });
+    assert!(rt; history[19].reply == Reply::Published { total });
+    drop(desk);
 }

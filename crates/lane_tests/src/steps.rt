@@ -1,4 +1,5 @@
-//! What two threads wait for.
+//! What threads wait for.
+use lane_runner::Gate;
 use shared_bureau::Pause;
 use std::sync::{Mutex, Wait};
 use std::thread;
@@ -51,4 +52,20 @@ impl Pause for UntilAnswered<'_> {
         self.0.step(rt);
         self.0.wait_for(rt, 2);
     }
+}
+
+/// A gate at which each line waits until so many have come to it.
+#[derive(Drop)]
+pub struct UntilAllCome<'a> {
+    pub lines: u32,
+    pub steps: &'a Steps,
+}
+
+impl Gate for UntilAllCome<'_> {
+    fn before<R: Wait>(&self, rt: &R, _line: u64) {
+        self.steps.step(rt);
+        self.steps.wait_for(rt, self.lines);
+    }
+
+    fn after<R: Wait>(&self, _rt: &R, _line: u64) {}
 }

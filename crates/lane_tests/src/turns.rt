@@ -4,7 +4,6 @@ ghost use Rattle.turn_lock.specs.Seats.{lock, lock_of, holds, registry, made};
 
 use std::alloc::Global;
 use std::sync::Wait;
-use std::test::Fail;
 use std::thread::{self, Threads};
 use turn_lock::{Registrar, Seat, Story, Turn};
 
@@ -107,15 +106,14 @@ fn thrice(notes: &[Note], caller: u32) -> bool {
 }
 
 #[test]
-fn sixteen_seats_in_threads(rt: HostRuntime) -> Result<(), Fail> {
+fn sixteen_seats_in_threads(rt: HostRuntime) {
     let Ok((turn, registrar, mut seats)) = Turn::make(rt.alloc(), empty(rt.alloc()), 16) else {
-        return Err(Fail::from("memory"));
+        panic!(rt; "memory");
     };
     all_act(&rt, &turn, seats.as_mut_slice());
     let notes = turn.finish(registrar, seats);
-    assert_eq!(rt; notes.list.len(), 48);
+    assert!(rt; notes.list.len() == 48);
     assert!(rt; (1..17).all(|caller| thrice(&notes.list, caller)));
-    Ok(())
 }
 
 // A seat that has acted three times.
@@ -166,11 +164,11 @@ fn both_act<R: Threads + Wait + Sync>(
 
 // While two seats act in threads of their own, a third thread enrols three more, which act, too.
 #[test]
-fn seats_are_enrolled_while_others_act(rt: HostRuntime) -> Result<(), Fail> {
+fn seats_are_enrolled_while_others_act(rt: HostRuntime) {
     let Ok((turn, mut registrar, _)) = Turn::make(rt.alloc(), empty(rt.alloc()), 0) else {
-        return Err(Fail::from("memory"));
+        panic!(rt; "memory");
     };
-    assert_eq!(rt; registrar.made(), 0);
+    assert!(rt; registrar.made() == 0);
     let first = turn.enrol(&mut registrar);
     let second = turn.enrol(&mut registrar);
     assert!(rt; first.number() == 1 && second.number() == 2);
@@ -179,10 +177,9 @@ fn seats_are_enrolled_while_others_act(rt: HostRuntime) -> Result<(), Fail> {
         || enrolled(&rt, &turn, registrar),
         || both_act(&rt, &turn, first, second),
     );
-    assert_eq!(rt; registrar.made(), 5);
-    let seats = vec![in rt.alloc(); first, second, third, fourth, fifth]?;
-    let notes = turn.finish(registrar, seats);
-    assert_eq!(rt; notes.list.len(), 15);
+    assert!(rt; registrar.made() == 5);
+    let seats = vec![in rt.alloc(); first, second, third, fourth, fifth].ok();
+    let notes = turn.finish(registrar, seats.expect(&rt, "memory"));
+    assert!(rt; notes.list.len() == 15);
     assert!(rt; (1..6).all(|caller| thrice(&notes.list, caller)));
-    Ok(())
 }
