@@ -1,8 +1,9 @@
 #!/usr/bin/env bash
 # Times a run of the gate from nothing, crate by crate: bench/gate.sh [--kept] [CRATE..]
-# Runs `rt ci --anew`, and looks once a second at what each of its checks has used. It prints a table in processor minutes: of each
-# crate the check, that of its tests, and its must-fail edits. `rest` is what the looks do not see: the last second of each check,
-# the programs, and rt itself. The words of rt go to bench/out/gate.log. With names it runs `rt ci --anew` of these and those below.
+# Runs `rt ci --anew` with one processor for each check, and looks once a second at what each of its checks has used. It prints a
+# table in processor minutes: of each crate the check, that of its tests, and its must-fail edits. `rest` is what the looks do not
+# see: the last second of each check, the programs, and rt itself. The words of rt go to bench/out/gate.log. With names it runs
+# `rt ci --anew` of these and those below.
 # With --kept it runs plain `rt ci`: what an earlier run kept is not run again, and its crates are not in the table.
 # Run by hand, on a machine that does nothing else. Its status is that of the gate.
 set -u
@@ -34,6 +35,8 @@ look() {
 anew=(--anew)
 [ "${1:-}" = --kept ] && { anew=(); shift; }
 
+# So many checks side by side, as rt reads it; without it, rt gives a check more than one where others wait for it.
+export RT_JOBS=${RT_JOBS:-$(nproc)}
 began=$SECONDS
 setsid rt ci "${anew[@]}" "$@" >"$log" 2>&1 &
 run=$!
