@@ -1,6 +1,6 @@
 //! A disk over a file of the operating system.
-ghost use Rattle.std.specs.Prelude.{◌≡◌, ◌≤◌, ℕ};
-ghost use Rattle.fault_count.specs.Counts.{HasRisen, next_count};
+ghost use Rattle.std.specs.Prelude.{◌≡◌, ℕ};
+ghost use Rattle.fault_count.specs.Counts.{IsCounted};
 ghost use Rattle.disk_model.specs.Untold.{untold};
 
 use crate::disk::Disk;
@@ -8,6 +8,7 @@ use crate::disk_failed::DiskFailed;
 use crate::system_file::SystemFile;
 use fault_count::next_count;
 use std::fs::File;
+use std::io;
 use std::marker::Model;
 use std::rt::Files;
 
@@ -41,14 +42,17 @@ impl<'a, R: Files<File = File>> FileDisk<'a, R> {
         }
     }
 
-    // One fault more.
-    fn fail(&mut self) -> DiskFailed
-        ensures next { self.new ≡ next_count self.old }
-        ensures later { self.old ≤ self.new }
-        ensures rose { HasRisen self.old self.new }
+    // An answer of the file, of which an error is one fault more.
+    fn counted<T>(&mut self, answer: io::Result<T>) -> Result<T, DiskFailed>
+        ensures { IsCounted self.old self.new result }
     {
-        self.faults = next_count(self.faults);
-        DiskFailed
+        match answer {
+            Ok(value) => Ok(value),
+            Err(_) => {
+                self.faults = next_count(self.faults);
+                Err(DiskFailed)
+            }
+        }
     }
 }
 
@@ -61,35 +65,27 @@ impl<R: Files<File = File>> Disk for FileDisk<'_, R> {
 
     /// The system's length of the file. An error of the system is a fault.
     fn len(&mut self) -> Result<u64, DiskFailed> {
-        match self.file.len() {
-            Ok(count) => Ok(count),
-            Err(_) => Err(self.fail()),
-        }
+        let answer = self.file.len();
+        self.counted(answer)
     }
 
     /// Reads from the file. An end before `into` is full is a fault, and so is an error of the system.
     fn read_at(&mut self, at: u64, into: &mut [u8]) -> Result<(), DiskFailed> {
-        match self.file.read_at(at, into) {
-            Ok(()) => Ok(()),
-            Err(_) => Err(self.fail()),
-        }
+        let answer = self.file.read_at(at, into);
+        self.counted(answer)
     }
 
     /// Writes to the file. An error of the system is a fault, and so is a write that takes nothing.
     fn write_at(&mut self, at: u64, piece: &[u8]) -> Result<(), DiskFailed> {
-        match self.file.write_at(at, piece) {
-            Ok(()) => Ok(()),
-            Err(_) => Err(self.fail()),
-        }
+        let answer = self.file.write_at(at, piece);
+        self.counted(answer)
     }
 
     /// Brings the bytes of the file and its length to the medium, and, once, its name in the folder. An error of the
     /// system is a fault.
     fn sync(&mut self) -> Result<(), DiskFailed> {
-        match self.file.sync() {
-            Ok(()) => Ok(()),
-            Err(_) => Err(self.fail()),
-        }
+        let answer = self.file.sync();
+        self.counted(answer)
     }
 
     fn faults(&self) -> u64 {

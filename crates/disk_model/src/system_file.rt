@@ -41,10 +41,8 @@ impl<'a, R: Files<File = File>> SystemFile<'a, R> {
 
     /// The number of bytes. A missing file has none.
     pub(crate) fn len(&mut self) -> io::Result<u64> {
-        match self.shared()? {
-            Some(file) => Ok(file.metadata()?.len()),
-            None => Ok(0),
-        }
+        self.open(false)?;
+        self.held.len()
     }
 
     /// Fills `into` with the bytes from `at` on. An end before it is full is an error.
@@ -52,7 +50,8 @@ impl<'a, R: Files<File = File>> SystemFile<'a, R> {
         if into.is_empty() {
             return Ok(());
         }
-        match self.shared()? {
+        self.open(false)?;
+        match self.held.file() {
             Some(file) => read_whole(file, at, into),
             None => Err(ErrorKind::UnexpectedEof.into()),
         }
@@ -62,16 +61,11 @@ impl<'a, R: Files<File = File>> SystemFile<'a, R> {
     pub(crate) fn write_at(&mut self, at: u64, piece: &[u8]) -> io::Result<()>
         requires { at + length piece.now < 2 ^ 62 }
     {
-        let file = self.made()?;
-        let mut done = 0;
-        while done < piece.len() {
-            let count = write_again(file, &piece[done..], at + done as u64)?;
-            if count == 0 {
-                return Err(ErrorKind::WriteZero.into());
-            }
-            done += count;
+        self.make()?;
+        match self.held.file() {
+            Some(file) => write_whole(file, at, piece),
+            None => Err(ErrorKind::NotFound.into()),
         }
-        Ok(())
     }
 
     /// Brings the file to the medium, and, once, its name in the folder.
@@ -79,58 +73,78 @@ impl<'a, R: Files<File = File>> SystemFile<'a, R> {
     /// Of the file these are its bytes, and its length where that changed: all that a later read needs. Its times may be
     /// left behind, so a byte that was written over in place costs no change of what the file system keeps of the file.
     pub(crate) fn sync(&mut self) -> io::Result<()> {
-        if let Some(file) = self.whole()? {
-            file.sync_data()?;
-        }
+        self.open(true)?;
+        self.held.sync()?;
         if !self.in_folder {
-            File::open(self.rt, folder_of(&self.path))?.sync_all()?;
-            self.in_folder = matches!(self.held, Held::Whole(_));
+            sync_folder(self.rt, &self.path)?;
+            self.in_folder = self.held.file().is_some();
         }
         Ok(())
     }
 
-    // The open file for reading. None where it is missing.
-    fn shared(&mut self) -> io::Result<Option<&File>> {
-        if matches!(self.held, Held::Nothing) {
-            self.held = opened(self.rt, &self.path, false)?;
+    // Makes the file where it is missing, and opens it for writing. It is an error where another has made it since.
+    fn make(&mut self) -> io::Result<()> {
+        self.open(true)?;
+        if self.held.file().is_none() {
+            let file = created(self.rt, &self.path)?;
+            self.hold(Held::Whole(file));
         }
-        match &self.held {
-            Held::Shared(file) => Ok(Some(file)),
-            Held::Whole(file) => Ok(Some(file)),
-            _ => Ok(None),
+        Ok(())
+    }
+
+    // Opens a file that is there, for writing, too, where it is asked for. A shared lock is given up before the whole one
+    // is asked.
+    fn open(&mut self, writes: bool) -> io::Result<()> {
+        if self.held.is_opened_for(writes) {
+            return Ok(());
+        }
+        self.hold(Held::Nothing);
+        let held = opened(self.rt, &self.path, writes)?;
+        self.hold(held);
+        Ok(())
+    }
+
+    fn hold(&mut self, held: Held) {
+        self.held = held;
+    }
+}
+
+impl Held {
+    // Whether the file has been opened, for writing, too, where it is asked for.
+    fn is_opened_for(&self, writes: bool) -> bool {
+        match self {
+            Held::Nothing => false,
+            Held::Shared(_) => !writes,
+            Held::Missing | Held::Whole(_) => true,
         }
     }
 
-    // The open file for writing. None where it is missing. A shared lock is given up before the whole one is asked.
-    fn whole(&mut self) -> io::Result<Option<&File>> {
-        if matches!(self.held, Held::Nothing | Held::Shared(_)) {
-            self.held = Held::Nothing;
-            self.held = opened(self.rt, &self.path, true)?;
-        }
-        match &self.held {
-            Held::Whole(file) => Ok(Some(file)),
-            _ => Ok(None),
+    fn file(&self) -> Option<&File> {
+        match self {
+            Held::Shared(file) | Held::Whole(file) => Some(file),
+            Held::Nothing | Held::Missing => None,
         }
     }
 
-    // The open file for writing, which is made where it is missing. It is an error where another has made it since.
-    fn made(&mut self) -> io::Result<&File> {
-        if self.whole()?.is_none() {
-            self.held = Held::Whole(created(self.rt, &self.path)?);
+    fn len(&self) -> io::Result<u64> {
+        match self.file() {
+            Some(file) => Ok(file.metadata()?.len()),
+            None => Ok(0),
         }
-        match &self.held {
-            Held::Whole(file) => Ok(file),
-            _ => Err(ErrorKind::NotFound.into()),
+    }
+
+    // Brings the bytes of the file and its length to the medium.
+    fn sync(&self) -> io::Result<()> {
+        match self.file() {
+            Some(file) => file.sync_data(),
+            None => Ok(()),
         }
     }
 }
 
 // Opens a file that is there, for reading or for writing, too, and locks it. A lock that another holds is an error.
 fn opened<R: Files<File = File>>(rt: &R, path: &str, writes: bool) -> io::Result<Held> {
-    let mut options = OpenOptions::new();
-    let _ = options.read(true);
-    let _ = options.write(writes);
-    match options.open(rt, path) {
+    match options(writes).open(rt, path) {
         Ok(file) => locked(file, writes),
         Err(error) if error.kind() == ErrorKind::NotFound => Ok(Held::Missing),
         Err(error) => Err(error),
@@ -149,13 +163,18 @@ fn locked(file: File, writes: bool) -> io::Result<Held> {
 
 // Makes a file that is missing, and locks it.
 fn created<R: Files<File = File>>(rt: &R, path: &str) -> io::Result<File> {
-    let mut options = OpenOptions::new();
-    let _ = options.read(true);
-    let _ = options.write(true);
+    let mut options = options(true);
     let _ = options.create_new(true);
     let file = options.open(rt, path)?;
     file.try_lock()?;
     Ok(file)
+}
+
+fn options(writes: bool) -> OpenOptions {
+    let mut options = OpenOptions::new();
+    let _ = options.read(true);
+    let _ = options.write(writes);
+    options
 }
 
 // Fills `into` with the bytes of a file from `at` on.
@@ -170,6 +189,26 @@ fn read_whole(file: &File, at: u64, into: &mut [u8]) -> io::Result<()> {
         done += count;
     }
     Ok(())
+}
+
+// Writes a piece to a file from `at` on.
+fn write_whole(file: &File, at: u64, piece: &[u8]) -> io::Result<()>
+    requires { at + length piece.now < 2 ^ 62 }
+{
+    let mut done = 0;
+    while done < piece.len() {
+        let count = write_again(file, &piece[done..], at + done as u64)?;
+        if count == 0 {
+            return Err(ErrorKind::WriteZero.into());
+        }
+        done += count;
+    }
+    Ok(())
+}
+
+// Brings the name of a file in its folder to the medium.
+fn sync_folder<R: Files<File = File>>(rt: &R, path: &str) -> io::Result<()> {
+    File::open(rt, folder_of(path))?.sync_all()
 }
 
 // The folder that holds a file.

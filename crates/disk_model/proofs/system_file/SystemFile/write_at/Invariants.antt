@@ -1,8 +1,0 @@
-use Rattle.std.proofs.Common.{length, ◌-◌, ◌≤◌}
-use Rattle.disk_model.proofs.system_file.SystemFile.write_at.Given as goal
-
-abbrev pub invariant-loop-done : goal.invariant-loop-done
-invariant-loop-done g l = l.done ≤ length l.piece
-
-abbrev pub decreases-loop-done : goal.decreases-loop-done
-decreases-loop-done g l = length l.piece - l.done
