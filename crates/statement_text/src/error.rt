@@ -2,42 +2,52 @@
 ghost use Rattle.std.specs.Prelude.{◌≡◌};
 
 use std::alloc::{AllocError, AllocFailed};
-use thiserror::Error;
+use std::error::Error;
+use std::fmt;
 
 /// What is wrong with a line: the first of these that applies.
-#[derive(Clone, Copy, Debug, PartialEq, Eq, Error)]
+#[derive(Clone, Copy, Debug, PartialEq, Eq)]
 pub enum StatementCause {
     /// The first line is no `ROUND` line, or there is no line.
-    #[error("round")]
     Round,
     /// The line stands after `END`.
-    #[error("after")]
     After,
     /// The line is not one that may stand here with fields in their grammar and range.
-    #[error("shape")]
     Shape,
     /// The line is `PARTY` line 16,385 or `CLAIM` line 262,145.
-    #[error("limit")]
     Limit,
     /// A `PARTY` line's firm, or a `CLAIM` line's creditor and invoice, stood before.
-    #[error("repeat")]
     Repeat,
     /// A `CLAIM` line's creditor or debtor has no `PARTY` line.
-    #[error("party")]
     NoParty,
     /// A `CLAIM` line's debtor is its creditor.
-    #[error("same-firm")]
     SameFirm,
     /// A `PARTY` line of a plain round has a spend or a room that is not 0.00.
-    #[error("window")]
     Window,
     /// The input ends without `END`.
-    #[error("end")]
     NoEnd,
 }
 
+impl fmt::Display for StatementCause {
+    fn fmt<W: fmt::Write>(&self, f: &mut fmt::Formatter<W>) -> fmt::Result {
+        f.write_str(match self {
+            StatementCause::Round => "round",
+            StatementCause::After => "after",
+            StatementCause::Shape => "shape",
+            StatementCause::Limit => "limit",
+            StatementCause::Repeat => "repeat",
+            StatementCause::NoParty => "party",
+            StatementCause::SameFirm => "same-firm",
+            StatementCause::Window => "window",
+            StatementCause::NoEnd => "end",
+        })
+    }
+}
+
+impl Error for StatementCause {}
+
 /// Why a statement was not read.
-#[derive(Clone, Copy, Debug, PartialEq, Eq, Error)]
+#[derive(Clone, Copy, Debug, PartialEq, Eq, thiserror::Error)]
 pub enum StatementError {
     /// There was no memory.
     #[error("memory")]
