@@ -1,6 +1,6 @@
 -- The solver's arcs make the network of the net's obligations.
 use Rattle.std.specs.Prelude.{slice_index, map, replicate, sum}
-use Rattle.std.proofs.Common.{◌≡◌, ℕ, ◌+◌, ◌<◌, List, [], ◌∷◌, ◌++◌, length, get_or, refl, sym, ◌∙◌, ap, arith, length-append}
+use Rattle.std.proofs.Common.{◌≡◌, ℕ, ◌+◌, ◌<◌, List, [], ◌∷◌, ◌++◌, length, get_or, refl, sym, ◌∙◌, ap, arith, length-append, append_assoc}
 use Rattle.std.proofs.lemmas.List.{length-map, get_or-map, get_or_append_left, get_or-append-add, get_or_push, length-replicate, get_or-replicate}
 use Rattle.std.proofs.lemmas.List.Elements.{All-get_or}
 use Rattle.setoff_model.specs.declared.cut.Party.{Party}
@@ -9,13 +9,13 @@ use Rattle.netting_graph.specs.declared.arc.Arc.{Arc}
 use Rattle.netting_graph.specs.NetView.{NetView, IsNet, IsArcAmong, obligations_of_arcs, obligations_of_net, arc_amounts}
 use Rattle.residual_network.specs.NetworkOf.{IsNetworkOf, IsAmongParties}
 use Rattle.residual_network.specs.declared.edge.Edge.{Edge}
-use Rattle.residual_state.specs.Edges.{tails, heads, capacities, rewards, network_of, claim_edge, AreWindows}
+use Rattle.residual_state.specs.Edges.{tails, heads, capacities, rewards, network_of, claim_edge, AreWindows, HasWindows}
 use Rattle.residual_state.proofs.Labelling.{by_last}
 use Rattle.residual_state.proofs.Pushed.{pushed_kept, pushed_last}
 
 -- ---- one window more
 
-pub windows_more : (parties : List Party) (m : ℕ) (edges : List Edge) (w : Edge) → AreWindows parties m edges → w.tail ≡ m → w.head ≡ length parties → w.capacity ≡ slice_index (spends parties) m + slice_index (rooms parties) m → w.reward ≡ 0 →
+windows_more : (parties : List Party) (m : ℕ) (edges : List Edge) (w : Edge) → AreWindows parties m edges → w.tail ≡ m → w.head ≡ length parties → w.capacity ≡ slice_index (spends parties) m + slice_index (rooms parties) m → w.reward ≡ 0 →
     AreWindows parties (m + 1) (edges ++ w ∷ [])
 windows_more parties m edges w are t h c r = record {
   one_each = omega (arith, length-append edges (w ∷ []), are.one_each);
@@ -24,6 +24,11 @@ windows_more parties m edges w are t h c r = record {
   capacity = by_last m (λ f. slice_index (capacities (edges ++ w ∷ [])) f ≡ slice_index (spends parties) f + slice_index (rooms parties) f) (λ f lt. pushed_kept (λ e. e.capacity) edges w f (omega (arith, are.one_each)) ∙ are.capacity f lt) (pushed_last (λ e. e.capacity) edges w m (sym are.one_each) ∙ c);
   reward = by_last m (λ f. slice_index (rewards (edges ++ w ∷ [])) f ≡ 0) (λ f lt. pushed_kept (λ e. e.reward) edges w f (omega (arith, are.one_each)) ∙ are.reward f lt) (pushed_last (λ e. e.reward) edges w m (sym are.one_each) ∙ r);
 }
+
+pub window_added : (parties : List Party) (m : ℕ) (old mid new : List Edge) (w : Edge) → HasWindows parties m old mid → new ≡ mid ++ w ∷ [] → w.tail ≡ m → w.head ≡ length parties → w.capacity ≡ slice_index (spends parties) m + slice_index (rooms parties) m → w.reward ≡ 0 →
+    HasWindows parties (m + 1) old new
+window_added parties m old mid new w (windows, are, whole) added t h c r =
+    (windows ++ w ∷ [], windows_more parties m windows w are t h c r, added ∙ ap (λ l. l ++ w ∷ []) whole ∙ append_assoc old windows (w ∷ []))
 
 -- ---- the arcs together
 

@@ -52,6 +52,10 @@ pub record AreWindows (parties : List Party) (m : ℕ) (edges : List Edge) : Typ
       slice_index (capacities edges) f ≡ slice_index (spends parties) f + slice_index (rooms parties) f
   pub reward : (f : ℕ) → f < m → slice_index (rewards edges) f ≡ 0
 
+-- the arcs of the windows of the first m parties were added
+abbrev pub HasWindows : List Party → ℕ → List Edge → List Edge → Type 0
+HasWindows parties m old new = (windows : List Edge) × AreWindows parties m windows × (new ≡ old ++ windows)
+
 -- the arc at place a
 pub record IsEdgeAt (edges : List Edge) (a : ℕ) (e : Edge) : Type 0 where
   pub tail : e.tail ≡ slice_index (tails edges) a

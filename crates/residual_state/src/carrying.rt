@@ -1,7 +1,6 @@
 //! Excess moved over one arc after another.
-ghost use Rattle.std.specs.Prelude.{◌≡◌, ◌<◌, ◌≤◌, ◌^◌, ℕ, pos, length, ◌↔◌, MatchOption, IsTrue, unsigned_abs};
+ghost use Rattle.std.specs.Prelude.{◌≡◌, ◌<◌, ◌^◌, length, ◌↔◌, MatchOption, IsTrue};
 ghost use Rattle.setoff_model.specs.Setoff.{Obligations};
-ghost use Rattle.residual_network.specs.Network.{arc_gain};
 ghost use Rattle.residual_network.specs.declared.push.Push.{Push};
 ghost use Rattle.residual_state.specs.Edges.{graph};
 ghost use Rattle.residual_state.specs.States.{IsStateOf};

@@ -1,10 +1,10 @@
 //! The arcs of the solver's network.
-ghost use Rattle.std.specs.Prelude.{◌≡◌, ◌+◌, ◌<◌, ◌≤◌, ◌^◌, ℕ, length, map, All, IfOk};
+ghost use Rattle.std.specs.Prelude.{◌≡◌, ◌+◌, ◌<◌, ◌≤◌, length, map, All, IfOk, OnOk};
 ghost use Rattle.setoff_model.specs.Limits.{most_window};
 ghost use Rattle.setoff_model.specs.CutView.{spends};
 ghost use Rattle.netting_graph.specs.NetView.{obligations_of_net};
 ghost use Rattle.residual_network.specs.NetworkOf.{IsNetworkOf};
-ghost use Rattle.residual_state.specs.Edges.{IsEdgeAt, AreWindows, claim_edge, network_of};
+ghost use Rattle.residual_state.specs.Edges.{IsEdgeAt, HasWindows, claim_edge, network_of};
 
 use netting_graph::{Arc, Net};
 use residual_network::Edge;
@@ -19,9 +19,7 @@ pub(crate) fn edges_of(alloc: Global, net: &Net) -> Result<Vec<Edge>, AllocError
     ensures { IfOk result (λ edges. IsNetworkOf (obligations_of_net net.now) (network_of (spends net.now.parties) edges.items)) }
 {
     let mut edges = claim_edges(alloc, net.arcs())?;
-    let windows = window_edges(alloc, net.parties())?;
-    edges.reserve_exact(windows.len())?;
-    edges.extend_from_slice(&windows)?;
+    add_windows(&mut edges, net.parties())?;
     Ok(edges)
 }
 
@@ -38,12 +36,13 @@ fn claim_edges(alloc: Global, arcs: &[Arc]) -> Result<Vec<Edge>, AllocError>
         .collect(alloc)
 }
 
-fn window_edges(alloc: Global, parties: &[Party]) -> Result<Vec<Edge>, AllocError>
+// Adds the arc of each party's window.
+fn add_windows(edges: &mut Vec<Edge>, parties: &[Party]) -> Result<(), AllocError>
     requires spends { All (λ f. f.spend ≤ most_window) parties.now }
     requires rooms { All (λ f. f.room ≤ most_window) parties.now }
-    ensures { IfOk result (λ edges. AreWindows parties.now (length parties.now) edges.items) }
+    ensures { OnOk result (HasWindows parties.now (length parties.now) edges.old.items edges.new.items) }
 {
-    let mut edges = Vec::with_capacity(alloc, parties.len())?;
+    edges.reserve_exact(parties.len())?;
     for (place, party) in parties.iter().enumerate() {
         edges.push(Edge {
             tail: place,
@@ -52,7 +51,7 @@ fn window_edges(alloc: Global, parties: &[Party]) -> Result<Vec<Edge>, AllocErro
             reward: 0,
         })?;
     }
-    Ok(edges)
+    Ok(())
 }
 
 // The arc at a place.

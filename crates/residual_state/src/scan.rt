@@ -1,5 +1,5 @@
 //! The arc that a label passes over after the least raise.
-ghost use Rattle.std.specs.Prelude.{◌≡◌, ◌+◌, ◌<◌, ℕ, length};
+ghost use Rattle.std.specs.Prelude.{◌≡◌, ◌+◌, ◌<◌, length};
 ghost use Rattle.setoff_model.specs.Limits.{most_firms};
 ghost use Rattle.setoff_model.specs.Squeezing.{IsNear};
 ghost use Rattle.residual_state.specs.Edges.{AreAmong, graph};

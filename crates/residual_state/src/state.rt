@@ -34,11 +34,11 @@ pub fn state_at_start(alloc: Global, net: &Net) -> Result<State, AllocError>
     ensures { IfOk result (IsStateOf (obligations_of_net net.now)) }
 {
     let nodes = net.parties().len() + 1;
-    let edges = edges_of(alloc, net)?;
-    let around = arcs_around(alloc, &edges, nodes)?;
     let flows = flows_at_start(alloc, net)?;
     let excess = excess_at_start(alloc, net)?;
     let prices = vec![in alloc; 0i64; net.parties().len()]?;
+    let edges = edges_of(alloc, net)?;
+    let around = arcs_around(alloc, &edges, nodes)?;
     Ok(State {
         edges,
         around,
