@@ -1,5 +1,5 @@
 //! What is asked of the bureau.
-ghost use Rattle.std.specs.Prelude.{◌≡◌, ◌&&◌, nat_le, unsigned_abs};
+ghost use Rattle.std.specs.Prelude.{◌≡◌, ◌&&◌, false, nat_le, unsigned_abs};
 ghost use Rattle.std.specs.List.{list_all};
 ghost use Rattle.setoff_model.specs.Names.{is_name};
 ghost use Rattle.claim_history.specs.Acts.{is_key, is_amount, is_claim_amount, is_day, is_round, is_outcome, is_valid, is_publication, ActTextsLaw};
@@ -7,9 +7,11 @@ ghost use Rattle.claim_history.specs.Acts.{is_key, is_amount, is_claim_amount, i
 use crate::day::Day;
 use setoff_model::limits::{MOST_AMOUNT, MOST_CLAIMS, MOST_FIRMS};
 use setoff_model::{Key, Kind, Name, Outcome};
+use std::alloc::AllocError;
+use std::fmt;
 
 /// What a caller asks. Amounts are cents.
-#[derive(Clone, Debug, Drop)]
+#[derive(Drop)]
 pub enum Act {
     /// Registers a firm.
     Firm {
@@ -80,6 +82,98 @@ pub enum Act {
         round: u32,
         outcome: Outcome,
     },
+}
+
+/// A clone is the act itself. Only that of a publication takes memory.
+impl Clone for Act {
+    ghost use Rattle.claim_history.specs.Acts.{is_publication};
+
+    ghost is_clone = { λ act copy. copy ≡ act };
+
+    ghost is_infallible = { λ act. is_publication act ≡ false };
+
+    fn clone(&self) -> Result<Act, AllocError> {
+        Ok(match self {
+            Act::Firm { firm } => Act::Firm { firm: *firm },
+            Act::File {
+                key,
+                debtor,
+                amount,
+                due,
+            } => Act::File {
+                key: *key,
+                debtor: *debtor,
+                amount: *amount,
+                due: *due,
+            },
+            Act::Confirm { key, debtor } => Act::Confirm {
+                key: *key,
+                debtor: *debtor,
+            },
+            Act::Dispute { key, debtor } => Act::Dispute {
+                key: *key,
+                debtor: *debtor,
+            },
+            Act::Withdraw { key } => Act::Withdraw { key: *key },
+            Act::Receive { key, amount } => Act::Receive {
+                key: *key,
+                amount: *amount,
+            },
+            Act::Fund { firm, amount } => Act::Fund {
+                firm: *firm,
+                amount: *amount,
+            },
+            Act::Draw { firm, amount } => Act::Draw {
+                firm: *firm,
+                amount: *amount,
+            },
+            Act::Limit {
+                firm,
+                credit,
+                ceiling,
+            } => Act::Limit {
+                firm: *firm,
+                credit: *credit,
+                ceiling: *ceiling,
+            },
+            Act::Offer { firm, amount } => Act::Offer {
+                firm: *firm,
+                amount: *amount,
+            },
+            Act::Position { firm } => Act::Position { firm: *firm },
+            Act::Close { kind, horizon } => Act::Close {
+                kind: *kind,
+                horizon: *horizon,
+            },
+            Act::Abandon => Act::Abandon,
+            Act::Publish { round, outcome } => Act::Publish {
+                round: *round,
+                outcome: outcome.clone()?,
+            },
+        })
+    }
+}
+
+/// An act is shown by its verb.
+impl fmt::Debug for Act {
+    fn fmt<W: fmt::Write>(&self, f: &mut fmt::Formatter<W>) -> fmt::Result {
+        f.write_str(match self {
+            Act::Firm { .. } => "FIRM",
+            Act::File { .. } => "FILE",
+            Act::Confirm { .. } => "CONFIRM",
+            Act::Dispute { .. } => "DISPUTE",
+            Act::Withdraw { .. } => "WITHDRAW",
+            Act::Receive { .. } => "RECEIVE",
+            Act::Fund { .. } => "FUND",
+            Act::Draw { .. } => "DRAW",
+            Act::Limit { .. } => "LIMIT",
+            Act::Offer { .. } => "OFFER",
+            Act::Position { .. } => "POSITION",
+            Act::Close { .. } => "CLOSE",
+            Act::Abandon => "ABANDON",
+            Act::Publish { .. } => "PUBLISH",
+        })
+    }
 }
 
 impl Act {
