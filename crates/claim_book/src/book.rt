@@ -79,14 +79,21 @@ impl Book {
         ensures kept { self.old.room ≤ self.new.room }
         ensures needed { OnErr result (self.old.room < room_for (state_of self.old.history) act.now) }
     {
-        let needed = match act {
-            Act::Close { .. } => 2,
-            _ if self.kept.is_some() => 2,
-            _ => 1,
-        };
+        let needed = self.room_for(act);
         self.claims.reserve(needed)?;
         self.accounts.reserve(needed)?;
         self.entries.reserve(needed)
+    }
+
+    // For how many entries an act needs room.
+    fn room_for(&self, act: &Act) -> usize
+        ensures { result ≡ room_for (state_of self.now.history) act.now }
+    {
+        match act {
+            Act::Close { .. } => 2,
+            _ if self.kept.is_some() => 2,
+            _ => 1,
+        }
     }
 
     /// The one reply of the history to a caller and an act. It takes no memory.
