@@ -1,13 +1,22 @@
 -- An opening turns at its first sync.
-use Rattle.std.proofs.Common.{◌≡◌, ⊎_elim, ℕ, ◌≤◌, false, List, [], ◌∷◌, ◌++◌, length, None, IsTrue, refl, sym, ◌∙◌, ap, subst, arith}
+use Rattle.std.proofs.Common.{◌≡◌, ⊎_elim, inl, inr, ℕ, ◌<◌, ◌≤◌, Bool, true, false, List, [], ◌∷◌, ◌++◌, length, length-append, None, IsTrue, refl, sym, ◌∙◌, ap, subst, arith, rules}
 use Rattle.std.proofs.lemmas.List.{drop_all}
 use Rattle.std.proofs.lemmas.Bool.{cases_lt}
+use Rattle.fault_count.proofs.Rising.{risen_within}
 use Rattle.disk_model.specs.Calls.{Seen, IsPresent, Passes, Only, Torn, After}
 use Rattle.disk_model.specs.Calls.{Holds as Written}
 use Rattle.disk_model.proofs.Moments.{passes_wide, present_has}
-use Rattle.round_journal.specs.Bytes.{header, front, EndsClosed, StandsFor, HoldsBodies}
+use Rattle.round_journal.specs.Bytes.{header, front, EndsClosed, StandsFor, StandsForNone, HoldsBodies}
 use Rattle.round_journal.specs.Kept.{IsKeptAt}
-use Rattle.round_journal.specs.Opened.{HoldsAs, Turns, HasTurned, IsSynced}
+use Rattle.round_journal.specs.Opened.{AreFound, HoldsAs, Turns, HasTurned, IsSynced}
+use Rattle.round_journal.specs.Reading.{IsReading}
+use Rattle.round_journal.specs.Reading.Reading.{bodies_are, no_header, short_at, bad_at}
+use Rattle.round_journal.specs.Records.{HasRecords, IsBody, bodies_of}
+use Rattle.round_journal.specs.Stops.{HasStop, IsFault}
+use Rattle.round_journal.specs.declared.cause.RecordWhy.TheVariants.{Short, Body}
+use Rattle.round_journal.specs.declared.record.Record.{Record}
+use Rattle.round_journal.specs.declared.stop.Stop.{Stop}
+use Rattle.round_journal.specs.declared.stop.Stop.TheVariants.{Memory, Failed, BadHeader, BadRecord}
 use Rattle.round_journal.proofs.Short.{holds_short, held_short}
 
 abbrev empty_journal : List ℕ
@@ -96,3 +105,53 @@ turned_on a b d turn bytes lent is turned same synced then =
     subst (λ (l : List ℕ). Passes b d (HoldsAs l)) is (then (subst (λ (l : List ℕ). IsSynced b l) (sym is) synced)) in
     turns_on a b d turn (IsPresent a) (HoldsAs a.reads) turned
     (subst (λ (l : List ℕ). Passes b d (HoldsAs l)) file goes)
+
+-- a journal that is made of bytes that were synced
+pub made_synced : (a b : Seen) (bytes : List ℕ) → length bytes ≤ 9 → (length a.reads ≤ 9 → Only a.reads (IsPresent a) → Passes a b (λ c. HoldsBodies c [])) → IsSynced a bytes → Passes a b (HoldsAs bytes)
+made_synced a b bytes short goes synced =
+    made_as a b bytes short
+    (goes (subst (λ (f : List ℕ). length f ≤ 9) synced.read short) (subst (λ (f : List ℕ). Only f (IsPresent a)) synced.read synced.only))
+
+-- the gate that is next lies within the disk
+pub kept_within : (disk : Seen) (bodies : List (List ℕ)) (gate : ℕ) → IsKeptAt disk gate false bodies None → IsPresent disk disk.reads → gate < length disk.reads
+kept_within disk bodies gate kept now =
+    let ends : EndsClosed (front bodies) disk.reads = kept.images disk.reads now in
+    omega (arith, kept.place, ap length ends.spelled, length-append (front bodies) (ends.gate ∷ ends.rest))
+
+-- the records of bytes that were lent are those of the disk that was read
+pub found_of : {tells : Bool} {file bytes lent : List ℕ} {records : List Record} → lent ≡ bytes → (IsTrue tells → bytes ≡ file) → AreFound true lent records → AreFound tells file records
+found_of {records = records} is same found = record {
+  reading = λ told. subst (λ (f : List ℕ). IsReading IsBody f (bodies_are (bodies_of records))) (is ∙ same told) (found.reading refl);
+  keepable = found.keepable;
+  places = found.places;
+}
+
+-- the records for which bytes stand are found
+pub found_some : {bytes : List ℕ} {gate : ℕ} {records : List Record} → HasRecords bytes gate records → AreFound true bytes records
+found_some has = record { reading = λ told. (inl has.stands, has.good); keepable = has.keepable; places = has.places }
+
+-- of bytes that stand for no list there are no records
+pub found_none : (bytes : List ℕ) (records : List Record) → records ≡ [] → length bytes ≤ 9 → StandsForNone bytes → AreFound true bytes records
+found_none bytes records is short none =
+    subst (λ (rs : List Record). AreFound true bytes rs) (sym is) (record { reading = λ told. (inr (short, none, refl), search rules); keepable = search rules; places = refl })
+
+-- why the reading of bytes that were lent stopped is why that of the disk did
+pub stop_of : {tells : Bool} {file bytes lent : List ℕ} (before mid after : ℕ) (stop : Stop) → lent ≡ bytes → (IsTrue tells → bytes ≡ file) → before ≤ mid → HasStop true lent mid after stop → HasStop tells file before after stop
+stop_of before mid after Memory is same later stops = tt
+stop_of before mid after Failed is same later stops = (refl, refl, risen_within before mid after after later (omega arith) stops.2)
+stop_of before mid after BadHeader is same later stops = λ told. subst (λ (f : List ℕ). IsReading IsBody f no_header) (is ∙ same told) (stops refl)
+stop_of before mid after (BadRecord offset Short) is same later stops = λ told. subst (λ (f : List ℕ). IsReading IsBody f (short_at offset)) (is ∙ same told) (stops refl)
+stop_of before mid after (BadRecord offset Body) is same later stops = λ told. subst (λ (f : List ℕ). IsReading IsBody f (bad_at offset)) (is ∙ same told) (stops refl)
+
+-- the same of a fault of the bytes
+pub fault_of : {tells : Bool} {file bytes lent : List ℕ} (before after : ℕ) (stop : Stop) → lent ≡ bytes → (IsTrue tells → bytes ≡ file) → IsFault lent stop → HasStop tells file before after stop
+fault_of before after Memory is same fault = tt
+fault_of before after Failed is same fault = absurd fault
+fault_of before after BadHeader is same fault = λ told. subst (λ (f : List ℕ). IsReading IsBody f no_header) (is ∙ same told) fault
+fault_of before after (BadRecord offset Short) is same fault = λ told. subst (λ (f : List ℕ). IsReading IsBody f (short_at offset)) (is ∙ same told) fault
+fault_of before after (BadRecord offset Body) is same fault = λ told. subst (λ (f : List ℕ). IsReading IsBody f (bad_at offset)) (is ∙ same told) fault
+
+-- bytes that stand for the empty list have no records
+pub read_none : (bytes : List ℕ) (records : List Record) → records ≡ [] → StandsFor bytes [] → HasRecords bytes 8 records
+read_none bytes records is stands =
+    subst (λ (rs : List Record). HasRecords bytes 8 rs) (sym is) (record { stands = stands; keepable = search rules; good = search rules; places = refl; place = refl })
