@@ -27,14 +27,30 @@ pub fn import(alloc: Global, input: &[u8], lane: u32) -> Result<Vec<u8>, ImportE
 {
     let mut reader = reader_of(alloc, input);
     let mut fields = ByteRecord::new(alloc);
-    read_names(input, &mut reader, &mut fields)?;
+    lines_of(alloc, input, lane, &mut reader, &mut fields)
+}
+
+// The lines that file the invoices of a text, by a reader before its first row.
+fn lines_of(
+    alloc: Global,
+    input: &[u8],
+    lane: u32,
+    reader: &mut Reader<&[u8]>,
+    fields: &mut ByteRecord,
+) -> Result<Vec<u8>, ImportError>
+    requires lane { IsLane lane }
+    requires begins { StandsAt reader.old input.now [] }
+    ensures read { IfOk result (λ text. (filings : List Act) × IsInvoiceText input.now filings × (text.items ≡ import_text lane filings)) }
+    ensures bad { IfErr result (OnBadRow (IsFirstBadRow input.now)) }
+{
+    read_names(input, reader, fields)?;
     let mut text = Vec::new(alloc);
     // No row has a number above that of the bytes.
     let _size = size_of(input);
     let mut row = 1;
-    'rows: while next_row(&mut reader, &mut fields)? {
+    'rows: while next_row(reader, fields)? {
         row += 1;
-        put_filing(&mut text, lane, row, &fields)?;
+        put_filing(&mut text, lane, row, fields)?;
     }
     Ok(text)
 }

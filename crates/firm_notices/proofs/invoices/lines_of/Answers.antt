@@ -2,7 +2,7 @@ use Rattle.std.proofs.Common.{◌≡◌, ◌∷◌, ◌+◌, arith}
 use Rattle.csv.specs.Records.{fields_of}
 use Rattle.firm_notices.specs.Invoices.{invoice_names, HasCause, IsFirstBadRow, OnBadRow}
 use Rattle.firm_notices.proofs.Importing.{reads_on, reads_all, reads_bad, row_fits, bad_row, handed_on}
-use Rattle.firm_notices.proofs.invoices.import.Goals as goal
+use Rattle.firm_notices.proofs.invoices.lines_of.Goals as goal
 
 pub overflow_add-row : goal.overflow_add-row
 overflow_add-row c =
