@@ -26,7 +26,7 @@ pub fn outcome_of(alloc: Global, cut: &Cut, net: &Net, flow: Flow) -> Result<Out
     ensures squeezed { IfOk result (λ outcome. IsSqueezed flow.prices outcome.prices) }
 {
     let (flows, mut prices) = flow.into_parts();
-    let discharges = spread(alloc, cut, net, &flows)?;
     squeeze(alloc, &mut prices)?;
+    let discharges = spread(alloc, cut, net, &flows)?;
     Ok(Outcome::new(discharges, prices))
 }

@@ -8,7 +8,7 @@ use crate::certificate::outcome_of;
 use flow_solver::{Flow, Solver};
 use netting_graph::Net;
 use setoff_checker::{Checked, Checker};
-use setoff_model::Cut;
+use setoff_model::{Cut, Outcome};
 use std::alloc::{AllocError, Global};
 
 /// A greatest set-off of a cut, found by a solver and certified by the checker. A round is solved by this call alone.
@@ -22,14 +22,23 @@ pub fn certified<S: Solver>(alloc: Global, solver: &S, cut: Cut) -> Result<Check
     ensures proved { IfOk result (λ checked. Proves (obligations cut) checked.outcome.discharges checked.outcome.prices) }
     ensures oldest_first { IfOk result (λ checked. IsOldestFirst (obligations cut) checked.outcome.discharges) }
 {
-    let net = Net::of(alloc, &cut)?;
-    let flow = solved(alloc, solver, &net)?;
-    let outcome = outcome_of(alloc, &cut, &net, flow)?;
+    let outcome = found(alloc, solver, &cut)?;
     let checker = Checker::for_cut(alloc, &cut)?;
     match checker.certify(cut, outcome) {
         Ok(checked) => Ok(checked),
         Err(_) => unreachable!(),
     }
+}
+
+// The outcome of a cut by what the solver finds of its net.
+fn found<S: Solver>(alloc: Global, solver: &S, cut: &Cut) -> Result<Outcome, AllocError>
+    requires { WellFormed cut.now }
+    ensures proved { IfOk result (λ outcome. Proves (obligations cut.now) outcome.discharges outcome.prices) }
+    ensures oldest_first { IfOk result (λ outcome. IsOldestFirst (obligations cut.now) outcome.discharges) }
+{
+    let net = Net::of(alloc, cut)?;
+    let flow = solved(alloc, solver, &net)?;
+    outcome_of(alloc, cut, &net, flow)
 }
 
 // What the solver finds for a net. It is never inlined, so that a profile shows what solving takes.
