@@ -1,3 +1,4 @@
 pub mod Known
+mod Counted
 mod Reading
 mod Written
