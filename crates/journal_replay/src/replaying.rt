@@ -1,5 +1,5 @@
 //! The replay of a journal's records.
-ghost use Rattle.std.specs.Prelude.{◌≡◌, ◌≤◌, IfOk, IfErr, OnOk, true, false};
+ghost use Rattle.std.specs.Prelude.{◌≡◌, ◌≤◌, [], IfOk, IfErr, OnOk, true, false};
 ghost use Rattle.claim_history.specs.declared.act.Act.TheVariants as acts;
 ghost use Rattle.claim_history.specs.declared.entry.Reply.TheVariants as replies;
 ghost use Rattle.claim_history.specs.Acts.{is_valid, is_publication, is_close, is_day};
@@ -29,10 +29,27 @@ pub fn replay(alloc: Global, records: Vec<Record>) -> Result<LimitedBook, Replay
     ensures stopped { IfErr result (StopsFirst records.items) }
 {
     let mut book = LimitedBook::new(alloc);
-    for kept in records {
-        replay_one(alloc, &mut book, kept)?;
+    match replay_all(alloc, &mut book, records) {
+        Ok(()) => Ok(book),
+        Err(stop) => {
+            drop(book);
+            Err(stop)
+        }
     }
-    Ok(book)
+}
+
+// Puts the calls of records into an empty book.
+fn replay_all(alloc: Global, book: &mut LimitedBook, records: Vec<Record>) -> Result<(), ReplayStop>
+    requires keepable { AreKeepable records.items }
+    requires empty { book.old.history ≡ [] }
+    ensures history { OnOk result (book.new.history ≡ history_of records.items) }
+    ensures sound { OnOk result (AreSound records.items) }
+    ensures stopped { IfErr result (StopsFirst records.items) }
+{
+    for kept in records {
+        replay_one(alloc, book, kept)?;
+    }
+    Ok(())
 }
 
 // Puts the call of a record at the end, where it is accepted and within the limits.

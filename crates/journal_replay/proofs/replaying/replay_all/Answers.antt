@@ -3,7 +3,7 @@ use Rattle.std.specs.Vec.Iter.{into_iter_items}
 use Rattle.std.proofs.lemmas.Result.{err_from_is_err_and}
 use Rattle.round_journal.specs.declared.record.Record.{Record}
 use Rattle.journal_replay.proofs.Replays.{replayed_more, stopped_at}
-use Rattle.journal_replay.proofs.replaying.replay.Goals as goal
+use Rattle.journal_replay.proofs.replaying.replay_all.Goals as goal
 
 pub returns-in_err-replay_one-clause-stopped : goal.returns-in_err-replay_one-clause-stopped
 returns-in_err-replay_one-clause-stopped c =
