@@ -1,5 +1,5 @@
 -- The reply to a Close, and the round that is open after it.
-use Rattle.std.proofs.Common.{◌≡◌, ◌∙◌, ⊎_elim, ℕ, ◌+◌, ◌*◌, false, Option, Some, None, List, [], ◌∷◌, ◌++◌, length, reverse, refl, sym, ap, subst}
+use Rattle.std.proofs.Common.{◌≡◌, ◌∙◌, ⊎_elim, ℕ, ◌+◌, ◌*◌, ◌≤◌, true, false, Option, Some, None, List, [], ◌∷◌, ◌++◌, length, reverse, refl, sym, ap, subst, arith}
 use Rattle.std.specs.Option.{option_map}
 use Rattle.std.proofs.lemmas.List.{reverse-append}
 use Rattle.std.proofs.lemmas.Option.{same_Some}
@@ -10,7 +10,6 @@ use Rattle.claim_history.specs.declared.entry.Entry.{Entry}
 use Rattle.claim_history.specs.declared.entry.Reply.{Reply}
 use Rattle.claim_history.specs.declared.entry.Reply.TheVariants as reply
 use Rattle.claim_history.specs.declared.entry.Why.{Why}
-use Rattle.claim_history.specs.declared.entry.Why.TheVariants as why
 use Rattle.claim_history.specs.Cut.{cut_of}
 use Rattle.claim_history.specs.States.{OpenRound, State, state, state_of, after}
 use Rattle.claim_history.specs.History.{answer, close_answer, close_refusals, is_no_refusal, is_opening}
@@ -19,8 +18,14 @@ use Rattle.claim_book.specs.Book.{open_cut_of}
 use Rattle.recorded_book.specs.Devices.{IsReplied}
 use Rattle.recorded_book.specs.Acting.{entry_of, publication_bytes}
 
-pub got_due : (before counted : ℕ) (due got : Reply) → IsReplied before counted due got → ((w : Why) → got ≡ reply.Refused w → ⊥) → got ≡ due
-got_due before counted due got told other = ⊎_elim (λ same. same) (λ failed. absurd (other (why.Device before counted) failed.1)) told
+-- a reply that accepts is the one that is due
+pub got_due : (before counted : ℕ) (due got : Reply) → IsReplied before counted due got → is_no_refusal got ≡ true → got ≡ due
+got_due before counted due got told accepts = ⊎_elim (λ same. same) (λ failed. absurd (cc (accepts, ap is_no_refusal failed.1))) told
+
+-- where a Close is to open a round, it does where it is accepted
+pub opens_accepted : (before counted number : ℕ) (got : Reply) → IsReplied before counted (reply.Opened number) got → is_opening got ≡ is_no_refusal got
+opens_accepted before counted number got told =
+    ⊎_elim (λ same. ap is_opening same ∙ sym (ap is_no_refusal same)) (λ failed. ap is_opening failed.1 ∙ sym (ap is_no_refusal failed.1)) told
 
 pub got_refused : (before counted : ℕ) (due got : Reply) (w : Why) → reply.Refused w ≡ due → IsReplied before counted due got → got ≡ reply.Refused w
 got_refused before counted due got w is told = ⊎_elim (λ same. same ∙ sym is) (λ failed. absurd (cc (ap is_no_refusal is, failed.0))) told
@@ -46,6 +51,19 @@ module _ (history later : List Entry) (caller : ℕ) (kind : Kind) (horizon : �
   opened_bytes number cut round is same open_now =
       let one : record { owner = caller; horizon = horizon; cut = cut_of ((state_of history).openings + 1) (state_of history).ledger kind horizon } ≡ round = same_Some _ round (sym (opened_round number is) ∙ open_now) in
       ap (λ (k : CutView). 17 + (8 * length k.claims + 4 * length k.parties)) (ap (λ (r : OpenRound). r.cut) (sym one) ∙ sym same)
+
+  -- the bytes of the publication of the round that is open then, where there were those for a round that was open before
+  pub opened_spared : (before counted number spare : ℕ) (cut : CutView) → IsReplied before counted (reply.Opened number) got → cut ≡ cut_of ((state_of history).openings + 1) (state_of history).ledger kind horizon
+      → 17 + (8 * length cut.claims + 4 * length cut.parties) ≤ spare → ((round : OpenRound) → (state_of history).open_round ≡ Some round → publication_bytes round ≤ spare)
+      → (round : OpenRound) → (state_of later).open_round ≡ Some round → publication_bytes round ≤ spare
+  opened_spared before counted number spare cut told same room was round now = ⊎_elim
+      (λ is. omega (arith, opened_bytes number cut round is same now, room))
+      (λ failed.
+      let kept : (state_of later).open_round ≡ (state_of history).open_round =
+      ap (λ (s : State). s.open_round) (state_more history later (entry_of caller (act.Close kind horizon) got) later_is)
+      ∙ ap (λ (r : Reply). (after caller (act.Close kind horizon) r (state_of history)).open_round) failed.1 in
+      was round (sym kept ∙ now))
+      told
 
 -- a Close that opens nothing is refused, or continues the open round
 close_rows : (P : Reply → Type 0) (n : ℕ) (o : Option OpenRound) (caller : ℕ) (kind : Kind) (horizon : ℕ) → is_opening (close_answer n o caller kind horizon) ≡ false → ((w : Why) → P (reply.Refused w)) → ((m : ℕ) → P (reply.Continued m)) → P (close_answer n o caller kind horizon)

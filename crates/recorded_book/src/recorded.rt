@@ -1,5 +1,5 @@
 //! A book whose accepted acts are in a journal.
-ghost use Rattle.std.specs.Prelude.{◌≡◌, ◌+◌, ◌≤◌, length, Some, is_some, true, false, ◌*◌, All, IsTrue, ℕ, List, IfOk, IfErr, OnOk, OnErr};
+ghost use Rattle.std.specs.Prelude.{◌≡◌, ◌+◌, ◌≤◌, ◌++◌, ◌∷◌, [], length, Some, is_some, true, false, ◌*◌, All, IsTrue, ℕ, List, IfOk, IfErr, OnOk, OnErr};
 ghost use Rattle.setoff_model.specs.Setoff.{total_of};
 ghost use Rattle.setoff_model.specs.CutView.{WellFormed};
 ghost use Rattle.claim_history.specs.Cut.{cut_of};
@@ -10,8 +10,8 @@ ghost use Rattle.claim_history.specs.declared.act.Act.TheVariants as acts;
 ghost use Rattle.claim_history.specs.declared.entry.Reply.TheVariants as replies;
 ghost use Rattle.claim_history.specs.Acts.{is_valid, is_publication, is_day, is_close};
 ghost use Rattle.claim_history.specs.States.{state_of};
-ghost use Rattle.claim_history.specs.History.{answer_of, is_opening, is_accepted};
-ghost use Rattle.claim_history.specs.Needs.{body_length_of, is_full};
+ghost use Rattle.claim_history.specs.History.{answer_of, is_opening, is_accepted, is_no_refusal, MayFollow};
+ghost use Rattle.claim_history.specs.Needs.{body_length_of, is_full, Fits};
 ghost use Rattle.claim_book.specs.Book.{room_for, GivesCut, ledger_of, open_cut_of};
 ghost use Rattle.journal_replay.specs.Replays.{history_of, AreSound};
 ghost use Rattle.round_journal.specs.Opened.{IsOpen};
@@ -27,7 +27,7 @@ use crate::not_abandoned::NotAbandoned;
 use crate::recorder::Recorder;
 use act_bodies::body_length;
 use claim_book::Book;
-use claim_history::{Act, Day, Entry, Reply, Why};
+use claim_history::{Act, Day, Entry, Reply, Why, accepted};
 use disk_model::Disk;
 use limited_book::{Full, LimitedBook};
 use round_journal::Journal;
@@ -158,14 +158,49 @@ impl<D: Disk> RecordedBook<D> {
         ensures room { OnOk result (room_for (state_of self.old.book.history) act ≤ self.new.book.room + 1) }
         ensures later { IsLater D.seen self.old.recorder self.new.recorder }
     {
-        if self.make_room(&act).is_err() {
+        match self.due(caller, &act) {
+            Ok(due) => Ok(self.put(caller, act, due)),
+            Err(error) => {
+                drop(act);
+                Err(error)
+            }
+        }
+    }
+
+    // The reply that is due to such an act, for which there is room, and which is within the limits.
+    fn due(&mut self, caller: u32, act: &Act) -> Result<Reply, ActError>
+        requires caller { 1 ≤ caller }
+        requires valid { is_valid act.now ≡ true }
+        requires apart { is_publication act.now ≡ false }
+        requires other { is_close act.now ≡ false }
+        ensures may { IfOk result (MayBePut self.new caller act.now) }
+        ensures room { OnOk result (room_for (state_of self.old.book.history) act.now ≤ self.new.book.room) }
+        ensures error { IfErr result (IsActError self.old.book.history caller act.now) }
+        ensures untouched { IsUntouched self.old self.new }
+        ensures later { IsLater D.seen self.old.recorder self.new.recorder }
+    {
+        let Ok(due) = self.answer(caller, act) else {
             return Err(ActError::Memory);
+        };
+        if let Err(full) = self.book.fits(caller, act, due) {
+            return Err(error_of(full));
         }
-        let due = self.book.answer(caller, &act);
-        match self.book.fits(caller, &act, due) {
-            Ok(()) => Ok(self.put(caller, act, due)),
-            Err(full) => Err(error_of(full)),
-        }
+        Ok(due)
+    }
+
+    // Makes the room that an act needs, which is no publication, and gives the reply that is due to it. The only error is that
+    // memory is missing.
+    fn answer(&mut self, caller: u32, act: &Act) -> Result<Reply, AllocError>
+        requires valid { is_valid act.now ≡ true }
+        requires apart { is_publication act.now ≡ false }
+        ensures due { IfOk result (λ due. due ≡ answer_of self.old.book.history caller act.now) }
+        ensures room { OnOk result (room_for (state_of self.old.book.history) act.now ≤ self.new.book.room) }
+        ensures spare { OnOk result (body_length_of act.now ≤ self.new.recorder.spare) }
+        ensures untouched { IsUntouched self.old self.new }
+        ensures later { IsLater D.seen self.old.recorder self.new.recorder }
+    {
+        self.make_room(act)?;
+        Ok(self.book.answer(caller, act))
     }
 
     /// Asks a Close of a caller other than the bureau itself. All memory is taken before the disk is called: also that for the
@@ -185,11 +220,10 @@ impl<D: Disk> RecordedBook<D> {
         ensures spared { IsSpared self.old → IsSpared self.new }
         ensures later { IsLater D.seen self.old.recorder self.new.recorder }
     {
-        let act = Act::Close { kind, horizon };
-        if self.make_room(&act).is_err() {
+        let Ok(due) = self.answer(caller, &Act::Close { kind, horizon }) else {
             return Err(ActError::Memory);
-        }
-        match self.book.answer(caller, &act) {
+        };
+        match due {
             Reply::Opened { round } => self.open_round(caller, kind, horizon, round),
             Reply::Refused(why) => self.refuse_round(caller, kind, horizon, why),
             due => self.continue_round(caller, kind, horizon, due),
@@ -225,16 +259,58 @@ impl<D: Disk> RecordedBook<D> {
         let Ok(cut) = self.book.next_cut(self.alloc, kind, horizon) else {
             return Err(ActError::Memory);
         };
-        let Ok(copy) = cut.clone() else {
+        match self.copy_of_next(caller, kind, horizon, &cut) {
+            Ok(copy) => Ok(self.put_opening(caller, kind, horizon, round, cut, copy)),
+            Err(error) => {
+                drop(cut);
+                Err(error)
+            }
+        }
+    }
+
+    // A copy of the cut of the round that a Close opens, which is within the limits. There is room for the body of the round's
+    // publication.
+    fn copy_of_next(
+        &mut self,
+        caller: u32,
+        kind: Kind,
+        horizon: Day,
+        cut: &Cut,
+    ) -> Result<Cut, ActError>
+        requires opens { is_opening (answer_of self.old.book.history caller (acts.Close kind horizon)) ≡ true }
+        requires cut { cut.now ≡ cut_of ((state_of self.old.book.history).openings + 1) (ledger_of self.old.book.history) kind horizon }
+        requires formed { WellFormed cut.now }
+        ensures copy { IfOk result (λ copy. copy ≡ cut.now) }
+        ensures fits { OnOk result (is_full self.old.book.history caller (acts.Close kind horizon) ≡ false) }
+        ensures publication { OnOk result (17 + (8 * length cut.now.claims + 4 * length cut.now.parties) ≤ self.new.recorder.spare) }
+        ensures error { IfErr result (IsActError self.old.book.history caller (acts.Close kind horizon)) }
+        ensures book { self.new.book ≡ self.old.book }
+        ensures journal { self.new.recorder.journal ≡ self.old.recorder.journal }
+        ensures later { IsLater D.seen self.old.recorder self.new.recorder }
+    {
+        let Ok(copy) = self.spared_copy(cut) else {
             return Err(ActError::Memory);
         };
-        if self.reserve_body(publication_length(&cut)).is_err() {
-            return Err(ActError::Memory);
+        match self.book.fits_opening(caller, kind, horizon, cut) {
+            Ok(()) => Ok(copy),
+            Err(full) => {
+                drop(copy);
+                Err(error_of(full))
+            }
         }
-        match self.book.fits_opening(caller, kind, horizon, &cut) {
-            Ok(()) => Ok(self.put_opening(caller, kind, horizon, round, cut, copy)),
-            Err(full) => Err(error_of(full)),
-        }
+    }
+
+    // A copy of a cut, with room for the body of a publication for it. The only error is that memory is missing.
+    fn spared_copy(&mut self, cut: &Cut) -> Result<Cut, AllocError>
+        requires formed { WellFormed cut.now }
+        ensures copy { IfOk result (λ copy. copy ≡ cut.now) }
+        ensures spare { OnOk result (17 + (8 * length cut.now.claims + 4 * length cut.now.parties) ≤ self.new.recorder.spare) }
+        ensures book { self.new.book ≡ self.old.book }
+        ensures journal { self.new.recorder.journal ≡ self.old.recorder.journal }
+        ensures later { IsLater D.seen self.old.recorder self.new.recorder }
+    {
+        self.reserve_body(publication_length(cut))?;
+        cut.clone()
     }
 
     // Puts the entry of a Close at the end that opens a round with this cut.
@@ -259,16 +335,8 @@ impl<D: Disk> RecordedBook<D> {
     {
         let act = Act::Close { kind, horizon };
         let reply = self.recorder.keep(caller, &act, Reply::Opened { round });
-        match reply {
-            Reply::Refused(why) => {
-                self.book.apply(Entry { caller, act, reply });
-                CutReply::Refused(why)
-            }
-            _ => {
-                self.book.apply_close(Entry { caller, act, reply }, cut);
-                CutReply::Frozen(copy)
-            }
-        }
+        apply_opening(&mut self.book, Entry { caller, act, reply }, cut);
+        cut_reply_of(reply, copy)
     }
 
     // Refuses the Close.
@@ -287,12 +355,9 @@ impl<D: Disk> RecordedBook<D> {
         ensures spared { IsSpared self.old → IsSpared self.new }
         ensures later { IsLater D.seen self.old.recorder self.new.recorder }
     {
-        let act = Act::Close { kind, horizon };
         let refusal = Reply::Refused(why);
-        if let Err(full) = self.book.fits(caller, &act, refusal) {
-            return Err(error_of(full));
-        }
-        let _reply = self.put(caller, act, refusal);
+        self.fits_close(caller, kind, horizon, refusal)?;
+        let _reply = self.put_close(caller, kind, horizon, refusal);
         Ok(CutReply::Refused(why))
     }
 
@@ -313,15 +378,37 @@ impl<D: Disk> RecordedBook<D> {
         ensures spared { IsSpared self.old → IsSpared self.new }
         ensures later { IsLater D.seen self.old.recorder self.new.recorder }
     {
-        let act = Act::Close { kind, horizon };
-        if let Err(full) = self.book.fits(caller, &act, due) {
-            return Err(error_of(full));
-        }
+        self.fits_close(caller, kind, horizon, due)?;
         match self.book.book().open_cut(self.alloc) {
-            Ok(Some(cut)) => Ok(cut_reply_of(self.put(caller, act, due), cut)),
+            Ok(Some(cut)) => Ok(cut_reply_of(self.put_close(caller, kind, horizon, due), cut)),
             Ok(None) => unreachable!(),
             Err(_) => Err(ActError::Memory),
         }
+    }
+
+    // Whether a Close that opens no round is within the limits, with the reply that is due to it.
+    fn fits_close(&self, caller: u32, kind: Kind, horizon: Day, due: Reply) -> Result<(), ActError>
+        requires asked { IsCloseDue self.now caller kind horizon due }
+        requires no_opening { is_opening due ≡ false }
+        ensures fits { OnOk result (is_full self.now.book.history caller (acts.Close kind horizon) ≡ false) }
+        ensures error { IfErr result (IsActError self.now.book.history caller (acts.Close kind horizon)) }
+    {
+        match self.book.fits(caller, &Act::Close { kind, horizon }, due) {
+            Ok(()) => Ok(()),
+            Err(full) => Err(error_of(full)),
+        }
+    }
+
+    // Puts the entry of a Close at the end that opens no round.
+    fn put_close(&mut self, caller: u32, kind: Kind, horizon: Day, due: Reply) -> Reply
+        requires asked { IsCloseDue self.old caller kind horizon due }
+        requires no_opening { is_opening due ≡ false }
+        requires fits { is_full self.old.book.history caller (acts.Close kind horizon) ≡ false }
+        ensures acted { HasActed D.seen self.old.recorder.journal.disk self.new.recorder.journal.disk self.old.book.history self.new.book.history caller (acts.Close kind horizon) result }
+        ensures room { 1 ≤ self.new.book.room }
+        ensures later { IsLater D.seen self.old.recorder self.new.recorder }
+    {
+        self.put(caller, Act::Close { kind, horizon }, due)
     }
 
     /// Publishes an outcome that is proved for the cut of the open round, which is the caller's and has this number. It gives the
@@ -382,9 +469,10 @@ impl<D: Disk> RecordedBook<D> {
     {
         let RecordedBook {
             recorder,
-            book: _,
+            book,
             alloc: _,
         } = self;
+        drop(book);
         recorder.close()
     }
 }
@@ -397,12 +485,35 @@ fn publication_length(cut: &Cut) -> usize
     17 + (8 * cut.claims().len() + 4 * cut.parties().len())
 }
 
-// The answer to a Close that got this reply, where this is the open cut.
+// Puts the entry of a Close at the end that opens a round with this cut, or that tells of a device.
+fn apply_opening(book: &mut LimitedBook, entry: Entry, cut: Cut)
+    requires room { room_for (state_of book.old.history) entry.act ≤ book.old.room }
+    requires valid { is_valid entry.act ≡ true }
+    requires apart { is_publication entry.act ≡ false }
+    requires opens { is_opening entry.reply ≡ is_accepted entry }
+    requires next { MayFollow book.old.history entry }
+    requires cut { (kind : Kind) (horizon : ℕ) → entry.act ≡ acts.Close kind horizon → cut ≡ cut_of ((state_of book.old.history).openings + 1) (ledger_of book.old.history) kind horizon }
+    requires fits { Fits book.old.history entry.caller entry.act }
+    ensures history { book.new.history ≡ book.old.history ++ entry ∷ [] }
+    ensures room { book.old.room ≤ book.new.room + 1 }
+{
+    if accepted(&entry) {
+        book.apply_close(entry, cut);
+    } else {
+        drop(cut);
+        book.apply(entry);
+    }
+}
+
+// The answer to a Close that got this reply, where this is the open cut if it is accepted.
 fn cut_reply_of(reply: Reply, cut: Cut) -> CutReply
-    ensures { (history : List Entry) → open_cut_of history ≡ Some cut → IsCutReply reply history result }
+    ensures { (history : List Entry) → (is_no_refusal reply ≡ true → open_cut_of history ≡ Some cut) → IsCutReply reply history result }
 {
     match reply {
-        Reply::Refused(why) => CutReply::Refused(why),
+        Reply::Refused(why) => {
+            drop(cut);
+            CutReply::Refused(why)
+        }
         _ => CutReply::Frozen(cut),
     }
 }
