@@ -1,7 +1,8 @@
 -- How a run of calls goes on.
-use Rattle.std.proofs.Common.{◌≡◌, ⊎_elim, ℕ, List, refl, subst, arith}
+use Rattle.std.proofs.Common.{◌≡◌, ⊎_elim, ℕ, List, refl, subst, arith, rules}
 use Rattle.std.proofs.lemmas.Bool.{cases_lt}
 use Rattle.disk_model.specs.Calls.{Seen, IsPresent, Passes, Torn, After}
+use Rattle.disk_model.specs.Untold.{untold}
 
 -- a write that changed nothing
 pub torn_same : (at n : ℕ) (c : List ℕ) → Torn at n c c
@@ -39,3 +40,7 @@ pub write_then : (at n : ℕ) (a b d : Seen) → Passes a b (After (Torn at n) (
 write_then at n a b d first then =
     let present : (c : List ℕ) → IsPresent b c → After (Torn at n) (IsPresent a) c = present_has a b (After (Torn at n) (IsPresent a)) first (λ c has. (c, has, torn_same at n c)) in
     passes_on a b d (After (Torn at n) (IsPresent a)) first (passes_wide b d (IsPresent b) (After (Torn at n) (IsPresent a)) then present)
+
+-- of a disk that tells no bytes nothing is said
+pub untold_passes : (before after : ℕ) (P : List ℕ → Type 0) → Passes (untold before) (untold after) P
+untold_passes before after P = search rules

@@ -1,0 +1,12 @@
+use Rattle.std.proofs.Common.{ℕ, subst}
+use Rattle.fault_count.specs.Counts.{IsCounted}
+use Rattle.disk_model.specs.Calls.{IsPresent}
+use Rattle.disk_model.specs.Untold.{untold}
+use Rattle.disk_model.proofs.Moments.{untold_passes}
+use Rattle.disk_model.proofs.file_disk.FileDiskDisk.sync.Goals as goal
+
+pub returns-clause-crash : goal.returns-clause-crash
+returns-clause-crash g c = untold_passes c.args.self.now c.counted.new.self (IsPresent (untold c.args.self.now))
+
+pub returns-clause-cause : goal.returns-clause-cause
+returns-clause-cause g c = subst (λ (count : ℕ). IsCounted count c.counted.new.self c.counted.result) c.self.view_is c.counted.ensures
