@@ -26,6 +26,10 @@ pass_then x y z a b c t u p q = record {
   appended = Appends-then x y z p.taken q.taken p.appended q.appended;
 }
 
+-- a line that was put behind what is in the buffer
+pub pass_line : (x y : Option (List ℕ)) (a b now line : List ℕ) → GoesThrough x y a b [] → now ≡ b ++ line → GoesThrough x y a now line
+pass_line x y a b now line p e = subst (λ (items : List ℕ). GoesThrough x y a items line) (sym e) (pass_then x y y a b (b ++ line) [] line p (pass_into y b line))
+
 -- where a step failed, the sink took some first bytes of the whole
 pub part_then : (x y z : Option (List ℕ)) (a b t u : List ℕ) → GoesThrough x y a b t → AppendsPart y z (b ++ u) → AppendsPart x z (a ++ (t ++ u))
 part_then x y z a b t u p q = (

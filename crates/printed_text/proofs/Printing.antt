@@ -265,3 +265,12 @@ statement_is rounds next cut a r number total outcome lt is replied asked =
 -- there is a cut at the place of a published round
 pub within_rounds : (rounds : List CutView) (next : ℕ) (a : Act) → IsPrintableAt rounds next a → next < length rounds
 within_rounds rounds next a is = slice_get_within rounds next is.cut is.cut_is
+
+-- the statement of this cut and this outcome can be written
+pub printable_is : (rounds : List CutView) (next : ℕ) (cut : CutView) (a : Act) (number : ℕ) (outcome : OutcomeView) → (p : IsPrintableAt rounds next a) → cut ≡ get_or rounds next cut → a ≡ act.Publish number outcome → IsPrintable cut outcome
+printable_is rounds next cut a number outcome p is asked =
+    let found : Some cut ≡ Some p.cut = sym (slice_get_read rounds (length rounds) next cut refl (within_rounds rounds next a p) is) ∙ p.cut_is in
+    let same_cut : p.cut ≡ cut = cc in
+    let same_act : act.Publish p.number p.outcome ≡ act.Publish number outcome = sym p.asks ∙ asked in
+    let same_outcome : p.outcome ≡ outcome = cc in
+    subst (λ (c : CutView). IsPrintable c outcome) same_cut (subst (IsPrintable p.cut) same_outcome p.printable)

@@ -21,13 +21,14 @@ pub fn write_memory_line(buffer: &mut Vec<u8>, line: u64)
     put(buffer, b" memory\n");
 }
 
-fn room_name(what: Room) -> &'static [u8]
-    ensures text { result.now ≡ room_text what }
-    ensures short { length result.now ≤ 7 }
+// That there was no room, and for what.
+fn full_words(what: Room) -> &'static [u8]
+    ensures text { result.now ≡ codes " full " ++ room_text what ++ codes " " }
+    ensures short { length result.now ≤ 14 }
 {
     match what {
-        Room::Entries => b"entries",
-        Room::Bytes => b"bytes",
+        Room::Entries => b" full entries ",
+        Room::Bytes => b" full bytes ",
     }
 }
 
@@ -40,19 +41,15 @@ pub fn write_full_line(buffer: &mut Vec<u8>, line: u64, what: Room, needed: u64,
 {
     put(buffer, b"! line ");
     write_whole(buffer, line);
-    put(buffer, b" full ");
-    put(buffer, room_name(what));
-    put(buffer, b" ");
-    write_whole(buffer, needed);
-    put(buffer, b" ");
+    write_place(buffer, full_words(what), needed);
     write_whole(buffer, limit);
     put(buffer, b"\n");
 }
 
 // Words with a space behind them, a number, and a space.
 fn write_place(buffer: &mut Vec<u8>, words: &[u8], number: u64)
-    requires spare { vec_len buffer.old + line_bytes ≤ vec_capacity buffer.old }
-    requires words { length words.now ≤ 11 }
+    requires spare { vec_len buffer.old + 40 ≤ vec_capacity buffer.old }
+    requires words { length words.now ≤ 14 }
     ensures text { buffer.new.items ≡ buffer.old.items ++ (words.now ++ decimal number ++ codes " ") }
     ensures len { vec_len buffer.new ≤ vec_len buffer.old + 40 }
     ensures room { vec_capacity buffer.old ≤ vec_capacity buffer.new }
@@ -60,6 +57,17 @@ fn write_place(buffer: &mut Vec<u8>, words: &[u8], number: u64)
     put(buffer, words);
     write_whole(buffer, number);
     put(buffer, b" ");
+}
+
+// The number of a field.
+fn write_field(buffer: &mut Vec<u8>, field: u32)
+    requires { vec_len buffer.old + 70 ≤ vec_capacity buffer.old }
+    ensures text { buffer.new.items ≡ buffer.old.items ++ (codes "field " ++ decimal field) }
+    ensures len { vec_len buffer.new ≤ vec_len buffer.old + 30 }
+    ensures room { vec_capacity buffer.old ≤ vec_capacity buffer.new }
+{
+    put(buffer, b"field ");
+    write_whole(buffer, u64::from(field));
 }
 
 fn write_cause(buffer: &mut Vec<u8>, cause: LineCause)
@@ -72,10 +80,7 @@ fn write_cause(buffer: &mut Vec<u8>, cause: LineCause)
         LineCause::Lane => put(buffer, b"lane"),
         LineCause::Verb => put(buffer, b"verb"),
         LineCause::Fields => put(buffer, b"fields"),
-        LineCause::Field(k) => {
-            put(buffer, b"field ");
-            write_whole(buffer, u64::from(k));
-        }
+        LineCause::Field(k) => write_field(buffer, k),
     }
 }
 
@@ -101,10 +106,7 @@ fn write_row_cause(buffer: &mut Vec<u8>, cause: RowCause)
     match cause {
         RowCause::Header => put(buffer, b"header"),
         RowCause::Fields => put(buffer, b"fields"),
-        RowCause::Field(k) => {
-            put(buffer, b"field ");
-            write_whole(buffer, u64::from(k));
-        }
+        RowCause::Field(k) => write_field(buffer, k),
     }
 }
 

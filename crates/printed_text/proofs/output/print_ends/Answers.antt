@@ -1,9 +1,10 @@
-use Rattle.std.proofs.Common.{◌+◌, List, ℕ, subst, get_or, drop, arith}
+use Rattle.std.proofs.Common.{◌+◌, List, ℕ, ap, subst, get_or, drop, arith}
+use Rattle.std.proofs.lemmas.List.{drop_all}
 use Rattle.served_lines.specs.declared.answer.Answer.{Answer}
 use Rattle.served_lines.specs.declared.line_end.LineEnd.TheVariants as ends
 use Rattle.printed_text.specs.Printing.{end_text, ends_text}
 use Rattle.setoff_model.proofs.Lists.{on_err}
-use Rattle.printed_text.proofs.Passing.{GoesThroughUpTo, up_more, up_breaks}
+use Rattle.printed_text.proofs.Passing.{GoesThroughUpTo, up_begins, up_breaks, up_ends, up_more}
 use Rattle.printed_text.proofs.Printing.{ends_from}
 use Rattle.printed_text.proofs.output.print_ends.Goals as goal
 
@@ -32,3 +33,15 @@ loop-answer-preserved g c =
       room = c.in_ok-print_end.ensures.room;
       later = omega (arith, c.loop-answer.invariant.later, c.in_ok-print_end.ensures.cause.later);
     }
+
+pub loop-answer-init : goal.loop-answer-init
+loop-answer-init g c = record {
+  passes = up_begins (g.K.Sink.held c.args.sink.now) c.args.buffer.now.items (ends_text c.args.answers.now);
+  room = c.requires.spare;
+  later = omega arith;
+}
+
+pub returns-clause-ok : goal.returns-clause-ok
+returns-clause-ok g c =
+    up_ends (g.K.Sink.held c.args.sink.now) (g.K.Sink.held c.loop-answer.sink) c.args.buffer.now.items c.loop-answer.buffer.items _ (ends_text c.args.answers.now) c.loop-answer.invariant.passes
+    (ap ends_text (drop_all c.loop-answer.answer-index c.args.answers.now c.loop-answer-test.false))

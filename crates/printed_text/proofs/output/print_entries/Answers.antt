@@ -1,6 +1,6 @@
 use Rattle.std.specs.Prelude.{reverse}
 use Rattle.std.proofs.Common.{◌≡◌, ℕ, ◌+◌, ◌++◌, List, drop, length, take, subst, ap, ◌∙◌, arith}
-use Rattle.std.proofs.lemmas.List.{length-reverse}
+use Rattle.std.proofs.lemmas.List.{drop_all, length-reverse}
 use Rattle.claim_history.specs.declared.entry.Entry.{Entry}
 use Rattle.claim_history.specs.declared.entry.Reply.TheVariants as reply
 use Rattle.claim_history.specs.Rounds.{cuts_of, past_cuts}
@@ -8,7 +8,7 @@ use Rattle.bureau_edge.specs.Streams.{AppendsPart}
 use Rattle.printed_text.specs.Writing.{GoesThrough}
 use Rattle.printed_text.specs.Printing.{added_text, entry_text, rounds_in}
 use Rattle.setoff_model.proofs.Lists.{on_err}
-use Rattle.printed_text.proofs.Passing.{GoesThroughUpTo, up_begins, up_more, up_breaks}
+use Rattle.printed_text.proofs.Passing.{GoesThroughUpTo, up_begins, up_breaks, up_ends, up_more}
 use Rattle.printed_text.proofs.Printing.{IsNext, added_from, entry_text_is, next_more, past_next, published_at}
 use Rattle.printed_text.proofs.output.print_entries.Goals as goal
 
@@ -66,3 +66,10 @@ loop-i-preserved g c =
       room = c.in_ok-next.ensures.room;
       later = omega (arith, c.loop-i.invariant.later, c.in_ok-next.ensures.cause.later);
     }
+
+pub returns-clause-ok : goal.returns-clause-ok
+returns-clause-ok g c =
+    let h = c.args.history.now in
+    let i = c.loop-i.i in
+    up_ends (g.K.Sink.held c.args.sink.now) (g.K.Sink.held c.loop-i.sink) c.args.buffer.now.items c.loop-i.buffer.items _ (added_text (take c.args.from h) (drop c.args.from h)) c.loop-i.invariant.passes
+    (ap (λ (rest : List Entry). added_text (take i h) rest) (drop_all i h c.loop-i-test.false))

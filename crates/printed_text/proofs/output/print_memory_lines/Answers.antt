@@ -1,9 +1,10 @@
 use Rattle.std.proofs.Common.{◌≡◌, ◌∙◌, ◌+◌, ◌++◌, List, ℕ, ap, subst, sym, drop, arith}
+use Rattle.std.proofs.lemmas.List.{drop_all}
 use Rattle.request_text.specs.declared.request.Request.{Request}
 use Rattle.served_lines.specs.declared.line_end.LineEnd.TheVariants as ends
 use Rattle.printed_text.specs.Printing.{end_text, ends_text, unanswered}
 use Rattle.setoff_model.proofs.Lists.{on_err}
-use Rattle.printed_text.proofs.Passing.{GoesThroughUpTo, up_more, up_breaks}
+use Rattle.printed_text.proofs.Passing.{GoesThroughUpTo, up_begins, up_breaks, up_ends, up_more}
 use Rattle.printed_text.proofs.Printing.{unanswered_from}
 use Rattle.printed_text.proofs.output.print_memory_lines.Goals as goal
 
@@ -32,3 +33,15 @@ loop-request-preserved g c =
       room = c.in_ok-print_end.ensures.room;
       later = omega (arith, c.loop-request.invariant.later, c.in_ok-print_end.ensures.cause.later);
     }
+
+pub loop-request-init : goal.loop-request-init
+loop-request-init g c = record {
+  passes = up_begins (g.K.Sink.held c.args.sink.now) c.args.buffer.now.items (ends_text (unanswered c.args.requests.now));
+  room = c.requires.spare;
+  later = omega arith;
+}
+
+pub returns-clause-ok : goal.returns-clause-ok
+returns-clause-ok g c =
+    up_ends (g.K.Sink.held c.args.sink.now) (g.K.Sink.held c.loop-request.sink) c.args.buffer.now.items c.loop-request.buffer.items _ (ends_text (unanswered c.args.requests.now)) c.loop-request.invariant.passes
+    (ap (λ (left : List Request). ends_text (unanswered left)) (drop_all c.loop-request.request-index c.args.requests.now c.loop-request-test.false))

@@ -2,8 +2,16 @@ use Rattle.std.proofs.Common.{◌++◌, ◌<◌, ℕ, List, length, subst, arith
 use Rattle.bureau_edge.specs.Streams.{AppendsPart}
 use Rattle.printed_text.specs.Writing.{GoesThrough}
 use Rattle.setoff_model.proofs.Lists.{on_err}
-use Rattle.printed_text.proofs.Printing.{statement_is, within_rounds}
+use Rattle.printed_text.proofs.Printing.{printable_is, statement_is, within_rounds}
 use Rattle.printed_text.proofs.output.print_publication.Goals as goal
+
+pub bounds-rounds-next : goal.bounds-rounds-next
+bounds-rounds-next g c = within_rounds c.args.rounds.now c.args.next c.args.entry.now.act (c.requires.publication c.in-Published.total c.in-Published.is)
+
+pub print_statement-requires-clause-printable : goal.print_statement-requires-clause-printable
+print_statement-requires-clause-printable g c =
+    let p = c.requires.publication c.in-Published.total c.in-Published.is in
+    printable_is c.args.rounds.now c.args.next c.index-rounds-next.result c.args.entry.now.act c.in-Publish.round c.in-Publish.outcome p c.index-rounds-next.is c.in-Publish.is
 
 pub returns-in_err-print_statement-clause-part : goal.returns-in_err-print_statement-clause-part
 returns-in_err-print_statement-clause-part g c =

@@ -1,5 +1,6 @@
 use Rattle.std.proofs.Common.{◌+◌, ◌<◌, ◌++◌, List, ℕ, length, get_or, subst, sym, ap, ◌∙◌, drop, arith}
 use Rattle.std.specs.Prelude.{ℤ, pos}
+use Rattle.std.proofs.lemmas.List.{drop_all}
 use Rattle.std.proofs.lemmas.Int.{to_z-of_z, fits_signed_from_abs}
 use mir.Syntax.{w64}
 use mir.Val.{SFits}
@@ -10,7 +11,7 @@ use Rattle.statement_text.specs.declared.line.Line.TheVariants as line
 use Rattle.statement_text.specs.Statements.{party_lines}
 use Rattle.printed_text.specs.Printing.{line_bytes, lines_bytes}
 use Rattle.setoff_model.proofs.Lists.{on_err}
-use Rattle.printed_text.proofs.Passing.{GoesThroughUpTo, up_more, up_breaks}
+use Rattle.printed_text.proofs.Passing.{GoesThroughUpTo, up_begins, up_breaks, up_ends, up_more}
 use Rattle.printed_text.proofs.Printing.{parties_from}
 use Rattle.printed_text.proofs.statement.print_parties.Goals as goal
 
@@ -45,3 +46,15 @@ loop-i-preserved g c =
       room = c.in_ok-print_party.ensures.room;
       later = omega (arith, c.loop-i.invariant.later, c.in_ok-print_party.ensures.cause.later);
     }
+
+pub loop-i-init : goal.loop-i-init
+loop-i-init g c = record {
+  passes = up_begins (g.K.Sink.held c.args.sink.now) c.args.buffer.now.items (lines_bytes (party_lines c.args.parties.now c.args.prices.now));
+  room = c.requires.spare;
+  later = omega arith;
+}
+
+pub returns-clause-ok : goal.returns-clause-ok
+returns-clause-ok g c =
+    up_ends (g.K.Sink.held c.args.sink.now) (g.K.Sink.held c.loop-i.sink) c.args.buffer.now.items c.loop-i.buffer.items _ (lines_bytes (party_lines c.args.parties.now c.args.prices.now)) c.loop-i.invariant.passes
+    (ap (λ (fs : List Party). lines_bytes (party_lines fs (drop c.loop-i.i c.args.prices.now))) (drop_all c.loop-i.i c.args.parties.now c.loop-i-test.false))

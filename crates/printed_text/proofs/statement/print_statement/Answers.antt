@@ -1,12 +1,24 @@
-use Rattle.std.proofs.Common.{◌≡◌, ℕ, ◌<◌, ◌^◌, ◌++◌, All, refl, sym, subst}
+use Rattle.std.proofs.Common.{◌≡◌, ℕ, ◌<◌, ◌≤◌, ◌^◌, ◌++◌, All, refl, sym, subst}
 use Rattle.std.specs.Prelude.{unsigned_abs}
+use Rattle.setoff_model.specs.Limits.{most_window}
 use Rattle.statement_text.specs.declared.line.Line.TheVariants as line
 use Rattle.statement_text.specs.Statements.{party_lines, claim_lines, statement_bytes}
 use Rattle.printed_text.specs.Printing.{line_bytes, lines_bytes}
 use Rattle.setoff_model.proofs.Lists.{on_err}
 use Rattle.printed_text.proofs.Passing.{on_err_if, on_ok_if}
-use Rattle.printed_text.proofs.Printing.{prices_fit, discharges_fit, statement_of_lists, four_pass, breaks_at_first, breaks_at_second, breaks_at_third, breaks_at_fourth}
+use Rattle.printed_text.proofs.Printing.{spends_fit, rooms_fit, prices_fit, price_each, discharges_fit, discharge_each, statement_of_lists, four_pass, breaks_at_first, breaks_at_second, breaks_at_third, breaks_at_fourth}
 use Rattle.printed_text.proofs.statement.print_statement.Goals as goal
+
+pub print_parties-requires-clause-spends : goal.print_parties-requires-clause-spends
+print_parties-requires-clause-spends g c =
+    subst (All (λ f. f.spend ≤ most_window)) (sym c.parties.ensures) (spends_fit c.args.cut.now c.args.outcome.now c.requires.printable)
+
+pub print_parties-requires-clause-rooms : goal.print_parties-requires-clause-rooms
+print_parties-requires-clause-rooms g c =
+    subst (All (λ f. f.room ≤ most_window)) (sym c.parties.ensures) (rooms_fit c.args.cut.now c.args.outcome.now c.requires.printable)
+
+pub print_parties-requires-clause-price_each : goal.print_parties-requires-clause-price_each
+print_parties-requires-clause-price_each g c = rw (c.prices.ensures, c.parties.ensures) (price_each c.args.cut.now c.args.outcome.now c.requires.printable)
 
 pub print_parties-requires-clause-prices : goal.print_parties-requires-clause-prices
 print_parties-requires-clause-prices g c =
@@ -15,6 +27,9 @@ print_parties-requires-clause-prices g c =
 pub print_claims-requires-clause-discharges : goal.print_claims-requires-clause-discharges
 print_claims-requires-clause-discharges g c =
     subst (All (λ (d : ℕ). d < 10 ^ 18)) (sym c.discharges.ensures) (discharges_fit c.args.cut.now c.args.outcome.now c.requires.printable)
+
+pub print_claims-requires-clause-discharge_each : goal.print_claims-requires-clause-discharge_each
+print_claims-requires-clause-discharge_each g c = rw c.discharges.ensures (discharge_each c.args.cut.now c.args.outcome.now c.requires.printable)
 
 pub returns-in_err-print_head-clause-part : goal.returns-in_err-print_head-clause-part
 returns-in_err-print_head-clause-part g c =
