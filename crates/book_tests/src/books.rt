@@ -1,6 +1,12 @@
 //! Books: limits of accounts, lives of claims, sums and rounds.
+ghost use Rattle.std.specs.Prelude.{◌≡◌, ◌<◌, ◌≤◌, true, false};
+ghost use Rattle.setoff_model.specs.Limits.{most_rounds};
+ghost use Rattle.claim_history.specs.Acts.{is_valid, is_publication};
+ghost use Rattle.claim_history.specs.States.{state_of};
+ghost use Rattle.claim_book.specs.Book.{room_for};
+
 use claim_book::Book;
-use claim_history::{Act, Day, Entry, Position, Reply, Status, Why};
+use claim_history::{AccountFact, Act, Day, Entry, Position, Reply, Status, Why};
 use setoff_model::{Key, Kind, Name};
 use std::alloc::Global;
 use std::process::Abort;
@@ -56,57 +62,33 @@ fn fund(firm: Name, amount: u64) -> Act {
     Act::Fund { firm, amount }
 }
 
-// Asks the book for an act of a caller that opens no round, and puts its entry at the end.
-#[tactic(auto, using(claim_history::proofs::Growth::due_follows))]
-fn ask(rt: &impl Abort, book: &mut Book, caller: u32, act: Act) -> Reply {
-    assert!(rt; act.valid());
-    assert!(rt; !act.publishes());
+// Makes the room that an act needs. The test ends where it is not valid or a publication, or where many rounds were opened.
+fn make_room(rt: &impl Abort, book: &mut Book, act: &Act)
+    ensures valid { is_valid act.now ≡ true }
+    ensures apart { is_publication act.now ≡ false }
+    ensures few { (state_of book.new.history).openings < most_rounds }
+    ensures room { room_for (state_of book.new.history) act.now ≤ book.new.room }
+{
+    assert!(rt; act.valid() && !act.publishes());
     assert!(rt; book.history().len() < 1_000_000);
-    book.reserve(&act).expect(rt, "memory");
+    book.reserve(act).expect(rt, "memory");
+}
+
+// The book gives a caller this reply to an act that opens no round, and the entry is put at its end.
+#[tactic(auto, using(claim_history::proofs::Growth::due_follows))]
+fn is_answered(rt: &impl Abort, book: &mut Book, caller: u32, act: Act, due: Reply) {
+    make_room(rt, book, &act);
     let reply = book.answer(caller, &act);
-    assert!(rt; !matches!(reply, Reply::Opened { .. }));
+    assert!(rt; reply == due && !matches!(reply, Reply::Opened { .. }));
     book.apply(Entry { caller, act, reply });
-    reply
 }
 
 // The book gives a caller these replies, one after another.
 fn replies(rt: &impl Abort, book: &mut Book, caller: u32, acts: Vec<Act>, due: &[Reply]) {
     assert!(rt; acts.len() == due.len());
-    for (place, act) in acts.into_iter().enumerate() {
-        let reply = ask(rt, book, caller, act);
-        assert!(rt; due.get(place) == Some(&reply), "reply {place}");
+    for (act, due) in acts.into_iter().zip(due) {
+        is_answered(rt, book, caller, act, *due);
     }
-}
-
-// ---- stories, each of a new book
-
-#[derive(Clone, Copy)]
-enum Story {
-    LimitsHold,
-    ClaimLives,
-    AllIsSummed,
-    ClaimsAreHeld,
-    NewClaimGoesOn,
-    TwoFund(Kind),
-    OnlyTheOwnerContinues,
-}
-
-fn tell(rt: &impl Abort, alloc: Global, book: &mut Book, story: Story) {
-    match story {
-        Story::LimitsHold => limits_hold(rt, alloc, book),
-        Story::ClaimLives => claim_lives(rt, alloc, book),
-        Story::AllIsSummed => all_is_summed(rt, alloc, book),
-        Story::ClaimsAreHeld => claims_are_held(rt, alloc, book),
-        Story::NewClaimGoesOn => new_claim_goes_on(rt, alloc, book),
-        Story::TwoFund(kind) => two_fund(rt, alloc, book, kind),
-        Story::OnlyTheOwnerContinues => only_the_owner_continues(rt, alloc, book),
-    }
-}
-
-// No other function owns a book: to give one up takes long to prove.
-fn on_a_new_book(rt: &impl Abort, alloc: Global, story: Story) {
-    let mut book = Book::new(alloc);
-    tell(rt, alloc, &mut book, story);
 }
 
 // ---- accounts
@@ -147,16 +129,24 @@ fn limits_hold(rt: &impl Abort, alloc: Global, book: &mut Book) {
 }
 
 fn account_is_as_set(rt: &impl Abort, book: &Book) {
-    let account = book.account(name(rt, b"A")).expect(rt, "an account");
-    assert!(rt; account.balance == 10_000 && account.credit == 5_000);
-    assert!(rt; account.ceiling == 10_000 && account.offer == 7);
+    let firm = name(rt, b"A");
+    let account = AccountFact {
+        firm,
+        balance: 10_000,
+        credit: 5_000,
+        ceiling: 10_000,
+        offer: 7,
+    };
+    assert!(rt; book.account(firm) == Some(account));
     assert!(rt; book.account(name(rt, b"B")).is_none());
     assert!(rt; book.accounts().len() == 1 && book.history().len() == 10);
 }
 
 #[test]
 fn limits_of_an_account(rt: HostRuntime) {
-    on_a_new_book(&rt, rt.alloc(), Story::LimitsHold);
+    let mut book = Book::new(rt.alloc());
+    limits_hold(&rt, rt.alloc(), &mut book);
+    drop(book);
 }
 
 // ---- claims
@@ -193,10 +183,15 @@ type Stage = (Reply, Status, u64);
 fn goes_through(rt: &impl Abort, book: &mut Book, parts: &Parts, acts: Vec<Act>, stages: &[Stage]) {
     assert!(rt; acts.len() == stages.len());
     for (act, (due, status, left)) in acts.into_iter().zip(stages) {
-        let reply = ask(rt, book, 1, act);
-        let claim = book.claim(&parts.key).expect(rt, "a claim");
-        assert!(rt; reply == *due && claim.status == *status && claim.left == *left);
+        is_answered(rt, book, 1, act, *due);
+        stands_at(rt, book, &parts.key, *status, *left);
     }
+}
+
+// The claim of a key has this status, and this is left of it.
+fn stands_at(rt: &impl Abort, book: &Book, key: &Key, status: Status, left: u64) {
+    let claim = book.claim(key).expect(rt, "a claim");
+    assert!(rt; claim.status == status && claim.left == left);
 }
 
 fn is_confirmed_in_part(rt: &impl Abort, alloc: Global, book: &mut Book, parts: &Parts) {
@@ -253,7 +248,9 @@ fn claim_lives(rt: &impl Abort, alloc: Global, book: &mut Book) {
 
 #[test]
 fn life_of_a_claim(rt: HostRuntime) {
-    on_a_new_book(&rt, rt.alloc(), Story::ClaimLives);
+    let mut book = Book::new(rt.alloc());
+    claim_lives(&rt, rt.alloc(), &mut book);
+    drop(book);
 }
 
 // ---- a full register
@@ -272,8 +269,7 @@ fn numbered(rt: &impl Abort, number: u32) -> Name {
 
 fn registers(rt: &impl Abort, book: &mut Book, number: u32, due: Reply) {
     let firm = numbered(rt, number);
-    let reply = ask(rt, book, 1, Act::Firm { firm });
-    assert!(rt; reply == due);
+    is_answered(rt, book, 1, Act::Firm { firm }, due);
 }
 
 fn fill_with_firms(rt: &impl Abort, book: &mut Book) {
@@ -304,9 +300,9 @@ fn ring_parts(rt: &impl Abort, alloc: Global, number: u32) -> Parts {
 
 // Lets a firm owe another an amount, on a claim that is filed and confirmed.
 fn owe(rt: &impl Abort, book: &mut Book, parts: &Parts, amount: u64) {
-    let filed = ask(rt, book, 1, file(parts.key, parts.a, amount, parts.due));
-    let confirmed = ask(rt, book, 1, confirm(parts.key, parts.a));
-    assert!(rt; filed == Reply::Done && confirmed == Reply::Done);
+    let filed = file(parts.key, parts.a, amount, parts.due);
+    is_answered(rt, book, 1, filed, Reply::Done);
+    is_answered(rt, book, 1, confirm(parts.key, parts.a), Reply::Done);
 }
 
 // Lets firms owe the next ones in a ring, on each claim a cent more than its number.
@@ -338,7 +334,9 @@ fn all_is_summed(rt: &impl Abort, alloc: Global, book: &mut Book) {
 // A book that looked through its entries for each answer would not end within a test's time.
 #[test]
 fn sums_of_a_full_register(rt: HostRuntime) {
-    on_a_new_book(&rt, rt.alloc(), Story::AllIsSummed);
+    let mut book = Book::new(rt.alloc());
+    all_is_summed(&rt, rt.alloc(), &mut book);
+    drop(book);
 }
 
 // ---- rounds
@@ -391,9 +389,7 @@ fn fill(rt: &impl Abort, alloc: Global, book: &mut Book, circle: &Circle) {
 // Opens round 1 of caller 1.
 fn open(rt: &impl Abort, alloc: Global, book: &mut Book, kind: Kind, horizon: Day) {
     let act = Act::Close { kind, horizon };
-    assert!(rt; act.valid());
-    assert!(rt; book.history().len() < 1_000_000);
-    book.reserve(&act).expect(rt, "memory");
+    make_room(rt, book, &act);
     let reply = book.answer(1, &act);
     assert!(rt; matches!(reply, Reply::Opened { round: 1 }));
     let cut = book.next_cut(alloc, kind, horizon).expect(rt, "memory");
@@ -428,14 +424,18 @@ fn others_are_frozen(rt: &impl Abort, alloc: Global, book: &mut Book, circle: &C
 }
 
 fn bureau_abandons(rt: &impl Abort, book: &mut Book, circle: &Circle) {
-    let not_owner = ask(rt, book, 2, Act::Abandon);
-    assert!(rt; not_owner == Reply::Refused(Why::NotOwner { round: 1 }));
-    let abandoned = ask(rt, book, 0, Act::Abandon);
-    assert!(rt; abandoned == Reply::Abandoned { round: 1 });
+    let not_owner = Reply::Refused(Why::NotOwner { round: 1 });
+    is_answered(rt, book, 2, Act::Abandon, not_owner);
+    is_answered(rt, book, 0, Act::Abandon, Reply::Abandoned { round: 1 });
     assert!(rt; book.open_round().is_none() && book.owner().is_none());
-    let disputed = ask(rt, book, 2, dispute(circle.owed_by_a, circle.a));
-    let no_round = ask(rt, book, 1, Act::Abandon);
-    assert!(rt; disputed == Reply::Done && no_round == Reply::Refused(Why::NoRound));
+    is_answered(
+        rt,
+        book,
+        2,
+        dispute(circle.owed_by_a, circle.a),
+        Reply::Done,
+    );
+    is_answered(rt, book, 1, Act::Abandon, Reply::Refused(Why::NoRound));
 }
 
 fn claims_are_held(rt: &impl Abort, alloc: Global, book: &mut Book) {
@@ -446,7 +446,9 @@ fn claims_are_held(rt: &impl Abort, alloc: Global, book: &mut Book) {
 
 #[test]
 fn others_while_a_round_is_open(rt: HostRuntime) {
-    on_a_new_book(&rt, rt.alloc(), Story::ClaimsAreHeld);
+    let mut book = Book::new(rt.alloc());
+    claims_are_held(&rt, rt.alloc(), &mut book);
+    drop(book);
 }
 
 fn new_claim_goes_on(rt: &impl Abort, alloc: Global, book: &mut Book) {
@@ -459,13 +461,14 @@ fn new_claim_goes_on(rt: &impl Abort, alloc: Global, book: &mut Book) {
         dispute(key, circle.a),
     ];
     replies(rt, book, 2, acts.expect(rt, "memory"), &[Reply::Done; 4]);
-    let claim = book.claim(&key).expect(rt, "a claim");
-    assert!(rt; claim.status == Status::Disputed && claim.left == 300);
+    stands_at(rt, book, &key, Status::Disputed, 300);
 }
 
 #[test]
 fn claims_outside_the_cut_go_on(rt: HostRuntime) {
-    on_a_new_book(&rt, rt.alloc(), Story::NewClaimGoesOn);
+    let mut book = Book::new(rt.alloc());
+    new_claim_goes_on(&rt, rt.alloc(), &mut book);
+    drop(book);
 }
 
 // A party and another firm fund in a round of this kind.
@@ -487,8 +490,11 @@ fn two_fund(rt: &impl Abort, alloc: Global, book: &mut Book, kind: Kind) {
 
 #[test]
 fn funds_are_held_in_a_funded_round_alone(rt: HostRuntime) {
-    on_a_new_book(&rt, rt.alloc(), Story::TwoFund(Kind::Plain));
-    on_a_new_book(&rt, rt.alloc(), Story::TwoFund(Kind::Funded));
+    for kind in [Kind::Plain, Kind::Funded] {
+        let mut book = Book::new(rt.alloc());
+        two_fund(&rt, rt.alloc(), &mut book, kind);
+        drop(book);
+    }
 }
 
 fn keeps_the_cut(rt: &impl Abort, book: &Book) {
@@ -507,13 +513,14 @@ fn only_the_owner_continues(rt: &impl Abort, alloc: Global, book: &mut Book) {
         (1, Kind::Plain, Reply::Continued { round: 1 }),
     ];
     for (caller, kind, due) in cases {
-        let reply = ask(rt, book, caller, Act::Close { kind, horizon });
-        assert!(rt; reply == due);
+        is_answered(rt, book, caller, Act::Close { kind, horizon }, due);
     }
     keeps_the_cut(rt, book);
 }
 
 #[test]
 fn a_close_continues_its_own_round_alone(rt: HostRuntime) {
-    on_a_new_book(&rt, rt.alloc(), Story::OnlyTheOwnerContinues);
+    let mut book = Book::new(rt.alloc());
+    only_the_owner_continues(&rt, rt.alloc(), &mut book);
+    drop(book);
 }
