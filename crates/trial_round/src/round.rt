@@ -6,7 +6,7 @@ ghost use Rattle.claim_history.specs.History.{AreValid, IsLegal};
 ghost use Rattle.claim_history.specs.Rounds.{cuts_after};
 ghost use Rattle.served_lines.specs.Served.{IsServed};
 ghost use Rattle.trial_round.specs.Trial.{AreSums, IsTrialSize, trial_batch, trial_cut};
-ghost use Rattle.trial_round.specs.Round.{EndsWith, HasRound};
+ghost use Rattle.trial_round.specs.Round.{EndsWith, HasRound, HasServedAlone};
 ghost use Rattle.trial_round.specs.Opening.{IsWant};
 
 use crate::input::trial_batch;
@@ -14,8 +14,9 @@ use batch_runs::{Unhindered, some_device};
 use bureau_desk::{Desk, DeskCause, DeskRefused};
 use claim_history::{Act, Entry, publications_are_greatest};
 use disk_model::MemoryDisk;
-use lane_runner::run_batch;
+use lane_runner::{BatchEnd, run_batch};
 use level_solver::LevelSolver;
+use request_text::Batch;
 use round_cut::cut_of_a_history_is_of_its_facts;
 use served_lines::{Answer, no_line_is_full_within_the_bound, some_memory};
 use setoff_checker::{Checker, Verdict};
@@ -136,6 +137,49 @@ fn judge(
     sums_of_round(alloc, firms, claims, seed, history, rounds)
 }
 
+// Serves a batch on a desk of its own, whose disk is empty and in memory. The one error is want of memory.
+fn serve_alone<R: Threads + Wait + Sync>(
+    rt: &R,
+    alloc: Global,
+    batch: &Batch,
+) -> Result<BatchEnd<MemoryDisk>, AllocError>
+    ensures { IfOk result (λ end. HasServedAlone batch.now end.desk end.answers) }
+{
+    let desk = open_desk(alloc)?;
+    let end = run_batch(
+        rt,
+        alloc,
+        desk,
+        batch,
+        &LevelSolver::new(),
+        &Unhindered,
+        &Unhindered,
+    );
+    Ok(end)
+}
+
+// What the round of a trial came to that was served so. The one error is want of memory.
+fn judge_end(
+    alloc: Global,
+    firms: u32,
+    claims: u32,
+    seed: u32,
+    end: &BatchEnd<MemoryDisk>,
+) -> Result<Sums, AllocError>
+    requires size { IsTrialSize firms claims }
+    requires served { HasServedAlone (trial_batch firms claims seed) end.now.desk end.now.answers }
+    ensures { IfOk result (λ sums. AreSums (trial_cut firms claims seed) sums.claims sums.parties sums.total) }
+{
+    match &end.answers {
+        Some(answers) => {
+            let history = end.desk.book().history();
+            let rounds = end.desk.rounds();
+            judge(alloc, firms, claims, seed, answers.list(), history, rounds)
+        }
+        None => Err(AllocError),
+    }
+}
+
 /// Draws the input of a trial, serves it on a desk on a disk in memory, and judges its round. The one error is want of memory.
 pub fn serve_trial<R: Threads + Wait + Sync>(
     rt: &R,
@@ -148,27 +192,10 @@ pub fn serve_trial<R: Threads + Wait + Sync>(
     ensures { IfOk result (λ sums. AreSums (trial_cut firms claims seed) sums.claims sums.parties sums.total) }
 {
     let batch = trial_batch(alloc, firms, claims, seed)?;
-    let desk = open_desk(alloc)?;
-    let end = run_batch(
-        rt,
-        alloc,
-        desk,
-        &batch,
-        &LevelSolver::new(),
-        &Unhindered,
-        &Unhindered,
-    );
-    let Some(answers) = &end.answers else {
-        return Err(AllocError);
-    };
-    let history = end.desk.book().history();
-    judge(
-        alloc,
-        firms,
-        claims,
-        seed,
-        answers.list(),
-        history,
-        end.desk.rounds(),
-    )
+    let end = serve_alone(rt, alloc, &batch);
+    drop(batch);
+    let end = end?;
+    let sums = judge_end(alloc, firms, claims, seed, &end);
+    drop(end);
+    sums
 }
