@@ -1,11 +1,17 @@
 -- Batches that are served on a desk in turn.
-use Rattle.std.specs.Prelude.{◌≡◌, ℕ, List, [], ◌++◌, Option, Some, None}
+use Rattle.std.specs.Prelude.{◌≡◌, ◌||◌, ℕ, List, [], ◌++◌, Option, Some, None, Result, OnErr, OnOk, length, take, drop}
+use Rattle.std.specs.Io.KnownBytes.{Appends}
+use Rattle.std.specs.List.{list_any}
 use Rattle.disk_model.specs.Calls.{Seen}
+use Rattle.claim_history.specs.declared.entry.Entry.{Entry}
+use Rattle.bureau_edge.specs.Streams.{AppendsPart}
+use Rattle.claim_history.specs.Needs.{is_of_device}
 use Rattle.request_text.specs.declared.request.Request.{Request}
 use Rattle.bureau_desk.specs.Desks.{DeskView, base_of}
+use Rattle.lane_runner.specs.Batches.{HasRunBatch}
 use Rattle.served_lines.specs.declared.answer.Answer.{Answer}
-use Rattle.served_lines.specs.Ends.{is_memory_end, is_full_end}
-use Rattle.printed_text.specs.Printing.{unanswered}
+use Rattle.served_lines.specs.Ends.{is_memory_end, is_full_end, has_line_end}
+use Rattle.printed_text.specs.Printing.{printed_of, unanswered}
 use Rattle.printed_text.specs.Writing.{IsWritten}
 use Rattle.batch_runs.specs.declared.tally.Tally.{Tally}
 use Rattle.batch_runs.specs.Runs.{Done, AreOf, AreServed, all_added, text_of, some_device, some_end}
@@ -27,6 +33,20 @@ pub record IsTally (tally : Tally) (done : List Done) : Type 0 where
   pub memory : tally.memory ≡ some_end is_memory_end done
   pub device : tally.device ≡ some_device done
   pub full : tally.full ≡ some_end is_full_end done
+
+-- the text of a batch that was served between two histories
+abbrev pub text_between : (old new : List Entry) → List Request → Option (List Answer) → List ℕ
+text_between old new batch answers = printed_of (take (length old) new) (drop (length old) new) (answers_of batch answers)
+
+-- One batch was served, and counted into a tally. Its text was written after that, or the sink failed at it.
+pub record HasToldBatch {D T E : Type 0} (seen : D → Seen) (old new : DeskView D) (batch : List Request) (before after : Tally) (held_old held_new : Option (List ℕ)) (written : Result T E) : Type 0 where
+  pub answers : Option (List Answer)
+  pub ran : HasRunBatch seen old new batch answers
+  pub memory : after.memory ≡ (before.memory || has_line_end is_memory_end (answers_of batch answers))
+  pub device : after.device ≡ (before.device || list_any (λ e. is_of_device e.reply) (drop (length old.history) new.history))
+  pub full : after.full ≡ (before.full || has_line_end is_full_end (answers_of batch answers))
+  pub ok : OnOk written (Appends held_old held_new (text_between old.history new.history batch answers))
+  pub part : OnErr written (AppendsPart held_old held_new (text_between old.history new.history batch answers))
 
 -- Batches were served in turn, and what each added was written after it was served. They are all, unless a write failed.
 pub record HasRunBatches {D : Type 0} (seen : D → Seen) (old new : DeskView D) (batches : List (List Request)) (held_old held_new : Option (List ℕ)) (status : ℕ) : Type 0 where
