@@ -1,14 +1,16 @@
 -- Rows and the index of their keys.
-use Rattle.std.specs.Prelude.{if◌then◌else◌, take, map, sum_by, count_by}
+use Rattle.std.specs.Prelude.{if◌then◌else◌, take, map, sum_by, count_by, pos, ◌+ℤ◌, ◌-ℤ◌}
 use Rattle.std.specs.List.{list_any}
 use Rattle.std.proofs.Common.{take_all, ◌≡◌, ℕ, ◌+◌, ◌≤◌, Bool, true, false, cond, ◌||◌, List, [], ◌∷◌, ◌++◌, length, refl, sym, ◌∙◌, ap, ap₂, subst, arith}
 use Rattle.std.proofs.lemmas.List.{length-map, take-append-le}
 use Rattle.std.proofs.lemmas.List.Sums.{sum_by-append}
 use Rattle.setoff_model.specs.Same.{same_name, same_key}
 use Rattle.setoff_model.specs.declared.name.Key.{Key}
+use Rattle.claim_history.specs.declared.act.Act.{Act}
+use Rattle.claim_history.specs.declared.act.Act.TheVariants as acts
 use Rattle.claim_history.specs.declared.fact.ClaimFact.{ClaimFact}
 use Rattle.claim_history.specs.declared.fact.AccountFact.{AccountFact}
-use Rattle.fact_tables.specs.Tables.{KeysOnce, FirmsOnce}
+use Rattle.fact_tables.specs.Tables.{KeysOnce, FirmsOnce, RegistersNone, accounts_after, funded, drawn, limited, offered}
 use Rattle.fact_tables.proofs.Places.{count_cons, sum_by-map}
 
 -- ---- one more row
@@ -43,6 +45,10 @@ pub if_same : {X Y : Type 0} (h : X → Y) (b : Bool) (x y : X) → h x ≡ h y 
 if_same h true x y same = same
 if_same h false x y same = refl
 
+-- rows of the same keys are as many
+pub as_long : {X Y : Type 0} (h : X → Y) (ys zs : List X) → map h ys ≡ map h zs → length ys ≡ length zs
+as_long h ys zs same = sym (length-map ys h) ∙ ap length same ∙ length-map zs h
+
 -- what was lent and written comes back whole
 pub took_back : {X : Type 0} (n : ℕ) (ys rest : List X) → length ys ≡ n → take n (ys ++ rest) ≡ ys
 took_back n ys rest long =
@@ -51,10 +57,9 @@ took_back n ys rest long =
     take-append-le n ys rest le ∙ take_all n ys ge
 
 -- the keys of rows that were written in place
-pub written : {X Y : Type 0} (h : X → Y) (step : X → X) (n : ℕ) (ks : List Y) (xs ys zs rest : List X) → ks ≡ map h xs → ((x : X) → h (step x) ≡ h x) → ys ≡ map step zs → zs ≡ xs → length zs ≡ n
-    → ks ≡ map h (take n (ys ++ rest))
-written {X = X} h step n ks xs ys zs rest keys_are same stepped read long =
-    keys_are ∙ ap (map h) (sym read) ∙ sym (same_keys h step zs same) ∙ ap (map h) (sym stepped ∙ sym (took_back n ys rest (ap length stepped ∙ length-map zs step ∙ long)))
+pub written : {X Y : Type 0} (h : X → Y) (n : ℕ) (ks : List Y) (xs ys zs rest : List X) → ks ≡ map h xs → map h ys ≡ map h zs → zs ≡ xs → length zs ≡ n → ks ≡ map h (take n (ys ++ rest))
+written h n ks xs ys zs rest keys_are same read long =
+    keys_are ∙ ap (map h) (sym read) ∙ sym same ∙ ap (map h) (sym (took_back n ys rest (as_long h ys zs same ∙ long)))
 
 -- ---- claims
 
@@ -70,3 +75,21 @@ pub firms_once : (xs ys : List AccountFact) → map (λ a. a.firm) ys ≡ map (�
 firms_once xs ys same once firm =
     let test = λ (f : List ℕ). cond (same_name firm f) 1 0 in
     subst (λ n. n ≤ 1) (sym (sum_by-map test (λ (a : AccountFact). a.firm) xs) ∙ ap (sum_by test) (sym same) ∙ sum_by-map test (λ (a : AccountFact). a.firm) ys) (once firm)
+
+-- an act of another form registers none
+pub registers_none : (a : Act) → ((firm : List ℕ) → a ≡ acts.Firm firm → ⊥) → RegistersNone a
+registers_none (acts.Firm firm) other = other firm refl
+registers_none a other = tt
+
+-- what changes one account leaves the firms
+pub firms_stay : (a : Act) (accounts : List AccountFact) → RegistersNone a → map (λ a. a.firm) (accounts_after a accounts) ≡ map (λ a. a.firm) accounts
+firms_stay (acts.Firm firm) accounts none = absurd none
+firms_stay (acts.Fund firm amount) accounts none =
+    same_keys (λ a. a.firm) (funded firm amount) accounts (λ a. if_same (λ a. a.firm) (same_name firm a.firm) (record a { balance = a.balance +ℤ pos amount }) a refl)
+firms_stay (acts.Draw firm amount) accounts none =
+    same_keys (λ a. a.firm) (drawn firm amount) accounts (λ a. if_same (λ a. a.firm) (same_name firm a.firm) (record a { balance = a.balance -ℤ pos amount }) a refl)
+firms_stay (acts.Limit firm credit ceiling) accounts none =
+    same_keys (λ a. a.firm) (limited firm credit ceiling) accounts (λ a. if_same (λ a. a.firm) (same_name firm a.firm) (record a { credit = credit; ceiling = ceiling }) a refl)
+firms_stay (acts.Offer firm amount) accounts none =
+    same_keys (λ a. a.firm) (offered firm amount) accounts (λ a. if_same (λ a. a.firm) (same_name firm a.firm) (record a { offer = amount }) a refl)
+firms_stay a accounts none = refl

@@ -56,6 +56,11 @@ accounts_after (act.Limit firm credit ceiling) accounts = map (limited firm cred
 accounts_after (act.Offer firm amount) accounts = map (offered firm amount) accounts
 accounts_after _ accounts = accounts
 
+-- the act registers no firm
+abbrev pub RegistersNone : Act → Type 0
+RegistersNone (act.Firm firm) = ⊥
+RegistersNone _ = Unit {0}
+
 -- the accounts after an entry; a refusal changes nothing
 abbrev pub accounts_with : Entry → List AccountFact → List AccountFact
 accounts_with e accounts = if is_accepted e then accounts_after e.act accounts else accounts

@@ -6,7 +6,7 @@ ghost use Rattle.setoff_model.specs.CutView.{WellFormed};
 ghost use Rattle.setoff_model.specs.Same.{same_name};
 ghost use Rattle.claim_history.specs.Acts.{is_valid};
 ghost use Rattle.fact_tables.specs.Settling.{settled_account};
-ghost use Rattle.fact_tables.specs.Tables.{new_account, funded, drawn, limited, offered, accounts_with, FirmsOnce, AreSmall, AreWithin, AreAccounts};
+ghost use Rattle.fact_tables.specs.Tables.{new_account, funded, drawn, limited, offered, accounts_after, accounts_with, RegistersNone, FirmsOnce, AreSmall, AreWithin, AreAccounts};
 
 use crate::guesses::Guesses;
 use claim_history::{AccountFact, Act, Entry, accepted};
@@ -158,6 +158,20 @@ fn change_accounts(accounts: &mut Vec<AccountFact>, names: &mut NameIndex, entry
     }
     match &entry.act {
         Act::Firm { firm } => add_account(accounts, names, firm),
+        act => change_account(accounts, names, act),
+    }
+}
+
+// Changes the account that an act names, which registers no firm.
+fn change_account(accounts: &mut [AccountFact], names: &NameIndex, act: &Act)
+    requires names { names.now.names ≡ map (λ a. a.firm) accounts.old }
+    requires once { FirmsOnce accounts.old }
+    requires small { AreSmall accounts.old }
+    requires valid { is_valid act.now ≡ true }
+    requires other { RegistersNone act.now }
+    ensures { accounts.new ≡ accounts_after act.now accounts.old }
+{
+    match act {
         Act::Fund { firm, amount } => {
             let _ = fund(accounts, names, 0, firm, *amount);
         }
@@ -170,7 +184,8 @@ fn change_accounts(accounts: &mut Vec<AccountFact>, names: &mut NameIndex, entry
             ceiling,
         } => set_limits(accounts, names, firm, *credit, *ceiling),
         Act::Offer { firm, amount } => set_offer(accounts, names, firm, *amount),
-        Act::File { .. }
+        Act::Firm { .. }
+        | Act::File { .. }
         | Act::Confirm { .. }
         | Act::Dispute { .. }
         | Act::Withdraw { .. }
