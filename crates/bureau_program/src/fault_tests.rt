@@ -2,10 +2,11 @@
 
 use crate::journal_tests::TRIANGLE;
 use crate::tests::{
-    FOUR_LINES, disk_of, ended_on, failing_source, is_like, new_disk, program, sink_of, text_with,
+    FOUR_ENTRIES, FOUR_LINES, disk_of, failing_source, is_like, left_by, left_on, lines_with,
+    sink_of, source_of, text_with,
 };
 use disk_model::MemoryDisk;
-use std::alloc::{AllocError, Global};
+use std::alloc::Global;
 use std::process::Abort;
 use std::sync::Wait;
 use std::thread::Threads;
@@ -14,33 +15,14 @@ use std::thread::Threads;
 fn is_audited<R: Abort + Threads + Wait + Sync>(
     rt: &R,
     alloc: Global,
-    bytes: &[u8],
+    journal: &[u8],
     line: Option<&[u8]>,
 ) -> bool {
-    let audit = ended_on(rt, alloc, &["audit"], b"", disk_of(rt, alloc, bytes, 0));
+    let audit = left_by(rt, alloc, &["audit"], b"", journal, 0);
     match line {
-        Some(line) => audit.sink.bytes() == line,
-        None => audit.sink.bytes().starts_with(b"yes acts "),
+        Some(line) => audit.printed.as_slice() == line,
+        None => audit.printed.as_slice().starts_with(b"yes acts "),
     }
-}
-
-// How many lines end with a text, and the last of them among the lines, from 1; 0 where there is none.
-fn lines_with(text: &[u8], end: &[u8]) -> (u64, u64) {
-    let (mut times, mut last, mut line, mut from) = (0_u64, 0_u64, 0_u64, 0);
-    for (place, byte) in text.iter().enumerate() {
-        if *byte == b'\n' {
-            line = line.wrapping_add(1);
-            if text
-                .get(from..place)
-                .is_some_and(|line| line.ends_with(end))
-            {
-                times = times.wrapping_add(1);
-                last = line;
-            }
-            from = place;
-        }
-    }
-    (times, last)
 }
 
 // What an audit tells of the triangle whose call of this number failed.
@@ -57,23 +39,27 @@ fn verdict_after(call: u64) -> Option<&'static [u8]> {
 #[test]
 fn each_call_of_the_triangle_fails(rt: HostRuntime) {
     for call in 1..=48 {
-        let ended = ended_on(
-            &rt,
-            rt.alloc(),
-            &["run"],
-            TRIANGLE,
-            disk_of(&rt, rt.alloc(), b"", call),
-        );
-        assert!(rt; ended.status == 5);
-        let output = ended.sink.bytes();
+        let left = left_by(&rt, rt.alloc(), &["run"], TRIANGLE, b"", call);
+        assert!(rt; left.status == 5);
         if call <= 4 {
-            assert!(rt; output == b"fault device 0 1\n".as_slice());
+            assert!(rt; left.printed.as_slice() == b"fault device 0 1\n".as_slice());
         } else {
             let entry = (call - 5) / 4 + 1;
-            let (times, line) = lines_with(output, b" = refused 18 device 0 1");
+            let (times, line) = lines_with(
+                left.printed.as_slice(),
+                b"",
+                b" = refused 18 device 0 1",
+            );
             assert!(rt; times == 1);
             assert!(rt; line == entry);
-            assert!(rt; is_audited(&rt, rt.alloc(), ended.disk.bytes(), verdict_after(call)));
+            assert!(rt;
+                is_audited(
+                    &rt,
+                    rt.alloc(),
+                    left.journal.as_slice(),
+                    verdict_after(call)
+                )
+            );
         }
     }
 }
@@ -81,63 +67,75 @@ fn each_call_of_the_triangle_fails(rt: HostRuntime) {
 // The last line of the triangle three times, on a disk whose count of faults reaches its last value.
 #[test]
 fn the_count_of_faults_stands_still(rt: HostRuntime) {
-    let input = text_with(rt.alloc(), TRIANGLE, b"1 CLOSE PLAIN 2025-12-31\n", 2).expect(
-        &rt, "memory",
-    );
+    let input = text_with(&rt, rt.alloc(), TRIANGLE, b"1 CLOSE PLAIN 2025-12-31\n", 2);
     let fails = Vec::from_slice(rt.alloc(), &[48, 58]).expect(&rt, "memory");
     let disk = MemoryDisk::with_faults(rt.alloc(), Vec::new(rt.alloc()), fails, u64::MAX - 1);
-    let ended = ended_on(&rt, rt.alloc(), &["run"], input.as_slice(), disk);
-    assert!(rt; ended.status == 5);
+    let source = source_of(&rt, rt.alloc(), input.as_slice());
+    let left = left_on(
+        &rt,
+        rt.alloc(),
+        &["run"],
+        source,
+        sink_of(&rt, rt.alloc(), 0),
+        disk,
+    );
+    assert!(rt; left.status == 5);
     assert!(rt;
         is_like(
-            ended.sink.bytes(),
+            left.printed.as_slice(),
             b"1 FIRM A = ok\n1 FIRM B = ok\n1 FIRM C = ok\n1 FILE B I-1 A 10.00 2025-01-31 = ok\n1 FILE C I-2 B 7.00 2025-01-31 = ok\n1 FILE A I-3 C 12.00 2025-01-31 = ok\n1 CONFIRM B I-1 A = ok\n1 CONFIRM C I-2 B = ok\n1 CONFIRM A I-3 C = ok\n1 CLOSE PLAIN 2025-12-31 = opened 1\n1 PUBLISH 1 = refused 18 device 18446744073709551614 18446744073709551615\n1 CLOSE PLAIN 2025-12-31 = continued 1\n1 PUBLISH 1 = refused 18 device 18446744073709551615 18446744073709551615\n1 CLOSE PLAIN 2025-12-31 = continued 1\n1 PUBLISH 1 = published 21.00\nROUND 1 PLAIN\nPARTY A 0.00 0.00 ?\nPARTY B 0.00 0.00 ?\nPARTY C 0.00 0.00 ?\nCLAIM B I-1 A 10.00 7.00\nCLAIM C I-2 B 7.00 7.00\nCLAIM A I-3 C 12.00 7.00\nEND\n"
         )
     );
-    assert!(rt; ended.disk.bytes().len() == 292);
+    assert!(rt; left.journal.len() == 292);
     assert!(rt;
         is_audited(
             &rt,
             rt.alloc(),
-            ended.disk.bytes(),
+            left.journal.as_slice(),
             Some(b"yes acts 13 rounds 1\n")
         )
     );
 }
 
-// Where the source fails the disk is not called; where the sink fails the acts are on the disk all the same.
+// The calls of a source and of a sink that fail; the status, the output, the calls of the disk, and what an audit tells then.
+type Fault = (u64, u64, u8, &'static [u8], u64, &'static [u8]);
+
+const FAULTS: [Fault; 6] = [
+    (1, 0, 3, b"fault read\n", 0, b"yes acts 0 rounds 0\n"),
+    (2, 0, 3, b"fault read\n", 0, b"yes acts 0 rounds 0\n"),
+    (3, 0, 0, FOUR_ENTRIES, 20, b"yes acts 4 rounds 0\n"),
+    (0, 1, 4, b"", 20, b"yes acts 4 rounds 0\n"),
+    (0, 2, 0, FOUR_ENTRIES, 20, b"yes acts 4 rounds 0\n"),
+    (1, 1, 4, b"", 0, b"yes acts 0 rounds 0\n"),
+];
+
+// The source is called twice, and the sink once: the output is shorter than its buffer. Where the source fails the disk is not
+// called; where the sink fails the acts are on the disk all the same.
 #[test]
 fn a_source_and_a_sink_fail(rt: HostRuntime) {
-    let cases: [(u64, u64, u8, &[u8], u64, &[u8]); 2] = [
-        (1, 0, 3, b"fault read\n", 0, b"yes acts 0 rounds 0\n"),
-        (0, 1, 4, b"", 20, b"yes acts 4 rounds 0\n"),
-    ];
-    for (read, write, status, output, calls, verdict) in cases {
+    for (read, write, status, output, calls, verdict) in FAULTS {
         let source = failing_source(&rt, rt.alloc(), FOUR_LINES, read);
-        let sink = sink_of(&rt, rt.alloc(), write);
-        let ended = program(
+        let left = left_on(
             &rt,
             rt.alloc(),
             &["run"],
             source,
-            sink,
-            new_disk(rt.alloc()),
+            sink_of(&rt, rt.alloc(), write),
+            disk_of(&rt, rt.alloc(), b"", 0),
         );
-        assert!(rt; ended.status == status);
-        assert!(rt; ended.sink.bytes() == output);
-        assert!(rt; ended.disk.moment() == 2 * calls);
-        assert!(rt; is_audited(&rt, rt.alloc(), ended.disk.bytes(), Some(verdict)));
+        assert!(rt; left.status == status);
+        assert!(rt; left.printed.as_slice() == output);
+        assert!(rt; left.calls == calls);
+        assert!(rt; is_audited(&rt, rt.alloc(), left.journal.as_slice(), Some(verdict)));
     }
 }
 
-const POSITION: &[u8] = b"1 POSITION Z\n";
-
 // So many lines of positions, then a Close and one more position.
-fn positions_and_close(alloc: Global, positions: usize) -> Result<Vec<u8>, AllocError> {
-    let mut input = text_with(alloc, b"", POSITION, positions)?;
-    input.extend_from_slice(b"1 CLOSE PLAIN 2025-12-31\n")?;
-    input.extend_from_slice(POSITION)?;
-    Ok(input)
+fn positions_and_close(rt: &impl Abort, alloc: Global, positions: usize) -> Vec<u8> {
+    let mut input = text_with(rt, alloc, b"", b"1 POSITION Z\n", positions);
+    let close = b"1 CLOSE PLAIN 2025-12-31\n1 POSITION Z\n";
+    input.extend_from_slice(close).expect(rt, "memory");
+    input
 }
 
 // Where the history has room for a Close but not for the end of its round, the Close is full; with one entry less before it the
@@ -157,17 +155,11 @@ fn a_history_gets_full(rt: HostRuntime) {
         ),
     ];
     for (positions, status, end) in cases {
-        let input = positions_and_close(rt.alloc(), positions).expect(&rt, "memory");
-        let ended = ended_on(
-            &rt,
-            rt.alloc(),
-            &["run"],
-            input.as_slice(),
-            new_disk(rt.alloc()),
-        );
-        assert!(rt; ended.status == status);
-        assert!(rt; ended.sink.bytes().ends_with(end));
-        let (refused, _) = lines_with(ended.sink.bytes(), b" = refused 3 unknown-firm");
+        let input = positions_and_close(&rt, rt.alloc(), positions);
+        let left = left_by(&rt, rt.alloc(), &["run"], input.as_slice(), b"", 0);
+        assert!(rt; left.status == status);
+        assert!(rt; left.printed.as_slice().ends_with(end));
+        let (refused, _) = lines_with(left.printed.as_slice(), b"", b" = refused 3 unknown-firm");
         assert!(rt; refused == (positions as u64).wrapping_add(1));
     }
 }

@@ -1,11 +1,14 @@
-use crate::tests::{disk_of, ended_on, is_like};
-use std::alloc::{AllocError, Global};
+use crate::tests::{Left, disk_of, is_like, left_by, program, sink_of, source_of};
+use std::alloc::Global;
 use std::process::Abort;
 use std::sync::Wait;
 use std::thread::Threads;
 
 // The header, and the record of the act `1 FIRM A`.
 const ONE_RECORD: &[u8] = b"BUREAUJ1\x01\x00\x00\x00\x07\x00\x00\x00\x01\x01\x01A\x00";
+
+// Its first 18 bytes, which end within the record.
+const SHORT_RECORD: &[u8] = b"BUREAUJ1\x01\x00\x00\x00\x07\x00\x00\x00\x01\x01";
 
 // The same with its record twice, of which the second is refused.
 const RECORD_TWICE: &[u8] =
@@ -40,179 +43,187 @@ type Case = (
     u64,
 );
 
+const JOURNALS: [Case; 14] = [
+    ("run", b"", b"", 0, 0, b"", 9, 4),
+    ("run", TRIANGLE, b"", 0, 0, TRIANGLE_DONE, 262, 48),
+    ("run", TRIANGLE_TWICE, b"", 48, 5, PUBLISHED_LATER, 277, 58),
+    ("run", TRIANGLE, b"", 45, 5, NOT_PUBLISHED, 204, 45),
+    (
+        "run",
+        b"1 FILE B I-1 A 0.00 2025-01-31\n",
+        b"",
+        0,
+        6,
+        b"fault line 1 field 4\n",
+        0,
+        0,
+    ),
+    (
+        "run",
+        b"1 FIRM A\n",
+        ONE_RECORD,
+        0,
+        0,
+        b"1 FIRM A = refused 1 firm-exists\n",
+        21,
+        3,
+    ),
+    (
+        "run",
+        b"",
+        SHORT_RECORD,
+        0,
+        8,
+        b"fault journal 8 short\n",
+        18,
+        3,
+    ),
+    (
+        "run",
+        b"",
+        b"BUREAUJ1\x00\x00\x00\x00\x07\x00\x00\x00\x01\x01",
+        0,
+        0,
+        b"",
+        18,
+        3,
+    ),
+    (
+        "run",
+        b"",
+        b"0123456789",
+        0,
+        8,
+        b"fault journal 0 header\n",
+        10,
+        3,
+    ),
+    (
+        "run",
+        b"",
+        RECORD_TWICE,
+        0,
+        8,
+        b"fault journal 20 refused 1 firm-exists\n",
+        33,
+        3,
+    ),
+    (
+        "audit",
+        b"",
+        RECORD_TWICE,
+        0,
+        1,
+        b"no 20 refused 1 firm-exists\n",
+        33,
+        2,
+    ),
+    ("run", b"", b"", 1, 5, b"fault device 0 1\n", 0, 1),
+    (
+        "audit",
+        b"",
+        ONE_RECORD,
+        0,
+        0,
+        b"yes acts 1 rounds 0\n",
+        21,
+        2,
+    ),
+    (
+        "positions",
+        b"",
+        ONE_RECORD,
+        1,
+        5,
+        b"fault device 0 1\n",
+        21,
+        1,
+    ),
+];
+
 #[test]
 fn journals(rt: HostRuntime) {
-    let cases: [Case; 14] = [
-        ("run", b"", b"", 0, 0, b"", 9, 4),
-        ("run", TRIANGLE, b"", 0, 0, TRIANGLE_DONE, 262, 48),
-        ("run", TRIANGLE_TWICE, b"", 48, 5, PUBLISHED_LATER, 277, 58),
-        ("run", TRIANGLE, b"", 45, 5, NOT_PUBLISHED, 204, 45),
-        (
-            "run",
-            b"1 FILE B I-1 A 0.00 2025-01-31\n",
-            b"",
-            0,
-            6,
-            b"fault line 1 field 4\n",
-            0,
-            0,
-        ),
-        (
-            "run",
-            b"1 FIRM A\n",
-            ONE_RECORD,
-            0,
-            0,
-            b"1 FIRM A = refused 1 firm-exists\n",
-            21,
-            3,
-        ),
-        (
-            "run",
-            b"",
-            &ONE_RECORD[..18],
-            0,
-            8,
-            b"fault journal 8 short\n",
-            18,
-            3,
-        ),
-        (
-            "run",
-            b"",
-            b"BUREAUJ1\x00\x00\x00\x00\x07\x00\x00\x00\x01\x01",
-            0,
-            0,
-            b"",
-            18,
-            3,
-        ),
-        (
-            "run",
-            b"",
-            b"0123456789",
-            0,
-            8,
-            b"fault journal 0 header\n",
-            10,
-            3,
-        ),
-        (
-            "run",
-            b"",
-            RECORD_TWICE,
-            0,
-            8,
-            b"fault journal 20 refused 1 firm-exists\n",
-            33,
-            3,
-        ),
-        (
-            "audit",
-            b"",
-            RECORD_TWICE,
-            0,
-            1,
-            b"no 20 refused 1 firm-exists\n",
-            33,
-            2,
-        ),
-        ("run", b"", b"", 1, 5, b"fault device 0 1\n", 0, 1),
-        (
-            "audit",
-            b"",
-            ONE_RECORD,
-            0,
-            0,
-            b"yes acts 1 rounds 0\n",
-            21,
-            2,
-        ),
-        (
-            "positions",
-            b"",
-            ONE_RECORD,
-            1,
-            5,
-            b"fault device 0 1\n",
-            21,
-            1,
-        ),
-    ];
-    for (word, input, bytes, fails, status, output, length, calls) in cases {
-        let ended = ended_on(
-            &rt,
-            rt.alloc(),
-            &[word],
-            input,
-            disk_of(&rt, rt.alloc(), bytes, fails),
-        );
-        assert!(rt; ended.status == status);
-        assert!(rt; is_like(ended.sink.bytes(), output));
-        assert!(rt; ended.disk.bytes().len() == length);
-        assert!(rt; ended.disk.moment() % 2 == 0);
-        assert!(rt; ended.disk.moment() / 2 == calls);
+    for (word, input, bytes, fails, status, output, length, calls) in JOURNALS {
+        let left = left_by(&rt, rt.alloc(), &[word], input, bytes, fails);
+        assert!(rt; left.status == status);
+        assert!(rt; is_like(left.printed.as_slice(), output));
+        assert!(rt; left.journal.len() == length);
+        assert!(rt; left.calls == calls);
     }
+}
+
+// Two runs on one journal: the input of the first and the call of its disk that fails; the input of the second, its output, the bytes
+// of the journal then, and what an audit tells of them.
+type Days = (
+    &'static [u8],
+    u64,
+    &'static [u8],
+    &'static [u8],
+    usize,
+    &'static [u8],
+);
+
+const DAYS: [Days; 4] = [
+    (b"", 0, b"", b"", 9, b"yes acts 0 rounds 0\n"),
+    (
+        TRIANGLE,
+        45,
+        b"",
+        b"0 ABANDON = abandoned 1\n",
+        214,
+        b"yes acts 11 rounds 0\n",
+    ),
+    (
+        TRIANGLE,
+        0,
+        b"1 POSITION A\n1 FIRM A\n",
+        b"1 POSITION A = balance 0.00 receivable 5.00 payable 3.00\n1 FIRM A = refused 1 firm-exists\n",
+        274,
+        b"yes acts 12 rounds 1\n",
+    ),
+    (
+        TRIANGLE,
+        0,
+        b"1 FILE B I-4 A 6.00 2026-01-31\n1 CONFIRM B I-4 A\n1 CLOSE PLAIN 2026-12-31\n",
+        b"1 FILE B I-4 A 6.00 2026-01-31 = ok\n1 CONFIRM B I-4 A = ok\n1 CLOSE PLAIN 2026-12-31 = opened 2\n1 PUBLISH 2 = published 0.00\nROUND 2 PLAIN\nPARTY A 0.00 0.00 ?\nPARTY B 0.00 0.00 ?\nPARTY C 0.00 0.00 ?\nCLAIM B I-1 A 3.00 0.00\nCLAIM A I-3 C 5.00 0.00\nCLAIM B I-4 A 6.00 0.00\nEND\n",
+        383,
+        b"yes acts 15 rounds 2\n",
+    ),
+];
+
+// What a second run leaves on the journal of a first one.
+fn second_day<R: Abort + Threads + Wait + Sync>(
+    rt: &R,
+    alloc: Global,
+    first: &[u8],
+    fails: u64,
+    second: &[u8],
+) -> Left {
+    let day = left_by(rt, alloc, &["run"], first, b"", fails);
+    left_by(rt, alloc, &["run"], second, day.journal.as_slice(), 0)
+}
+
+// Whether an audit of a journal finds it sound, and tells this.
+fn is_audited<R: Abort + Threads + Wait + Sync>(
+    rt: &R,
+    alloc: Global,
+    journal: &[u8],
+    verdict: &[u8],
+) -> bool {
+    let audit = left_by(rt, alloc, &["audit"], b"", journal, 0);
+    audit.status == 0 && audit.printed.as_slice() == verdict
 }
 
 // A second run goes on where the first ended, and ends the round that a failed publication left open.
 #[test]
 fn days_on_one_journal(rt: HostRuntime) {
-    let cases: [(&[u8], u64, &[u8], &[u8], usize, &[u8]); 4] = [
-        (b"", 0, b"", b"", 9, b"yes acts 0 rounds 0\n"),
-        (
-            TRIANGLE,
-            45,
-            b"",
-            b"0 ABANDON = abandoned 1\n",
-            214,
-            b"yes acts 11 rounds 0\n",
-        ),
-        (
-            TRIANGLE,
-            0,
-            b"1 POSITION A\n1 FIRM A\n",
-            b"1 POSITION A = balance 0.00 receivable 5.00 payable 3.00\n1 FIRM A = refused 1 firm-exists\n",
-            274,
-            b"yes acts 12 rounds 1\n",
-        ),
-        (
-            TRIANGLE,
-            0,
-            b"1 FILE B I-4 A 6.00 2026-01-31\n1 CONFIRM B I-4 A\n1 CLOSE PLAIN 2026-12-31\n",
-            b"1 FILE B I-4 A 6.00 2026-01-31 = ok\n1 CONFIRM B I-4 A = ok\n1 CLOSE PLAIN 2026-12-31 = opened 2\n1 PUBLISH 2 = published 0.00\nROUND 2 PLAIN\nPARTY A 0.00 0.00 ?\nPARTY B 0.00 0.00 ?\nPARTY C 0.00 0.00 ?\nCLAIM B I-1 A 3.00 0.00\nCLAIM A I-3 C 5.00 0.00\nCLAIM B I-4 A 6.00 0.00\nEND\n",
-            383,
-            b"yes acts 15 rounds 2\n",
-        ),
-    ];
-    for (first, fails, second, output, length, verdict) in cases {
-        let day = ended_on(
-            &rt,
-            rt.alloc(),
-            &["run"],
-            first,
-            disk_of(&rt, rt.alloc(), b"", fails),
-        );
-        let day = ended_on(
-            &rt,
-            rt.alloc(),
-            &["run"],
-            second,
-            disk_of(&rt, rt.alloc(), day.disk.bytes(), 0),
-        );
+    for (first, fails, second, output, length, verdict) in DAYS {
+        let day = second_day(&rt, rt.alloc(), first, fails, second);
         assert!(rt; day.status == 0);
-        assert!(rt; is_like(day.sink.bytes(), output));
-        assert!(rt; day.disk.bytes().starts_with(b"BUREAUJ1"));
-        assert!(rt; day.disk.bytes().len() == length);
-        let audit = ended_on(
-            &rt,
-            rt.alloc(),
-            &["audit"],
-            b"",
-            disk_of(&rt, rt.alloc(), day.disk.bytes(), 0),
-        );
-        assert!(rt; audit.status == 0);
-        assert!(rt; audit.sink.bytes() == verdict);
+        assert!(rt; is_like(day.printed.as_slice(), output));
+        assert!(rt; day.journal.as_slice().starts_with(b"BUREAUJ1"));
+        assert!(rt; day.journal.len() == length);
+        assert!(rt; is_audited(&rt, rt.alloc(), day.journal.as_slice(), verdict));
     }
 }
 
@@ -220,34 +231,47 @@ fn days_on_one_journal(rt: HostRuntime) {
 const GATES: [usize; 12] = [8, 20, 32, 44, 74, 104, 134, 152, 170, 188, 203, 261];
 
 // Which of the numbers of acts a line of an audit tells; None where it tells something else.
-fn acts_told(alloc: Global, told: &[u8]) -> Result<Option<usize>, AllocError> {
+fn acts_told(rt: &impl Abort, alloc: Global, told: &[u8]) -> Option<usize> {
     for acts in 0..GATES.len() {
         let rounds = if acts == 11 { 1 } else { 0 };
-        let line = format!(in alloc; "yes acts {acts} rounds {rounds}\n")?;
+        let line = format!(in alloc; "yes acts {acts} rounds {rounds}\n").expect(rt, "memory");
         if told == line.as_bytes() {
-            return Ok(Some(acts));
+            return Some(acts);
         }
     }
-    Ok(None)
+    None
 }
 
 // How many acts an image holds.
 fn acts_of<R: Abort + Threads + Wait + Sync>(rt: &R, alloc: Global, image: &[u8]) -> usize {
-    let audit = ended_on(rt, alloc, &["audit"], b"", disk_of(rt, alloc, image, 0));
-    acts_told(alloc, audit.sink.bytes())
-        .expect(rt, "memory")
-        .expect(rt, "some first acts")
+    let audit = left_by(rt, alloc, &["audit"], b"", image, 0);
+    acts_told(rt, alloc, audit.printed.as_slice()).expect(rt, "some first acts")
 }
 
-// A crash at any moment leaves some first acts of the triangle, with all that were answered by then: the opening has four
-// calls and each act four.
+// Whether an image of a moment holds some first acts of a journal, with all that were answered by then: the opening has four calls
+// and each act four.
+fn holds_answered<R: Abort + Threads + Wait + Sync>(
+    rt: &R,
+    alloc: Global,
+    journal: &[u8],
+    moment: u64,
+    image: &[u8],
+) -> bool {
+    let acts = acts_of(rt, alloc, image);
+    let gate = *GATES.get(acts).expect(rt, "a gate");
+    let kept = journal.get(..gate).expect(rt, "the records");
+    acts as u64 >= (moment / 8).saturating_sub(1) && (acts == 0 || image.starts_with(kept))
+}
+
+// A crash at any moment leaves some first acts of the triangle, with all that were answered by then.
 #[test]
 fn every_crash_of_the_triangle(rt: HostRuntime) {
-    let ended = ended_on(
+    let ended = program(
         &rt,
         rt.alloc(),
         &["run"],
-        TRIANGLE,
+        source_of(&rt, rt.alloc(), TRIANGLE),
+        sink_of(&rt, rt.alloc(), 0),
         disk_of(&rt, rt.alloc(), b"", 0),
     );
     for moment in 0..=ended.disk.moment() {
@@ -256,11 +280,16 @@ fn every_crash_of_the_triangle(rt: HostRuntime) {
                 .disk
                 .image(rt.alloc(), moment, pick)
                 .expect(&rt, "memory");
-            let acts = acts_of(&rt, rt.alloc(), &image);
-            let gate = *GATES.get(acts).expect(&rt, "a gate");
-            assert!(rt; acts as u64 >= (moment / 8).saturating_sub(1));
-            let kept = ended.disk.bytes().get(..gate).expect(&rt, "the records");
-            assert!(rt; acts == 0 || image.starts_with(kept));
+            assert!(rt;
+                holds_answered(
+                    &rt,
+                    rt.alloc(),
+                    ended.disk.bytes(),
+                    moment,
+                    image.as_slice()
+                )
+            );
         }
     }
+    drop(ended);
 }

@@ -3,15 +3,16 @@ ghost use Rattle.std.specs.Prelude.{◌≡◌, ◌+◌, ◌≤◌, true, length}
 ghost use Rattle.fault_count.specs.Counts.{HasRisen, next_count};
 ghost use Rattle.disk_model.specs.Untold.{untold};
 
-use crate::tests::{ended_on, is_like, new_disk, program, sink_of, source_of, words_of};
+use crate::tests::{disk_of, expect_end, is_like, program, sink_of, source_of, words_of};
 use crate::top::bureau;
 use bureau_edge::{BytesSink, Failed, Sink};
 use disk_model::{Disk, DiskFailed, MemoryDisk};
 use fault_count::next_count;
 use lane_runner::Gate;
 use shared_bureau::Pause;
-use std::alloc::{AllocError, Global};
+use std::alloc::Global;
 use std::marker::Model;
+use std::process::Abort;
 use std::sync::Wait;
 use std::sync::atomic::{AtomicU64, Ordering};
 use std::thread;
@@ -42,9 +43,7 @@ const LANES: [(&[u8], u8, &[u8]); 6] = [
 #[test]
 fn lanes(rt: HostRuntime) {
     for (input, status, output) in LANES {
-        let ended = ended_on(&rt, rt.alloc(), &["run"], input, new_disk(rt.alloc()));
-        assert!(rt; ended.status == status);
-        assert!(rt; ended.sink.bytes() == output);
+        expect_end(&rt, rt.alloc(), &["run"], input, status, output);
     }
 }
 
@@ -120,14 +119,14 @@ impl Pause for HoldsRound<'_> {
 #[test]
 fn others_are_answered_while_a_round_is_solved(rt: HostRuntime) {
     let signs = Signs::new();
-    let words = words_of(rt.alloc(), &["run"]).expect(&rt, "memory");
+    let words = words_of(&rt, rt.alloc(), &["run"]);
     let ended = bureau(
         &rt,
         rt.alloc(),
         words,
         source_of(&rt, rt.alloc(), WITH_SECOND),
         sink_of(&rt, rt.alloc(), 0),
-        new_disk(rt.alloc()),
+        disk_of(&rt, rt.alloc(), b"", 0),
         HoldsSecond(&signs),
         HoldsRound(&signs),
     );
@@ -150,15 +149,15 @@ struct Calls {
 }
 
 impl Calls {
-    fn new(alloc: Global) -> Result<Calls, AllocError> {
+    fn new(rt: &impl Abort, alloc: Global) -> Calls {
         let mut places = Vec::new(alloc);
         for _ in 0..500 {
-            places.push(AtomicU64::new(0))?;
+            places.push(AtomicU64::new(0)).expect(rt, "memory");
         }
-        Ok(Calls {
+        Calls {
             next: AtomicU64::new(0),
             places,
-        })
+        }
     }
 
     fn note(&self, call: u64) {
@@ -169,17 +168,17 @@ impl Calls {
     }
 
     // The calls, with one for several of a kind in a row.
-    fn kinds(&self, alloc: Global) -> Result<Vec<u64>, AllocError> {
+    fn kinds(&self, rt: &impl Abort, alloc: Global) -> Vec<u64> {
         let mut kinds = Vec::new(alloc);
         let mut last = 0;
         for place in &self.places {
             let call = place.load(Ordering::SeqCst);
             if call != last && call != 0 {
-                kinds.push(call)?;
+                kinds.push(call).expect(rt, "memory");
             }
             last = call;
         }
-        Ok(kinds)
+        kinds
     }
 }
 
@@ -295,13 +294,13 @@ impl Disk for NotingDisk<'_> {
 // calls at the opening are the first.
 #[test]
 fn a_batch_is_written_after_its_last_call_of_the_disk(rt: HostRuntime) {
-    let calls = Calls::new(rt.alloc()).expect(&rt, "memory");
+    let calls = Calls::new(&rt, rt.alloc());
     let sink = NotingSink {
         sink: sink_of(&rt, rt.alloc(), 0),
         calls: &calls,
     };
     let disk = NotingDisk {
-        disk: new_disk(rt.alloc()),
+        disk: disk_of(&rt, rt.alloc(), b"", 0),
         faults: 0,
         calls: &calls,
     };
@@ -315,6 +314,6 @@ fn a_batch_is_written_after_its_last_call_of_the_disk(rt: HostRuntime) {
     );
     assert!(rt; ended.status == 0);
     assert!(rt; calls.next.load(Ordering::SeqCst) <= 500);
-    let kinds = calls.kinds(rt.alloc()).expect(&rt, "memory");
+    let kinds = calls.kinds(&rt, rt.alloc());
     assert!(rt; kinds.as_slice() == [DISK_CALL, WRITE, DISK_CALL, WRITE].as_slice());
 }

@@ -2,7 +2,7 @@ use crate::top::{Ended, bureau, without_words};
 use batch_runs::Unhindered;
 use bureau_edge::{BytesSink, BytesSource, Failed, Sink, Source, SureSource};
 use disk_model::{Disk, MemoryDisk};
-use std::alloc::{AllocError, Global};
+use std::alloc::Global;
 use std::process::Abort;
 use std::sync::Wait;
 use std::thread::Threads;
@@ -10,7 +10,7 @@ use std::thread::Threads;
 pub(crate) const FOUR_LINES: &[u8] =
     b"1 FIRM A\n1 FIRM B\r\n1 FILE B I-1 A 10.00 2025-01-31\n1 CONFIRM B I-1 A";
 
-const FOUR_ENTRIES: &[u8] =
+pub(crate) const FOUR_ENTRIES: &[u8] =
     b"1 FIRM A = ok\n1 FIRM B = ok\n1 FILE B I-1 A 10.00 2025-01-31 = ok\n1 CONFIRM B I-1 A = ok\n";
 
 // An account between its limits: drawn to the floor, and funded to the ceiling.
@@ -27,24 +27,72 @@ const CLAIM_LINES: &[u8] =
 const CLAIM_ENTRIES: &[u8] =
     b"1 FIRM A = ok\n1 FIRM B = ok\n1 FILE B I-1 A 10.00 2025-01-31 = ok\n1 RECEIVE B I-1 10.01 = refused 11 over-open\n1 CONFIRM B I-1 A = ok\n1 RECEIVE B I-1 4.00 = ok\n1 POSITION A = balance 0.00 receivable 0.00 payable 6.00\n1 POSITION B = balance 0.00 receivable 6.00 payable 0.00\n1 DISPUTE B I-1 B = refused 8 not-debtor\n1 DISPUTE B I-1 A = ok\n1 POSITION A = balance 0.00 receivable 0.00 payable 0.00\n1 DISPUTE B I-1 A = refused 9 wrong-state\n1 WITHDRAW B I-1 = ok\n1 RECEIVE B I-1 1.00 = refused 9 wrong-state\n1 WITHDRAW B I-2 = refused 7 unknown-claim\n";
 
-// A disk in memory without bytes, none of whose calls fails.
-pub(crate) fn new_disk(alloc: Global) -> MemoryDisk {
-    MemoryDisk::new(alloc, Vec::new(alloc), Vec::new(alloc))
+// Inputs, each with the status and the output of its run.
+const RUNS: [(&[u8], u8, &[u8]); 11] = [
+    (FOUR_LINES, 0, FOUR_ENTRIES),
+    (b"", 0, b""),
+    (
+        b"1 FILE B I-1 A 01.00 2025-01-31",
+        6,
+        b"fault line 1 field 4\n",
+    ),
+    (b"1 FIRM A\n\n", 6, b"fault line 2 lane\n"),
+    (b"1  FIRM A\n", 6, b"fault line 1 verb\n"),
+    (b"1 FIRM\n", 6, b"fault line 1 fields\n"),
+    (b"1 FIRM A\r", 6, b"fault line 1 field 1\n"),
+    (b"1 FIRM A\n1 PUBLISH 1\n", 6, b"fault line 2 verb\n"),
+    (
+        b"1 FIRM A\n1 FIRM A\n1 FIRM B\n1 FILE B I A 1.00 2025-01-31\n1 FILE C I A 1.00 2025-01-31\n1 FILE A J A 1.00 2025-01-31\n1 FILE B I A 2.00 2025-01-31\n1 CONFIRM A I A\n1 CONFIRM B I B\n1 CONFIRM B I A\n1 CONFIRM B I A\n",
+        0,
+        b"1 FIRM A = ok\n1 FIRM A = refused 1 firm-exists\n1 FIRM B = ok\n1 FILE B I A 1.00 2025-01-31 = ok\n1 FILE C I A 1.00 2025-01-31 = refused 3 unknown-firm\n1 FILE A J A 1.00 2025-01-31 = refused 4 same-firm\n1 FILE B I A 2.00 2025-01-31 = refused 5 claim-exists\n1 CONFIRM A I A = refused 7 unknown-claim\n1 CONFIRM B I B = refused 8 not-debtor\n1 CONFIRM B I A = ok\n1 CONFIRM B I A = refused 9 wrong-state\n",
+    ),
+    (ACCOUNT_LINES, 0, ACCOUNT_ENTRIES),
+    (CLAIM_LINES, 0, CLAIM_ENTRIES),
+];
+
+// ---- a call of the program
+
+pub(crate) fn copied(rt: &impl Abort, alloc: Global, bytes: &[u8]) -> Vec<u8> {
+    Vec::from_slice(alloc, bytes).expect(rt, "memory")
 }
 
-// A disk in memory with these bytes, of whose calls one fails.
+// The numbers of the calls of a device that fail: this one, or none where it is 0.
+fn failing(rt: &impl Abort, alloc: Global, call: u64) -> Vec<u64> {
+    Vec::from_slice(alloc, &[call]).expect(rt, "memory")
+}
+
+// A source of these bytes, none of whose calls fails.
+pub(crate) fn source_of(rt: &impl Abort, alloc: Global, input: &[u8]) -> SureSource {
+    SureSource::new(copied(rt, alloc, input))
+}
+
+// The same, of whose calls one fails; none where it is 0.
+pub(crate) fn failing_source(
+    rt: &impl Abort,
+    alloc: Global,
+    input: &[u8],
+    fails: u64,
+) -> BytesSource {
+    BytesSource::new(copied(rt, alloc, input), failing(rt, alloc, fails))
+}
+
+// A sink of whose calls one fails; none where it is 0.
+pub(crate) fn sink_of(rt: &impl Abort, alloc: Global, fails: u64) -> BytesSink {
+    BytesSink::new(alloc, failing(rt, alloc, fails))
+}
+
+// A disk in memory with these bytes, of whose calls one fails; none where it is 0.
 pub(crate) fn disk_of(rt: &impl Abort, alloc: Global, bytes: &[u8], fails: u64) -> MemoryDisk {
-    let bytes = Vec::from_slice(alloc, bytes).expect(rt, "memory");
-    let fails = Vec::from_slice(alloc, &[fails]).expect(rt, "memory");
-    MemoryDisk::new(alloc, bytes, fails)
+    MemoryDisk::new(alloc, copied(rt, alloc, bytes), failing(rt, alloc, fails))
 }
 
-pub(crate) fn words_of(alloc: Global, texts: &[&str]) -> Result<Vec<String>, AllocError> {
+pub(crate) fn words_of(rt: &impl Abort, alloc: Global, texts: &[&str]) -> Vec<String> {
     let mut words = Vec::new(alloc);
     for text in texts {
-        words.push(String::from_str(alloc, text)?)?;
+        let word = String::from_str(alloc, text).expect(rt, "memory");
+        words.push(word).expect(rt, "memory");
     }
-    Ok(words)
+    words
 }
 
 // The program over these words, whose lanes nothing holds up.
@@ -56,114 +104,80 @@ pub(crate) fn program<R: Abort + Threads + Wait + Sync, S: Source, K: Sink, D: D
     sink: K,
     disk: D,
 ) -> Ended<S, K, D> {
-    let words = words_of(alloc, texts).expect(rt, "memory");
+    let words = words_of(rt, alloc, texts);
     bureau(rt, alloc, words, source, sink, disk, Unhindered, Unhindered)
 }
 
-// A source of these bytes, none of whose calls fails.
-pub(crate) fn source_of(rt: &impl Abort, alloc: Global, input: &[u8]) -> SureSource {
-    SureSource::new(Vec::from_slice(alloc, input).expect(rt, "memory"))
+// What a call of the program left: its status, what it printed, the bytes of its disk, and how many calls the disk has had.
+#[derive(Drop)]
+pub(crate) struct Left {
+    pub(crate) status: u8,
+    pub(crate) printed: Vec<u8>,
+    pub(crate) journal: Vec<u8>,
+    pub(crate) calls: u64,
 }
 
-// A sink of whose calls one fails; none where it is 0.
-pub(crate) fn sink_of(rt: &impl Abort, alloc: Global, fails: u64) -> BytesSink {
-    BytesSink::new(alloc, Vec::from_slice(alloc, &[fails]).expect(rt, "memory"))
+pub(crate) fn left_on<R: Abort + Threads + Wait + Sync, S: Source + Drop>(
+    rt: &R,
+    alloc: Global,
+    texts: &[&str],
+    source: S,
+    sink: BytesSink,
+    disk: MemoryDisk,
+) -> Left {
+    let ended = program(rt, alloc, texts, source, sink, disk);
+    let moment = ended.disk.moment();
+    assert!(rt; moment % 2 == 0);
+    let left = Left {
+        status: ended.status,
+        printed: copied(rt, alloc, ended.sink.bytes()),
+        journal: copied(rt, alloc, ended.disk.bytes()),
+        calls: moment / 2,
+    };
+    drop(ended);
+    left
 }
 
-// What the program ends with for words and an input, on this disk.
-pub(crate) fn ended_on<R: Abort + Threads + Wait + Sync>(
+// What the program leaves for words and an input, on a disk with these bytes, of whose calls one fails; none where it is 0.
+pub(crate) fn left_by<R: Abort + Threads + Wait + Sync>(
     rt: &R,
     alloc: Global,
     texts: &[&str],
     input: &[u8],
-    disk: MemoryDisk,
-) -> Ended<SureSource, BytesSink, MemoryDisk> {
-    program(
+    bytes: &[u8],
+    fails: u64,
+) -> Left {
+    left_on(
         rt,
         alloc,
         texts,
         source_of(rt, alloc, input),
         sink_of(rt, alloc, 0),
-        disk,
+        disk_of(rt, alloc, bytes, fails),
     )
 }
 
-// The same on a disk without bytes.
-fn ended_for<R: Abort + Threads + Wait + Sync>(
+// Ends the test where the program does not end so for words and an input, on a disk without bytes. In the output each ? stands for
+// a price.
+pub(crate) fn expect_end<R: Abort + Threads + Wait + Sync>(
     rt: &R,
     alloc: Global,
     texts: &[&str],
     input: &[u8],
-) -> Ended<SureSource, BytesSink, MemoryDisk> {
-    ended_on(rt, alloc, texts, input, new_disk(alloc))
+    status: u8,
+    output: &[u8],
+) {
+    let left = left_by(rt, alloc, texts, input, b"", 0);
+    assert!(rt; left.status == status);
+    assert!(rt; is_like(left.printed.as_slice(), output));
 }
+
+// ---- runs
 
 #[test]
 fn runs(rt: HostRuntime) {
-    let cases: [(&[u8], u8, &[u8]); 11] = [
-        (FOUR_LINES, 0, FOUR_ENTRIES),
-        (b"", 0, b""),
-        (
-            b"1 FILE B I-1 A 01.00 2025-01-31",
-            6,
-            b"fault line 1 field 4\n",
-        ),
-        (b"1 FIRM A\n\n", 6, b"fault line 2 lane\n"),
-        (b"1  FIRM A\n", 6, b"fault line 1 verb\n"),
-        (b"1 FIRM\n", 6, b"fault line 1 fields\n"),
-        (b"1 FIRM A\r", 6, b"fault line 1 field 1\n"),
-        (b"1 FIRM A\n1 PUBLISH 1\n", 6, b"fault line 2 verb\n"),
-        (
-            b"1 FIRM A\n1 FIRM A\n1 FIRM B\n1 FILE B I A 1.00 2025-01-31\n1 FILE C I A 1.00 2025-01-31\n1 FILE A J A 1.00 2025-01-31\n1 FILE B I A 2.00 2025-01-31\n1 CONFIRM A I A\n1 CONFIRM B I B\n1 CONFIRM B I A\n1 CONFIRM B I A\n",
-            0,
-            b"1 FIRM A = ok\n1 FIRM A = refused 1 firm-exists\n1 FIRM B = ok\n1 FILE B I A 1.00 2025-01-31 = ok\n1 FILE C I A 1.00 2025-01-31 = refused 3 unknown-firm\n1 FILE A J A 1.00 2025-01-31 = refused 4 same-firm\n1 FILE B I A 2.00 2025-01-31 = refused 5 claim-exists\n1 CONFIRM A I A = refused 7 unknown-claim\n1 CONFIRM B I B = refused 8 not-debtor\n1 CONFIRM B I A = ok\n1 CONFIRM B I A = refused 9 wrong-state\n",
-        ),
-        (ACCOUNT_LINES, 0, ACCOUNT_ENTRIES),
-        (CLAIM_LINES, 0, CLAIM_ENTRIES),
-    ];
-    for (input, status, output) in cases {
-        let ended = ended_for(&rt, rt.alloc(), &["run"], input);
-        assert!(rt; ended.status == status);
-        assert!(rt; ended.sink.bytes() == output);
-    }
-}
-
-// A source of these bytes, of whose calls one fails.
-pub(crate) fn failing_source(
-    rt: &impl Abort,
-    alloc: Global,
-    input: &[u8],
-    fails: u64,
-) -> BytesSource {
-    let input = Vec::from_slice(alloc, input).expect(rt, "memory");
-    let fails = Vec::from_slice(alloc, &[fails]).expect(rt, "memory");
-    BytesSource::new(input, fails)
-}
-
-// The source is called twice, and the sink once: the output is shorter than its buffer.
-#[test]
-fn a_failing_call(rt: HostRuntime) {
-    let cases: [(u64, u64, u8, &[u8]); 6] = [
-        (1, 0, 3, b"fault read\n"),
-        (2, 0, 3, b"fault read\n"),
-        (3, 0, 0, FOUR_ENTRIES),
-        (0, 1, 4, b""),
-        (0, 2, 0, FOUR_ENTRIES),
-        (1, 1, 4, b""),
-    ];
-    for (read, write, status, output) in cases {
-        let source = failing_source(&rt, rt.alloc(), FOUR_LINES, read);
-        let sink = sink_of(&rt, rt.alloc(), write);
-        let ended = program(
-            &rt,
-            rt.alloc(),
-            &["run"],
-            source,
-            sink,
-            new_disk(rt.alloc()),
-        );
-        assert!(rt; ended.status == status);
-        assert!(rt; ended.sink.bytes() == output);
+    for (input, status, output) in RUNS {
+        expect_end(&rt, rt.alloc(), &["run"], input, status, output);
     }
 }
 
@@ -207,50 +221,54 @@ fn the_longest_input(rt: HostRuntime) {
         (67_108_864, 6, b"fault line 1 lane\n"),
         (67_108_865, 7, b"fault input too long\n"),
     ];
-    for (left, status, output) in cases {
-        let source = Zeros { left };
-        let ended = program(
+    for (zeros, status, output) in cases {
+        let source = Zeros { left: zeros };
+        let left = left_on(
             &rt,
             rt.alloc(),
             &["run"],
             source,
             sink_of(&rt, rt.alloc(), 0),
-            new_disk(rt.alloc()),
+            disk_of(&rt, rt.alloc(), b"", 0),
         );
-        assert!(rt; ended.status == status);
-        assert!(rt; ended.sink.bytes() == output);
+        assert!(rt; left.status == status);
+        assert!(rt; left.printed.as_slice() == output);
     }
 }
 
 // A text, and another one so many times behind it.
 pub(crate) fn text_with(
+    rt: &impl Abort,
     alloc: Global,
     first: &[u8],
     more: &[u8],
     times: usize,
-) -> Result<Vec<u8>, AllocError> {
-    let mut text = Vec::from_slice(alloc, first)?;
+) -> Vec<u8> {
+    let mut text = copied(rt, alloc, first);
     for _ in 0..times {
-        text.extend_from_slice(more)?;
+        text.extend_from_slice(more).expect(rt, "memory");
     }
-    Ok(text)
+    text
 }
 
 #[test]
 fn a_run_of_100_000_lines(rt: HostRuntime) {
-    let input = text_with(rt.alloc(), b"1 FIRM A\n", b"1 POSITION A\n", 100_000).expect(
-        &rt, "memory",
-    );
+    let input = text_with(&rt, rt.alloc(), b"1 FIRM A\n", b"1 POSITION A\n", 100_000);
     let output = text_with(
+        &rt,
         rt.alloc(),
         b"1 FIRM A = ok\n",
         b"1 POSITION A = balance 0.00 receivable 0.00 payable 0.00\n",
         100_000,
-    )
-    .expect(&rt, "memory");
-    let ended = ended_for(&rt, rt.alloc(), &["run"], input.as_slice());
-    assert!(rt; ended.status == 0);
-    assert!(rt; ended.sink.bytes() == output.as_slice());
+    );
+    expect_end(
+        &rt,
+        rt.alloc(),
+        &["run"],
+        input.as_slice(),
+        0,
+        output.as_slice(),
+    );
 }
 
 // Rounds: requests, the output with ? for each price, and the verdict on its statement.
@@ -312,33 +330,45 @@ pub(crate) fn is_like(text: &[u8], like: &[u8]) -> bool {
     place == text.len()
 }
 
-// The lines of an output that begin with a letter: those of its statements.
-fn statement_in(alloc: Global, output: &[u8]) -> Result<Vec<u8>, AllocError> {
-    let mut statement = Vec::new(alloc);
-    let mut begins = true;
-    let mut inside = false;
-    for byte in output {
-        if begins {
-            inside = *byte >= b'A';
+// How many lines of a text begin so and end so, and the last of them among the lines, from 1; 0 where there is none.
+pub(crate) fn lines_with(text: &[u8], start: &[u8], end: &[u8]) -> (u64, u64) {
+    let (mut times, mut last, mut number) = (0_u64, 0_u64, 0_u64);
+    for line in text.split(|byte| *byte == b'\n') {
+        number = number.wrapping_add(1);
+        if line.starts_with(start) && line.ends_with(end) {
+            times = times.wrapping_add(1);
+            last = number;
         }
-        if inside {
-            statement.push(*byte)?;
-        }
-        begins = *byte == b'\n';
     }
-    Ok(statement)
+    (times, last)
+}
+
+// The lines of an output that begin with a letter: those of its statements.
+fn statement_in(rt: &impl Abort, alloc: Global, output: &[u8]) -> Vec<u8> {
+    let mut statement = Vec::new(alloc);
+    for line in output.split_inclusive(|byte| *byte == b'\n') {
+        if matches!(line.first(), Some(b'A'..=b'Z')) {
+            statement.extend_from_slice(line).expect(rt, "memory");
+        }
+    }
+    statement
 }
 
 // Each output is the expected one but for its prices, and `check` accepts its statement.
 #[test]
 fn rounds(rt: HostRuntime) {
     for (requests, output, verdict) in ROUNDS {
-        let ended = ended_for(&rt, rt.alloc(), &["run"], requests);
-        assert!(rt; ended.status == 0);
-        assert!(rt; is_like(ended.sink.bytes(), output));
-        let statement = statement_in(rt.alloc(), ended.sink.bytes()).expect(&rt, "memory");
-        let judged = ended_for(&rt, rt.alloc(), &["check"], statement.as_slice());
-        assert!(rt; judged.status == 0);
-        assert!(rt; judged.sink.bytes() == verdict);
+        let left = left_by(&rt, rt.alloc(), &["run"], requests, b"", 0);
+        assert!(rt; left.status == 0);
+        assert!(rt; is_like(left.printed.as_slice(), output));
+        let statement = statement_in(&rt, rt.alloc(), left.printed.as_slice());
+        expect_end(
+            &rt,
+            rt.alloc(),
+            &["check"],
+            statement.as_slice(),
+            0,
+            verdict,
+        );
     }
 }
