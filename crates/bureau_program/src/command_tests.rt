@@ -34,8 +34,7 @@ fn expect_apart<R: Abort + Threads + Wait + Sync>(
     output: &[u8],
 ) {
     let left = left_by(rt, alloc, texts, input, b"", 0);
-    assert!(rt; left.status == status);
-    assert!(rt; left.printed.as_slice() == output);
+    left.expect(rt, status, output);
     assert!(rt; left.calls == 0);
 }
 
@@ -55,8 +54,7 @@ fn expect_table<R: Abort + Threads + Wait + Sync>(
     output: &[u8],
 ) {
     let told = left_by(rt, alloc, texts, b"", journal, 0);
-    assert!(rt; told.status == 0);
-    assert!(rt; told.printed.as_slice() == output);
+    told.expect(rt, 0, output);
     assert!(rt; told.journal.as_slice() == journal);
 }
 
@@ -152,9 +150,10 @@ fn requests(rt: &impl Abort, alloc: Global, filed: &[u8]) -> Vec<u8> {
     text
 }
 
-// How many lines of a text begin so and end so.
-fn count_of(text: &[u8], start: &[u8], end: &[u8]) -> u64 {
-    lines_with(text, start, end).0
+// Ends the test where not so many lines of a text begin so and end so.
+fn expect_count(rt: &impl Abort, text: &[u8], start: &[u8], end: &[u8], count: u64) {
+    let (times, _) = lines_with(text, start, end);
+    assert!(rt; times == count);
 }
 
 // The requests that file the invoices, as they are imported.
@@ -162,7 +161,7 @@ fn filed<R: Abort + Threads + Wait + Sync>(rt: &R, alloc: Global) -> Vec<u8> {
     let invoices = invoices(rt, alloc);
     let filed = left_by(rt, alloc, &["import", "1"], invoices.as_slice(), b"", 0);
     assert!(rt; filed.status == 0);
-    assert!(rt; count_of(filed.printed.as_slice(), b"1 FILE F-", b"") == 300);
+    expect_count(rt, filed.printed.as_slice(), b"1 FILE F-", b"", 300);
     filed.printed
 }
 
@@ -172,10 +171,10 @@ fn journal_of_the_day<R: Abort + Threads + Wait + Sync>(rt: &R, alloc: Global) -
     let day = left_by(rt, alloc, &["run"], requests.as_slice(), b"", 0);
     let printed = day.printed.as_slice();
     assert!(rt; day.status == 0);
-    assert!(rt; count_of(printed, b"", b" = ok") == 643);
-    assert!(rt; count_of(printed, b"PARTY ", b"") == 40);
-    assert!(rt; count_of(printed, b"CLAIM ", b"") == 299);
-    assert!(rt; count_of(printed, b"1 PUBLISH 1 = published 25950.00", b"") == 1);
+    expect_count(rt, printed, b"", b" = ok", 643);
+    expect_count(rt, printed, b"PARTY ", b"", 40);
+    expect_count(rt, printed, b"CLAIM ", b"", 299);
+    expect_count(rt, printed, b"1 PUBLISH 1 = published 25950.00", b"", 1);
     day.journal
 }
 
@@ -183,6 +182,7 @@ fn journal_of_the_day<R: Abort + Threads + Wait + Sync>(rt: &R, alloc: Global) -
 fn a_day_of_forty_firms(rt: HostRuntime) {
     let journal = journal_of_the_day(&rt, rt.alloc());
     let told = left_by(&rt, rt.alloc(), &["positions"], b"", journal.as_slice(), 0);
-    assert!(rt; count_of(told.printed.as_slice(), b"F-1,0.00,", b"") == 1);
-    assert!(rt; count_of(told.printed.as_slice(), b"F-40,50.00,", b"") == 1);
+    let table = told.printed.as_slice();
+    expect_count(&rt, table, b"F-1,0.00,", b"", 1);
+    expect_count(&rt, table, b"F-40,50.00,", b"", 1);
 }

@@ -2,37 +2,28 @@
 
 use crate::journal_tests::TRIANGLE;
 use crate::tests::{
-    FOUR_ENTRIES, FOUR_LINES, disk_of, failing_source, is_like, left_by, left_on, lines_with,
+    FOUR_ENTRIES, FOUR_LINES, disk_of, expect_audit, failing_source, left_by, left_on, lines_with,
     sink_of, source_of, text_with,
 };
 use disk_model::MemoryDisk;
 use std::alloc::Global;
 use std::process::Abort;
-use std::sync::Wait;
-use std::thread::Threads;
 
-// Whether an audit of a journal prints this line, or some line of a sound journal where none is given.
-fn is_audited<R: Abort + Threads + Wait + Sync>(
-    rt: &R,
-    alloc: Global,
-    journal: &[u8],
-    line: Option<&[u8]>,
-) -> bool {
-    let audit = left_by(rt, alloc, &["audit"], b"", journal, 0);
-    match line {
-        Some(line) => audit.printed.as_slice() == line,
-        None => audit.printed.as_slice().starts_with(b"yes acts "),
+// What an audit tells of the triangle whose call of this number failed, with ? for each number that is not looked at.
+fn verdict_after(call: u64) -> &'static [u8] {
+    match call {
+        41..=43 => b"yes acts 9 rounds 0\n",
+        44..=47 => b"yes acts 10 rounds 0\n",
+        48 => b"yes acts 11 rounds 1\n",
+        _ => b"yes acts ? rounds ?\n",
     }
 }
 
-// What an audit tells of the triangle whose call of this number failed.
-fn verdict_after(call: u64) -> Option<&'static [u8]> {
-    match call {
-        41..=43 => Some(b"yes acts 9 rounds 0\n"),
-        44..=47 => Some(b"yes acts 10 rounds 0\n"),
-        48 => Some(b"yes acts 11 rounds 1\n"),
-        _ => None,
-    }
+// Ends the test where not this entry alone is refused for the device.
+fn expect_refused(rt: &impl Abort, output: &[u8], entry: u64) {
+    let (times, line) = lines_with(output, b"", b" = refused 18 device 0 1");
+    assert!(rt; times == 1);
+    assert!(rt; line == entry);
 }
 
 // The opening has four calls of the disk and each act four. One of them fails.
@@ -40,29 +31,25 @@ fn verdict_after(call: u64) -> Option<&'static [u8]> {
 fn each_call_of_the_triangle_fails(rt: HostRuntime) {
     for call in 1..=48 {
         let left = left_by(&rt, rt.alloc(), &["run"], TRIANGLE, b"", call);
-        assert!(rt; left.status == 5);
         if call <= 4 {
-            assert!(rt; left.printed.as_slice() == b"fault device 0 1\n".as_slice());
+            left.expect(&rt, 5, b"fault device 0 1\n");
         } else {
+            assert!(rt; left.status == 5);
             let entry = (call - 5) / 4 + 1;
-            let (times, line) = lines_with(
-                left.printed.as_slice(),
-                b"",
-                b" = refused 18 device 0 1",
-            );
-            assert!(rt; times == 1);
-            assert!(rt; line == entry);
-            assert!(rt;
-                is_audited(
-                    &rt,
-                    rt.alloc(),
-                    left.journal.as_slice(),
-                    verdict_after(call)
-                )
+            expect_refused(&rt, left.printed.as_slice(), entry);
+            expect_audit(
+                &rt,
+                rt.alloc(),
+                left.journal.as_slice(),
+                verdict_after(call),
             );
         }
     }
 }
+
+// A Close three times, of which the last is published.
+const THREE_ATTEMPTS: &[u8] =
+    b"1 FIRM A = ok\n1 FIRM B = ok\n1 FIRM C = ok\n1 FILE B I-1 A 10.00 2025-01-31 = ok\n1 FILE C I-2 B 7.00 2025-01-31 = ok\n1 FILE A I-3 C 12.00 2025-01-31 = ok\n1 CONFIRM B I-1 A = ok\n1 CONFIRM C I-2 B = ok\n1 CONFIRM A I-3 C = ok\n1 CLOSE PLAIN 2025-12-31 = opened 1\n1 PUBLISH 1 = refused 18 device 18446744073709551614 18446744073709551615\n1 CLOSE PLAIN 2025-12-31 = continued 1\n1 PUBLISH 1 = refused 18 device 18446744073709551615 18446744073709551615\n1 CLOSE PLAIN 2025-12-31 = continued 1\n1 PUBLISH 1 = published 21.00\nROUND 1 PLAIN\nPARTY A 0.00 0.00 ?\nPARTY B 0.00 0.00 ?\nPARTY C 0.00 0.00 ?\nCLAIM B I-1 A 10.00 7.00\nCLAIM C I-2 B 7.00 7.00\nCLAIM A I-3 C 12.00 7.00\nEND\n";
 
 // The last line of the triangle three times, on a disk whose count of faults reaches its last value.
 #[test]
@@ -79,21 +66,13 @@ fn the_count_of_faults_stands_still(rt: HostRuntime) {
         sink_of(&rt, rt.alloc(), 0),
         disk,
     );
-    assert!(rt; left.status == 5);
-    assert!(rt;
-        is_like(
-            left.printed.as_slice(),
-            b"1 FIRM A = ok\n1 FIRM B = ok\n1 FIRM C = ok\n1 FILE B I-1 A 10.00 2025-01-31 = ok\n1 FILE C I-2 B 7.00 2025-01-31 = ok\n1 FILE A I-3 C 12.00 2025-01-31 = ok\n1 CONFIRM B I-1 A = ok\n1 CONFIRM C I-2 B = ok\n1 CONFIRM A I-3 C = ok\n1 CLOSE PLAIN 2025-12-31 = opened 1\n1 PUBLISH 1 = refused 18 device 18446744073709551614 18446744073709551615\n1 CLOSE PLAIN 2025-12-31 = continued 1\n1 PUBLISH 1 = refused 18 device 18446744073709551615 18446744073709551615\n1 CLOSE PLAIN 2025-12-31 = continued 1\n1 PUBLISH 1 = published 21.00\nROUND 1 PLAIN\nPARTY A 0.00 0.00 ?\nPARTY B 0.00 0.00 ?\nPARTY C 0.00 0.00 ?\nCLAIM B I-1 A 10.00 7.00\nCLAIM C I-2 B 7.00 7.00\nCLAIM A I-3 C 12.00 7.00\nEND\n"
-        )
-    );
+    left.expect(&rt, 5, THREE_ATTEMPTS);
     assert!(rt; left.journal.len() == 292);
-    assert!(rt;
-        is_audited(
-            &rt,
-            rt.alloc(),
-            left.journal.as_slice(),
-            Some(b"yes acts 13 rounds 1\n")
-        )
+    expect_audit(
+        &rt,
+        rt.alloc(),
+        left.journal.as_slice(),
+        b"yes acts 13 rounds 1\n",
     );
 }
 
@@ -123,10 +102,9 @@ fn a_source_and_a_sink_fail(rt: HostRuntime) {
             sink_of(&rt, rt.alloc(), write),
             disk_of(&rt, rt.alloc(), b"", 0),
         );
-        assert!(rt; left.status == status);
-        assert!(rt; left.printed.as_slice() == output);
+        left.expect(&rt, status, output);
         assert!(rt; left.calls == calls);
-        assert!(rt; is_audited(&rt, rt.alloc(), left.journal.as_slice(), Some(verdict)));
+        expect_audit(&rt, rt.alloc(), left.journal.as_slice(), verdict);
     }
 }
 

@@ -1,4 +1,4 @@
-use crate::tests::{Left, disk_of, is_like, left_by, program, sink_of, source_of};
+use crate::tests::{Left, disk_of, expect_audit, left_by, program, sink_of, source_of};
 use std::alloc::Global;
 use std::process::Abort;
 use std::sync::Wait;
@@ -145,10 +145,8 @@ const JOURNALS: [Case; 14] = [
 fn journals(rt: HostRuntime) {
     for (word, input, bytes, fails, status, output, length, calls) in JOURNALS {
         let left = left_by(&rt, rt.alloc(), &[word], input, bytes, fails);
-        assert!(rt; left.status == status);
-        assert!(rt; is_like(left.printed.as_slice(), output));
-        assert!(rt; left.journal.len() == length);
-        assert!(rt; left.calls == calls);
+        left.expect(&rt, status, output);
+        left.expect_disk(&rt, length, calls);
     }
 }
 
@@ -203,27 +201,15 @@ fn second_day<R: Abort + Threads + Wait + Sync>(
     left_by(rt, alloc, &["run"], second, day.journal.as_slice(), 0)
 }
 
-// Whether an audit of a journal finds it sound, and tells this.
-fn is_audited<R: Abort + Threads + Wait + Sync>(
-    rt: &R,
-    alloc: Global,
-    journal: &[u8],
-    verdict: &[u8],
-) -> bool {
-    let audit = left_by(rt, alloc, &["audit"], b"", journal, 0);
-    audit.status == 0 && audit.printed.as_slice() == verdict
-}
-
 // A second run goes on where the first ended, and ends the round that a failed publication left open.
 #[test]
 fn days_on_one_journal(rt: HostRuntime) {
     for (first, fails, second, output, length, verdict) in DAYS {
         let day = second_day(&rt, rt.alloc(), first, fails, second);
-        assert!(rt; day.status == 0);
-        assert!(rt; is_like(day.printed.as_slice(), output));
+        day.expect(&rt, 0, output);
         assert!(rt; day.journal.as_slice().starts_with(b"BUREAUJ1"));
         assert!(rt; day.journal.len() == length);
-        assert!(rt; is_audited(&rt, rt.alloc(), day.journal.as_slice(), verdict));
+        expect_audit(&rt, rt.alloc(), day.journal.as_slice(), verdict);
     }
 }
 
@@ -248,19 +234,20 @@ fn acts_of<R: Abort + Threads + Wait + Sync>(rt: &R, alloc: Global, image: &[u8]
     acts_told(rt, alloc, audit.printed.as_slice()).expect(rt, "some first acts")
 }
 
-// Whether an image of a moment holds some first acts of a journal, with all that were answered by then: the opening has four calls
-// and each act four.
-fn holds_answered<R: Abort + Threads + Wait + Sync>(
+// Ends the test where an image of a moment does not hold some first acts of a journal, with all that were answered by then: the
+// opening has four calls and each act four.
+fn expect_answered<R: Abort + Threads + Wait + Sync>(
     rt: &R,
     alloc: Global,
     journal: &[u8],
     moment: u64,
     image: &[u8],
-) -> bool {
+) {
     let acts = acts_of(rt, alloc, image);
     let gate = *GATES.get(acts).expect(rt, "a gate");
     let kept = journal.get(..gate).expect(rt, "the records");
-    acts as u64 >= (moment / 8).saturating_sub(1) && (acts == 0 || image.starts_with(kept))
+    assert!(rt; acts as u64 >= (moment / 8).saturating_sub(1));
+    assert!(rt; acts == 0 || image.starts_with(kept));
 }
 
 // A crash at any moment leaves some first acts of the triangle, with all that were answered by then.
@@ -280,14 +267,12 @@ fn every_crash_of_the_triangle(rt: HostRuntime) {
                 .disk
                 .image(rt.alloc(), moment, pick)
                 .expect(&rt, "memory");
-            assert!(rt;
-                holds_answered(
-                    &rt,
-                    rt.alloc(),
-                    ended.disk.bytes(),
-                    moment,
-                    image.as_slice()
-                )
+            expect_answered(
+                &rt,
+                rt.alloc(),
+                ended.disk.bytes(),
+                moment,
+                image.as_slice(),
             );
         }
     }

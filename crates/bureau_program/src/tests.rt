@@ -117,6 +117,20 @@ pub(crate) struct Left {
     pub(crate) calls: u64,
 }
 
+impl Left {
+    // Ends the test where this was not the status, or this not the output, in which each ? stands for a price.
+    pub(crate) fn expect(&self, rt: &impl Abort, status: u8, output: &[u8]) {
+        assert!(rt; self.status == status);
+        assert!(rt; is_like(self.printed.as_slice(), output));
+    }
+
+    // Ends the test where the disk does not have so many bytes, or has not had so many calls.
+    pub(crate) fn expect_disk(&self, rt: &impl Abort, length: usize, calls: u64) {
+        assert!(rt; self.journal.len() == length);
+        assert!(rt; self.calls == calls);
+    }
+}
+
 pub(crate) fn left_on<R: Abort + Threads + Wait + Sync, S: Source + Drop>(
     rt: &R,
     alloc: Global,
@@ -157,8 +171,7 @@ pub(crate) fn left_by<R: Abort + Threads + Wait + Sync>(
     )
 }
 
-// Ends the test where the program does not end so for words and an input, on a disk without bytes. In the output each ? stands for
-// a price.
+// Ends the test where the program does not end so for words and an input, on a disk without bytes.
 pub(crate) fn expect_end<R: Abort + Threads + Wait + Sync>(
     rt: &R,
     alloc: Global,
@@ -167,9 +180,17 @@ pub(crate) fn expect_end<R: Abort + Threads + Wait + Sync>(
     status: u8,
     output: &[u8],
 ) {
-    let left = left_by(rt, alloc, texts, input, b"", 0);
-    assert!(rt; left.status == status);
-    assert!(rt; is_like(left.printed.as_slice(), output));
+    left_by(rt, alloc, texts, input, b"", 0).expect(rt, status, output);
+}
+
+// Ends the test where an audit does not find a journal sound, or does not tell this of it.
+pub(crate) fn expect_audit<R: Abort + Threads + Wait + Sync>(
+    rt: &R,
+    alloc: Global,
+    journal: &[u8],
+    line: &[u8],
+) {
+    left_by(rt, alloc, &["audit"], b"", journal, 0).expect(rt, 0, line);
 }
 
 // ---- runs
@@ -231,8 +252,7 @@ fn the_longest_input(rt: HostRuntime) {
             sink_of(&rt, rt.alloc(), 0),
             disk_of(&rt, rt.alloc(), b"", 0),
         );
-        assert!(rt; left.status == status);
-        assert!(rt; left.printed.as_slice() == output);
+        left.expect(&rt, status, output);
     }
 }
 
@@ -359,8 +379,7 @@ fn statement_in(rt: &impl Abort, alloc: Global, output: &[u8]) -> Vec<u8> {
 fn rounds(rt: HostRuntime) {
     for (requests, output, verdict) in ROUNDS {
         let left = left_by(&rt, rt.alloc(), &["run"], requests, b"", 0);
-        assert!(rt; left.status == 0);
-        assert!(rt; is_like(left.printed.as_slice(), output));
+        left.expect(&rt, 0, output);
         let statement = statement_in(&rt, rt.alloc(), left.printed.as_slice());
         expect_end(
             &rt,
