@@ -1,8 +1,7 @@
 -- The steps of the loops that read a net's index and spread a flow.
 use Rattle.std.specs.Prelude.{slice_index, map, min}
 use Rattle.std.specs.List.{AllPairs}
-use Rattle.std.proofs.Common.{◌≡◌, ◌≢◌, ℕ, ◌+◌, ◌-◌, ◌<◌, ◌≤◌, List, [], ◌∷◌, ◌++◌, length, take, drop, set, get_or, sym, ◌∙◌, ap, subst, arith, length-take-le}
-use Rattle.std.proofs.Math.Seq.{take-append_seam}
+use Rattle.std.proofs.Common.{◌≡◌, ◌≢◌, ℕ, ◌+◌, ◌-◌, ◌<◌, ◌≤◌, List, [], ◌∷◌, ◌++◌, length, take, set, get_or, sym, ◌∙◌, ap, subst, arith, length-take-le}
 use Rattle.std.proofs.lemmas.List.{length-map, get_or-map, get_or-take}
 use Rattle.setoff_model.specs.declared.cut.CutClaim.{CutClaim}
 use Rattle.setoff_model.specs.CutView.{CutView, obligations, amounts}
@@ -30,11 +29,6 @@ new_pair arcs i d index in' apart tied a at_index =
     let creditor : (get_or arcs a d).creditor ≡ (get_or arcs i d).creditor =
     ap (λ (x : Arc). x.creditor) (sym same) ∙ sym (get_or-map (λ (x : Arc). x.creditor) (take i arcs) a d 0 there) ∙ at.creditor_is in
     apart a i d before in' debtor creditor
-
--- what stands after a slice was written through
-pub written : (n : ℕ) (xs ys : List ℕ) → length xs ≡ length ys → n ≡ length ys → take n (xs ++ drop (length xs) ys) ≡ xs
-written n xs ys same e =
-    ap (λ (k : ℕ). take k (xs ++ drop (length xs) ys)) (e ∙ sym same) ∙ take-append_seam xs (drop (length xs) ys)
 
 -- what a column has of a claim that was read
 pub column : (f : CutClaim → ℕ) (cut : CutView) (claims : List CutClaim) (i : ℕ) (x : CutClaim) → claims ≡ cut.claims

@@ -1,5 +1,5 @@
 //! The arcs of claims.
-ghost use Rattle.std.specs.Prelude.{◌≡◌, ◌+◌, ◌<◌, ◌≤◌, ◌^◌, List, [], All, IfOk, OnOk, length};
+ghost use Rattle.std.specs.Prelude.{◌≡◌, ◌+◌, ◌<◌, ◌≤◌, ◌^◌, List, All, IfOk, OnOk, length};
 ghost use Rattle.setoff_model.specs.Limits.{most_amount, most_claims};
 ghost use Rattle.setoff_model.specs.CutView.{obligations_of};
 ghost use Rattle.setoff_model.specs.declared.cut.Party.{Party};

@@ -3,7 +3,7 @@ ghost use Rattle.std.specs.Prelude.{◌≡◌, ◌<◌, ◌≤◌, ◌-◌, ℕ,
 ghost use Rattle.setoff_model.specs.Setoff.{IsLawful, IsGreatest, total_of};
 ghost use Rattle.setoff_model.specs.CutView.{obligations};
 ghost use Rattle.netting_graph.specs.Pairs.{IsPairAt};
-ghost use Rattle.netting_graph.specs.NetView.{obligations_of_net, arc_amounts};
+ghost use Rattle.netting_graph.specs.NetView.{obligations_of_net, arc_amounts, pairs_of};
 ghost use Rattle.netting_graph.specs.Merging.{IsNetOf, IsSpread};
 
 use crate::index::ArcIndex;
@@ -25,12 +25,29 @@ pub fn spread(alloc: Global, cut: &Cut, net: &Net, flows: &[u64]) -> Result<Vec<
     ensures lawful { IfOk result (λ d. IsLawful (obligations_of_net net.now) flows.now → IsLawful (obligations cut.now) d.items) }
     ensures greatest { IfOk result (λ d. IsGreatest (obligations_of_net net.now) flows.now → IsGreatest (obligations cut.now) d.items) }
 {
-    let claims = cut.claims();
     let index = ArcIndex::of(alloc, net.arcs())?;
     let mut left = Vec::from_slice(alloc, flows)?;
+    fill_all(alloc, cut, net, &index, &mut left)
+}
+
+// One discharge for each claim in order, taken from what is left of the flows.
+fn fill_all(
+    alloc: Global,
+    cut: &Cut,
+    net: &Net,
+    index: &ArcIndex,
+    left: &mut [u64],
+) -> Result<Vec<u64>, AllocError>
+    requires net { IsNetOf cut.now net.now }
+    requires index { index.now ≡ pairs_of net.now.arcs }
+    requires one_each { length left.old ≡ length net.now.arcs }
+    requires within { (a : ℕ) → a < length net.now.arcs → slice_index left.old a ≤ slice_index (arc_amounts net.now.arcs) a }
+    ensures { IfOk result (λ d. IsSpread cut.now net.now left.old d.items) }
+{
+    let claims = cut.claims();
     let mut discharges = Vec::new(alloc);
     for claim in claims {
-        let discharge = fill(&index, &mut left, claim);
+        let discharge = fill(index, left, claim);
         discharges.push(discharge)?;
     }
     Ok(discharges)
