@@ -46,6 +46,12 @@ part_more x z a t q = (q.0, q.1 ++ t, ap (λ (w : List ℕ). w ++ t) q.2 ∙ app
 pub pass_whole : (x y : Option (List ℕ)) (b t : List ℕ) → GoesThrough x y [] b t → b ≡ [] → Appends x y t
 pass_whole x y b t p e = subst (Appends x y) (sym (p.split ∙ ap (λ (w : List ℕ). p.taken ++ w) e ∙ append-nil p.taken)) p.appended
 
+-- a text that went through an empty buffer, which was taken whole at last
+pub pass_flushed : {T E : Type 0} (r : Result T E) (x y z : Option (List ℕ)) (a b c t : List ℕ) → a ≡ [] → GoesThrough x y a b t → OnOk r (GoesThrough y z b c []) → OnOk r (c ≡ []) → OnOk r (Appends x z t)
+pass_flushed (Ok ok) x y z a b c t none p q left =
+    pass_whole x z c t (subst (λ (w : List ℕ). GoesThrough x z w c t) none (subst (GoesThrough x z a c) (append-nil t) (pass_then x y z a b c t [] p q))) left
+pass_flushed (Err e) x y z a b c t none p q left = tt
+
 -- of a text, what is before a rest went through the buffer
 pub record GoesThroughUpTo (x y : Option (List ℕ)) (a b rest all : List ℕ) : Type 0 where
   pub so_far : List ℕ

@@ -39,6 +39,7 @@ pub fn output_buffer(alloc: Global) -> Result<Vec<u8>, AllocError>
 /// Writes what is in the buffer, and empties it.
 pub fn flush<K: Sink>(sink: &mut K, buffer: &mut Vec<u8>) -> Result<(), Failed>
     ensures ok { OnOk result (GoesThrough (K.held sink.old) (K.held sink.new) buffer.old.items buffer.new.items []) }
+    ensures emptied { OnOk result (buffer.new.items ≡ []) }
     ensures empty { OnOk result (vec_len buffer.new ≡ 0) }
     ensures part { OnErr result (AppendsPart (K.held sink.old) (K.held sink.new) buffer.old.items) }
     ensures cause { IsCounted (K.faults sink.old) (K.faults sink.new) result }

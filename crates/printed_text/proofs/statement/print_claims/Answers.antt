@@ -1,9 +1,11 @@
-use Rattle.std.proofs.Common.{◌+◌, ◌<◌, List, ℕ, length, get_or, subst, drop, arith}
+use Rattle.std.proofs.Common.{◌+◌, ◌<◌, List, ℕ, ap, length, get_or, subst, drop, arith}
+use Rattle.std.proofs.lemmas.List.{drop_all}
+use Rattle.setoff_model.specs.declared.cut.CutClaim.{CutClaim}
 use Rattle.setoff_model.proofs.Columns.{no_claim}
 use Rattle.statement_text.specs.Statements.{claim_line, claim_lines}
 use Rattle.printed_text.specs.Printing.{line_bytes, lines_bytes}
 use Rattle.setoff_model.proofs.Lists.{on_err}
-use Rattle.printed_text.proofs.Passing.{GoesThroughUpTo, up_more, up_breaks}
+use Rattle.printed_text.proofs.Passing.{GoesThroughUpTo, up_begins, up_breaks, up_ends, up_more}
 use Rattle.printed_text.proofs.Printing.{claims_from}
 use Rattle.printed_text.proofs.statement.print_claims.Goals as goal
 
@@ -34,3 +36,19 @@ loop-i-preserved g c =
       room = c.in_ok-print_claim.ensures.room;
       later = omega (arith, c.loop-i.invariant.later, c.in_ok-print_claim.ensures.cause.later);
     }
+
+pub loop-i-init : goal.loop-i-init
+loop-i-init g c = record {
+  passes = up_begins (g.K.Sink.held c.args.sink.now) c.args.buffer.now.items (lines_bytes (claim_lines c.args.cut.now.parties c.args.cut.now.claims c.args.discharges.now));
+  room = c.requires.spare;
+  later = omega arith;
+}
+
+pub returns-clause-ok : goal.returns-clause-ok
+returns-clause-ok g c =
+    let fs = c.args.cut.now.parties in
+    let cs = c.args.cut.now.claims in
+    let ds = c.args.discharges.now in
+    let i = c.loop-i.i in
+    up_ends (g.K.Sink.held c.args.sink.now) (g.K.Sink.held c.loop-i.sink) c.args.buffer.now.items c.loop-i.buffer.items _ (lines_bytes (claim_lines fs cs ds)) c.loop-i.invariant.passes
+    (ap (λ (rest : List CutClaim). lines_bytes (claim_lines fs rest (drop i ds))) (drop_all i cs (omega (arith, c.loop-i-test.false, c.requires.discharge_each))))
