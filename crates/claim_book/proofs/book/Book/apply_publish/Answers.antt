@@ -1,10 +1,10 @@
-use Rattle.std.proofs.Common.{◌<◌, ◌≤◌, ◌^◌, length, sym, ◌∙◌, ap, subst, arith}
+use Rattle.std.proofs.Common.{◌<◌, ◌≤◌, ◌^◌, ◌++◌, ◌∷◌, [], length, sym, ◌∙◌, ap, subst, arith}
 use Rattle.setoff_model.specs.Setoff.{total_of}
 use Rattle.claim_history.specs.States.{state_of}
 use Rattle.claim_history.specs.History.{MayFollow}
 use Rattle.claim_book.specs.Book.{BookView}
 use Rattle.claim_book.proofs.Books.{refused_grows, are_accounts, settles, round_there}
-use Rattle.claim_book.proofs.Kept.{one_needed}
+use Rattle.claim_book.proofs.Kept.{one_needed, keeps_room, need_of_other}
 use Rattle.claim_book.proofs.book.Book.apply_publish.Goals as goal
 
 pub invariant_of-self : goal.invariant_of-self
@@ -71,3 +71,37 @@ pub discharge-requires-2-clause-formed : goal.discharge-requires-2-clause-formed
 discharge-requires-2-clause-formed c =
     let next = subst (λ (b : BookView). MayFollow b.history c.args.entry) (sym c.self.view_is) c.requires.next in
     (settles _ c.args.entry c.outcome_in.ensures.0 c.outcome_in.result.now c.take_cut-cut.result c.self.invariant c.requires.valid (sym c.accepted.ensures ∙ c.if-not-accepted.false) c.outcome_in.ensures.1 next c.take_cut-cut.ensures.cut).formed
+
+pub returns-then-not-accepted-clause-history : goal.returns-then-not-accepted-clause-history
+returns-then-not-accepted-clause-history c = c.put_entry.ensures.items ∙ ap (λ (b : BookView). b.history ++ c.args.entry ∷ []) c.self.view_is
+
+pub returns-then-not-accepted-clause-room : goal.returns-then-not-accepted-clause-room
+returns-then-not-accepted-clause-room c =
+    let room = ap (λ (b : BookView). b.room) c.self.view_is in
+    omega (arith, room, c.put_entry.ensures.len, c.put_entry.ensures.capacity)
+
+pub returns-then-not-accepted-clause-kept : goal.returns-then-not-accepted-clause-kept
+returns-then-not-accepted-clause-kept c =
+    let e = c.args.entry in
+    let book = c.args.self.now in
+    keeps_room book.history e book.room _ (need_of_other (state_of book.history) e.caller e.act book.room c.requires.room) (returns-then-not-accepted-clause-room c)
+
+pub returns-clause-history : goal.returns-clause-history
+returns-clause-history c = c.put_entry-2.ensures.items ∙ ap (λ (b : BookView). b.history ++ c.args.entry ∷ []) c.self.view_is
+
+pub returns-clause-room : goal.returns-clause-room
+returns-clause-room c =
+    let room = ap (λ (b : BookView). b.room) c.self.view_is in
+    omega (arith, room, c.put_entry-2.ensures.len, c.put_entry-2.ensures.capacity)
+
+pub returns-clause-kept : goal.returns-clause-kept
+returns-clause-kept c =
+    let e = c.args.entry in
+    let book = c.args.self.now in
+    keeps_room book.history e book.room _ (need_of_other (state_of book.history) e.caller e.act book.room c.requires.room) (returns-clause-room c)
+
+pub put_entry-requires-2 : goal.put_entry-requires-2
+put_entry-requires-2 c =
+    let one = one_needed (state_of c.args.self.now.history) c.args.entry.caller c.args.entry.act in
+    let room = subst (λ (b : BookView). 1 ≤ b.room) (sym c.self.view_is) (omega (arith, one, c.requires.room)) in
+    omega (arith, room)
