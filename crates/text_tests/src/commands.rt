@@ -129,21 +129,23 @@ fn other_words_are_refused(rt: HostRuntime) {
     }
 }
 
+// How the lines of the commands begin.
+const FORMS: &[&str] = &[
+    "run ",
+    "check ",
+    "audit ",
+    "positions ",
+    "notices DATE ",
+    "import LANE ",
+    "trial FIRMS CLAIMS SEED ",
+];
+
 #[test]
 fn each_command_is_told_on_a_line(rt: HostRuntime) {
-    let names = [
-        "run ",
-        "check ",
-        "audit ",
-        "positions ",
-        "notices DATE ",
-        "import LANE ",
-        "trial FIRMS CLAIMS SEED ",
-    ];
     let mut lines = USAGE.lines();
-    for name in names {
+    for form in FORMS {
         let line = lines.next().expect(&rt, "a line");
-        assert!(rt; line.starts_with(name), "{name}");
+        assert!(rt; line.starts_with(form), "{form}");
     }
     assert!(rt; lines.next().is_none());
 }

@@ -52,50 +52,55 @@ fn entries_of_a_firm_are_written(rt: HostRuntime) {
     );
 }
 
+const MOST_ROUND: u32 = 4_294_967_295;
+
+// Replies to an Abandon of the bureau, and the lines of these.
+const REPLIES: &[(Reply, &[u8])] = &[
+    (
+        Reply::Opened { round: MOST_ROUND },
+        b"0 ABANDON = opened 4294967295\n",
+    ),
+    (Reply::Continued { round: 1 }, b"0 ABANDON = continued 1\n"),
+    (
+        Reply::Published {
+            total: 999_999_999_999_999_999,
+        },
+        b"0 ABANDON = published 9999999999999999.99\n",
+    ),
+    (Reply::Abandoned { round: 7 }, b"0 ABANDON = abandoned 7\n"),
+    (
+        Reply::Refused(Why::Frozen { round: 1 }),
+        b"0 ABANDON = refused 10 frozen 1\n",
+    ),
+    (
+        Reply::Refused(Why::RoundOpen { round: MOST_ROUND }),
+        b"0 ABANDON = refused 15 round-open 4294967295\n",
+    ),
+    (
+        Reply::Refused(Why::NoRound),
+        b"0 ABANDON = refused 16 no-round\n",
+    ),
+    (
+        Reply::Refused(Why::NotOwner { round: 2 }),
+        b"0 ABANDON = refused 17 not-owner 2\n",
+    ),
+    (
+        Reply::Refused(Why::Device {
+            before: 0,
+            after: 18_446_744_073_709_551_615,
+        }),
+        b"0 ABANDON = refused 18 device 0 18446744073709551615\n",
+    ),
+    (
+        Reply::Refused(Why::NotProved),
+        b"0 ABANDON = refused 19 not-proved\n",
+    ),
+];
+
 #[test]
 fn replies_of_rounds_are_written(rt: HostRuntime) {
-    let round = 4_294_967_295;
-    let most = 18_446_744_073_709_551_615;
-    let cases: [(Reply, &[u8]); 10] = [
-        (Reply::Opened { round }, b"0 ABANDON = opened 4294967295\n"),
-        (Reply::Continued { round: 1 }, b"0 ABANDON = continued 1\n"),
-        (
-            Reply::Published {
-                total: 999_999_999_999_999_999,
-            },
-            b"0 ABANDON = published 9999999999999999.99\n",
-        ),
-        (Reply::Abandoned { round: 7 }, b"0 ABANDON = abandoned 7\n"),
-        (
-            Reply::Refused(Why::Frozen { round: 1 }),
-            b"0 ABANDON = refused 10 frozen 1\n",
-        ),
-        (
-            Reply::Refused(Why::RoundOpen { round }),
-            b"0 ABANDON = refused 15 round-open 4294967295\n",
-        ),
-        (
-            Reply::Refused(Why::NoRound),
-            b"0 ABANDON = refused 16 no-round\n",
-        ),
-        (
-            Reply::Refused(Why::NotOwner { round: 2 }),
-            b"0 ABANDON = refused 17 not-owner 2\n",
-        ),
-        (
-            Reply::Refused(Why::Device {
-                before: 0,
-                after: most,
-            }),
-            b"0 ABANDON = refused 18 device 0 18446744073709551615\n",
-        ),
-        (
-            Reply::Refused(Why::NotProved),
-            b"0 ABANDON = refused 19 not-proved\n",
-        ),
-    ];
-    for (reply, text) in cases {
-        let line = line_of(&rt, rt.alloc(), 0, Act::Abandon, reply);
-        assert!(rt; line.as_slice() == text);
+    for (reply, text) in REPLIES {
+        let line = line_of(&rt, rt.alloc(), 0, Act::Abandon, *reply);
+        assert!(rt; line.as_slice() == *text);
     }
 }

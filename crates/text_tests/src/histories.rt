@@ -192,25 +192,28 @@ fn ranges(rt: HostRuntime) {
     assert!(rt; !Act::Abandon.publishes());
 }
 
+const FAILED: Why = Why::Device {
+    before: 0,
+    after: 1,
+};
+
+// Replies, and whether an entry with each is accepted.
+const REPLIES: &[(Reply, bool)] = &[
+    (Reply::Abandoned { round: 1 }, true),
+    (Reply::Published { total: 0 }, true),
+    (Reply::Refused(Why::NoRound), false),
+    (Reply::Refused(FAILED), false),
+];
+
 #[test]
 fn acceptance(rt: HostRuntime) {
-    let failed = Why::Device {
-        before: 0,
-        after: 1,
-    };
-    let cases = [
-        (Reply::Abandoned { round: 1 }, true),
-        (Reply::Published { total: 0 }, true),
-        (Reply::Refused(Why::NoRound), false),
-        (Reply::Refused(failed), false),
-    ];
-    for (reply, is_accepted) in cases {
+    for (reply, is_accepted) in REPLIES {
         let entry = Entry {
             caller: 1,
             act: Act::Abandon,
-            reply,
+            reply: *reply,
         };
-        assert!(rt; accepted(&entry) == is_accepted);
+        assert!(rt; accepted(&entry) == *is_accepted);
     }
 }
 

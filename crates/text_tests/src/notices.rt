@@ -7,7 +7,6 @@ use std::alloc::Global;
 use std::process::Abort;
 
 // Asks the book for an act that opens no round, and puts its entry at the end.
-#[tactic(auto, using(claim_history::proofs::Growth::due_follows))]
 fn ask(rt: &impl Abort, book: &mut Book, caller: u32, act: Act) {
     assert!(rt; act.valid());
     assert!(rt; !act.publishes());
@@ -119,22 +118,24 @@ fn statuses_and_accounts_are_told(rt: HostRuntime) {
     );
 }
 
+// Invoices, and the requests that they are.
+const INVOICES: &[(&[u8], &[u8])] = &[
+    (
+        b"creditor,invoice,debtor,amount,due\r\nB,I-1,A,10.00,2025-01-31\r\n\"C\",\"I-2\",B,7.00,2025-01-31",
+        b"2 FILE B I-1 A 10.00 2025-01-31\n2 FILE C I-2 B 7.00 2025-01-31\n",
+    ),
+    (
+        b"\xef\xbb\xbf\"creditor\",invoice,debtor,amount,due\n\nB,I-1,A,\"0.01\",\"1970-01-01\"\n\n",
+        b"2 FILE B I-1 A 0.01 1970-01-01\n",
+    ),
+    (b"creditor,invoice,debtor,amount,due", b""),
+];
+
 #[test]
 fn invoices_are_filed(rt: HostRuntime) {
-    let cases: [(&[u8], &[u8]); 3] = [
-        (
-            b"creditor,invoice,debtor,amount,due\r\nB,I-1,A,10.00,2025-01-31\r\n\"C\",\"I-2\",B,7.00,2025-01-31",
-            b"2 FILE B I-1 A 10.00 2025-01-31\n2 FILE C I-2 B 7.00 2025-01-31\n",
-        ),
-        (
-            b"\xef\xbb\xbf\"creditor\",invoice,debtor,amount,due\n\nB,I-1,A,\"0.01\",\"1970-01-01\"\n\n",
-            b"2 FILE B I-1 A 0.01 1970-01-01\n",
-        ),
-        (b"creditor,invoice,debtor,amount,due", b""),
-    ];
-    for (input, lines) in cases {
+    for (input, lines) in INVOICES {
         let text = import(rt.alloc(), input, 2).expect(&rt, "invoices");
-        assert!(rt; text.as_slice() == lines);
+        assert!(rt; text.as_slice() == *lines);
     }
 }
 
@@ -146,60 +147,62 @@ fn bad_row(alloc: Global, input: &[u8]) -> Option<(u64, RowCause)> {
     }
 }
 
+// Inputs, with the number and the cause of the first bad row of each.
+const BAD_ROWS: &[(&[u8], u64, RowCause)] = &[
+    (b"", 1, RowCause::Header),
+    (b"\n\r\n", 1, RowCause::Header),
+    (b"creditor,invoice,debtor,amount\n", 1, RowCause::Header),
+    (
+        b"creditor,invoice,debtor,amount,due,\n",
+        1,
+        RowCause::Header,
+    ),
+    (b"creditor,invoice,debtor,due,amount\n", 1, RowCause::Header),
+    (
+        b"\xef\xbb\xbf\xef\xbb\xbfcreditor,invoice,debtor,amount,due\n",
+        1,
+        RowCause::Header,
+    ),
+    (
+        b"creditor,invoice,debtor,amount,due\nB,I-1,A,10.00,2025-01-31\n\"C\",\"I-2\",B,7.00,2025-01-31\nC,I-3,B,7.0,2025-01-31\n",
+        4,
+        RowCause::Field(4),
+    ),
+    (
+        b"creditor,invoice,debtor,amount,due\n\nB,I-1,A,10.00\n",
+        2,
+        RowCause::Fields,
+    ),
+    (
+        b"creditor,invoice,debtor,amount,due\nB,I-1,A,10.00,2025-01-31,\n",
+        2,
+        RowCause::Fields,
+    ),
+    (
+        b"creditor,invoice,debtor,amount,due\n\"B,C\",i,A,0.00,2025-01-31\n",
+        2,
+        RowCause::Field(1),
+    ),
+    (
+        b"creditor,invoice,debtor,amount,due\nB,\"I\"\"1\",a,0.00,2025-01-31\n",
+        2,
+        RowCause::Field(2),
+    ),
+    (
+        b"creditor,invoice,debtor,amount,due\nB,I-1, A,0.00,2025-01-31\n",
+        2,
+        RowCause::Field(3),
+    ),
+    (
+        b"creditor,invoice,debtor,amount,due\nB,I-1,A,0.01,2025-02-29\n",
+        2,
+        RowCause::Field(5),
+    ),
+];
+
 #[test]
 fn bad_rows_have_causes(rt: HostRuntime) {
-    let cases: [(&[u8], u64, RowCause); 13] = [
-        (b"", 1, RowCause::Header),
-        (b"\n\r\n", 1, RowCause::Header),
-        (b"creditor,invoice,debtor,amount\n", 1, RowCause::Header),
-        (
-            b"creditor,invoice,debtor,amount,due,\n",
-            1,
-            RowCause::Header,
-        ),
-        (b"creditor,invoice,debtor,due,amount\n", 1, RowCause::Header),
-        (
-            b"\xef\xbb\xbf\xef\xbb\xbfcreditor,invoice,debtor,amount,due\n",
-            1,
-            RowCause::Header,
-        ),
-        (
-            b"creditor,invoice,debtor,amount,due\nB,I-1,A,10.00,2025-01-31\n\"C\",\"I-2\",B,7.00,2025-01-31\nC,I-3,B,7.0,2025-01-31\n",
-            4,
-            RowCause::Field(4),
-        ),
-        (
-            b"creditor,invoice,debtor,amount,due\n\nB,I-1,A,10.00\n",
-            2,
-            RowCause::Fields,
-        ),
-        (
-            b"creditor,invoice,debtor,amount,due\nB,I-1,A,10.00,2025-01-31,\n",
-            2,
-            RowCause::Fields,
-        ),
-        (
-            b"creditor,invoice,debtor,amount,due\n\"B,C\",i,A,0.00,2025-01-31\n",
-            2,
-            RowCause::Field(1),
-        ),
-        (
-            b"creditor,invoice,debtor,amount,due\nB,\"I\"\"1\",a,0.00,2025-01-31\n",
-            2,
-            RowCause::Field(2),
-        ),
-        (
-            b"creditor,invoice,debtor,amount,due\nB,I-1, A,0.00,2025-01-31\n",
-            2,
-            RowCause::Field(3),
-        ),
-        (
-            b"creditor,invoice,debtor,amount,due\nB,I-1,A,0.01,2025-02-29\n",
-            2,
-            RowCause::Field(5),
-        ),
-    ];
-    for (input, row, cause) in cases {
-        assert!(rt; bad_row(rt.alloc(), input) == Some((row, cause)));
+    for (input, row, cause) in BAD_ROWS {
+        assert!(rt; bad_row(rt.alloc(), input) == Some((*row, *cause)));
     }
 }

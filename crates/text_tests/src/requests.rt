@@ -30,23 +30,24 @@ fn requests_are_read(rt: HostRuntime) {
     }
 }
 
+// Inputs, how many batches each has, and how many requests the first and the last of them.
+const FENCED: &[(&[u8], usize, usize, usize)] = &[
+    (b"", 1, 0, 0),
+    (b"1 FIRM A\nFENCE\n2 FIRM A", 2, 1, 1),
+    (b"1 FIRM A\r\n2 FIRM B\r\nFENCE\r\n", 2, 2, 0),
+    (b"FENCE\n1 FIRM A\n3 FIRM B", 2, 0, 2),
+    (b"FENCE", 2, 0, 0),
+    (b"FENCE\nFENCE\n1 FIRM A\nFENCE\n", 4, 0, 0),
+];
+
 #[test]
 fn fences_end_batches(rt: HostRuntime) {
-    // an input, its batches, and the requests of the first and of the last
-    let cases: [(&[u8], usize, usize, usize); 6] = [
-        (b"", 1, 0, 0),
-        (b"1 FIRM A\nFENCE\n2 FIRM A", 2, 1, 1),
-        (b"1 FIRM A\r\n2 FIRM B\r\nFENCE\r\n", 2, 2, 0),
-        (b"FENCE\n1 FIRM A\n3 FIRM B", 2, 0, 2),
-        (b"FENCE", 2, 0, 0),
-        (b"FENCE\nFENCE\n1 FIRM A\nFENCE\n", 4, 0, 0),
-    ];
-    for (input, count, first, last) in cases {
+    for (input, count, first, last) in FENCED {
         let batches = read(&rt, rt.alloc(), input);
-        assert!(rt; batches.len() == count);
+        assert!(rt; batches.len() == *count);
         let begun = batches.first().expect(&rt, "a batch");
         let end = batches.last().expect(&rt, "a batch");
-        assert!(rt; begun.requests().len() == first && end.requests().len() == last);
+        assert!(rt; begun.requests().len() == *first && end.requests().len() == *last);
     }
 }
 
@@ -149,19 +150,21 @@ fn bad_lines_have_causes(rt: HostRuntime) {
     }
 }
 
+// Inputs, with the number and the cause of the first bad line of each.
+const FIRST_BAD_LINES: &[(&[u8], u64, LineCause)] = &[
+    (b"1 FIRM A\n\n1 FIRM B\n", 2, LineCause::Lane),
+    (b"FENCE\nFENCE\n16 FIRM a\n", 3, LineCause::Field(1)),
+    (
+        b"1 FIRM A\n1 FILE B I-1 A 10.00 2025-02-30\n0 FIRM A",
+        2,
+        LineCause::Field(5),
+    ),
+];
+
 #[test]
 fn the_first_bad_line_is_named(rt: HostRuntime) {
-    let cases: [(&[u8], u64, LineCause); 3] = [
-        (b"1 FIRM A\n\n1 FIRM B\n", 2, LineCause::Lane),
-        (b"FENCE\nFENCE\n16 FIRM a\n", 3, LineCause::Field(1)),
-        (
-            b"1 FIRM A\n1 FILE B I-1 A 10.00 2025-02-30\n0 FIRM A",
-            2,
-            LineCause::Field(5),
-        ),
-    ];
-    for (input, line, cause) in cases {
-        assert!(rt; bad_line(rt.alloc(), input) == Some((line, cause)));
+    for (input, line, cause) in FIRST_BAD_LINES {
+        assert!(rt; bad_line(rt.alloc(), input) == Some((*line, *cause)));
     }
 }
 
@@ -174,26 +177,28 @@ fn is_written(rt: &impl Abort, alloc: Global, request: &Request, line: &[u8]) {
     assert!(rt; written.as_slice() == line);
 }
 
+// One line for each verb, at its limits.
+const LINES: &[&[u8]] = &[
+    b"1 FIRM A\n",
+    b"16 FILE B I-1 A 9999999999.99 9999-12-31\n",
+    b"1 CONFIRM B I-1 A\n",
+    b"10 DISPUTE B I-1 A\n",
+    b"1 WITHDRAW B I-1\n",
+    b"1 RECEIVE B I-1 0.01\n",
+    b"1 FUND A 1.00\n",
+    b"1 DRAW A 1.00\n",
+    b"1 LIMIT A 0.00 9999999999.99\n",
+    b"1 LIMIT A 9999999999.99 0.00\n",
+    b"1 OFFER A 0.00\n",
+    b"1 POSITION A\n",
+    b"1 CLOSE PLAIN 2025-12-31\n",
+    b"1 CLOSE FUNDED 1970-01-01\n",
+    b"1 ABANDON\n",
+];
+
 #[test]
 fn requests_are_written_as_they_were_read(rt: HostRuntime) {
-    let lines: [&[u8]; 15] = [
-        b"1 FIRM A\n",
-        b"16 FILE B I-1 A 9999999999.99 9999-12-31\n",
-        b"1 CONFIRM B I-1 A\n",
-        b"10 DISPUTE B I-1 A\n",
-        b"1 WITHDRAW B I-1\n",
-        b"1 RECEIVE B I-1 0.01\n",
-        b"1 FUND A 1.00\n",
-        b"1 DRAW A 1.00\n",
-        b"1 LIMIT A 0.00 9999999999.99\n",
-        b"1 LIMIT A 9999999999.99 0.00\n",
-        b"1 OFFER A 0.00\n",
-        b"1 POSITION A\n",
-        b"1 CLOSE PLAIN 2025-12-31\n",
-        b"1 CLOSE FUNDED 1970-01-01\n",
-        b"1 ABANDON\n",
-    ];
-    for line in lines {
+    for line in LINES {
         let batches = read(&rt, rt.alloc(), line);
         is_written(&rt, rt.alloc(), only_one(&rt, batches.first()), line);
     }

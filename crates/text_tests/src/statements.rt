@@ -117,76 +117,79 @@ fn a_text_cut_short(rt: HostRuntime) {
     }
 }
 
+const OTHER_ENDS: &[&[u8]] = &[
+    b"ROUND 1 PLAIN\r\nEND\r\n",
+    b"ROUND 4294967295 FUNDED\nEND",
+    b"ROUND 1 FUNDED\nPARTY A 20000000000000.00 0.00 -999999999\nEND\n",
+];
+
 #[test]
 fn other_line_ends(rt: HostRuntime) {
-    let texts: [&[u8]; 3] = [
-        b"ROUND 1 PLAIN\r\nEND\r\n",
-        b"ROUND 4294967295 FUNDED\nEND",
-        b"ROUND 1 FUNDED\nPARTY A 20000000000000.00 0.00 -999999999\nEND\n",
-    ];
-    for text in texts {
+    for text in OTHER_ENDS {
         assert!(rt; is_read(rt.alloc(), text) == Some(true));
     }
 }
 
+// Texts, with the number and the cause of the first bad line of each.
+const BAD_LINES: &[(&[u8], u64, StatementCause)] = &[
+    (b"", 1, Round),
+    (b"END\n", 1, Round),
+    (b"ROUND 0 PLAIN\nEND\n", 1, Round),
+    (b"ROUND 4294967296 PLAIN\nEND\n", 1, Round),
+    (b"ROUND 1 PLAIN\nEND\n\n", 3, After),
+    (b"ROUND 1 PLAIN\nROUND 1 PLAIN\nEND\n", 2, Shape),
+    (b"ROUND 1 PLAIN\nPARTY A 0.00 0.00 -0\nEND\n", 2, Shape),
+    (
+        b"ROUND 1 FUNDED\nPARTY A 20000000000000.01 0.00 0\nEND\n",
+        2,
+        Shape,
+    ),
+    (
+        b"ROUND 1 PLAIN\nPARTY A 0.00 0.00 0\nPARTY B 0.00 0.00 0\nCLAIM A I B 0.01 0.00\nPARTY C 0.00 0.00 0\nEND\n",
+        5,
+        Shape,
+    ),
+    (
+        b"ROUND 1 PLAIN\nPARTY A 0.00 0.00 0\nPARTY B 0.00 0.00 0\nCLAIM A I B 0.00 0.00\nEND\n",
+        4,
+        Shape,
+    ),
+    (
+        b"ROUND 1 PLAIN\nPARTY A 0.00 0.00 0\nPARTY A 0.01 0.00 0\nEND\n",
+        3,
+        Repeat,
+    ),
+    (
+        b"ROUND 1 PLAIN\nPARTY A 0.00 0.00 0\nPARTY B 0.00 0.00 0\nCLAIM A I B 0.01 0.00\nCLAIM A I C 0.01 0.00\nEND\n",
+        5,
+        Repeat,
+    ),
+    (
+        b"ROUND 1 PLAIN\nPARTY A 0.00 0.00 0\nCLAIM A I B 0.01 0.00\nEND\n",
+        3,
+        NoParty,
+    ),
+    (
+        b"ROUND 1 PLAIN\nPARTY A 0.00 0.00 0\nCLAIM B I B 0.01 0.00\nEND\n",
+        3,
+        NoParty,
+    ),
+    (
+        b"ROUND 1 PLAIN\nPARTY A 0.00 0.00 0\nCLAIM A I A 0.01 0.00\nEND\n",
+        3,
+        SameFirm,
+    ),
+    (b"ROUND 1 PLAIN\nPARTY A 0.00 0.01 0\nEND\n", 2, Window),
+    (b"ROUND 1 PLAIN\nPARTY A 0.01 0.00 0\nEND\n", 2, Window),
+    (b"ROUND 1 PLAIN\n", 2, NoEnd),
+    (b"ROUND 1 PLAIN\nPARTY A 0.00 0.00 0", 3, NoEnd),
+];
+
 #[test]
 fn bad_lines(rt: HostRuntime) {
-    let cases: [(&[u8], u64, StatementCause); 19] = [
-        (b"", 1, Round),
-        (b"END\n", 1, Round),
-        (b"ROUND 0 PLAIN\nEND\n", 1, Round),
-        (b"ROUND 4294967296 PLAIN\nEND\n", 1, Round),
-        (b"ROUND 1 PLAIN\nEND\n\n", 3, After),
-        (b"ROUND 1 PLAIN\nROUND 1 PLAIN\nEND\n", 2, Shape),
-        (b"ROUND 1 PLAIN\nPARTY A 0.00 0.00 -0\nEND\n", 2, Shape),
-        (
-            b"ROUND 1 FUNDED\nPARTY A 20000000000000.01 0.00 0\nEND\n",
-            2,
-            Shape,
-        ),
-        (
-            b"ROUND 1 PLAIN\nPARTY A 0.00 0.00 0\nPARTY B 0.00 0.00 0\nCLAIM A I B 0.01 0.00\nPARTY C 0.00 0.00 0\nEND\n",
-            5,
-            Shape,
-        ),
-        (
-            b"ROUND 1 PLAIN\nPARTY A 0.00 0.00 0\nPARTY B 0.00 0.00 0\nCLAIM A I B 0.00 0.00\nEND\n",
-            4,
-            Shape,
-        ),
-        (
-            b"ROUND 1 PLAIN\nPARTY A 0.00 0.00 0\nPARTY A 0.01 0.00 0\nEND\n",
-            3,
-            Repeat,
-        ),
-        (
-            b"ROUND 1 PLAIN\nPARTY A 0.00 0.00 0\nPARTY B 0.00 0.00 0\nCLAIM A I B 0.01 0.00\nCLAIM A I C 0.01 0.00\nEND\n",
-            5,
-            Repeat,
-        ),
-        (
-            b"ROUND 1 PLAIN\nPARTY A 0.00 0.00 0\nCLAIM A I B 0.01 0.00\nEND\n",
-            3,
-            NoParty,
-        ),
-        (
-            b"ROUND 1 PLAIN\nPARTY A 0.00 0.00 0\nCLAIM B I B 0.01 0.00\nEND\n",
-            3,
-            NoParty,
-        ),
-        (
-            b"ROUND 1 PLAIN\nPARTY A 0.00 0.00 0\nCLAIM A I A 0.01 0.00\nEND\n",
-            3,
-            SameFirm,
-        ),
-        (b"ROUND 1 PLAIN\nPARTY A 0.00 0.01 0\nEND\n", 2, Window),
-        (b"ROUND 1 PLAIN\nPARTY A 0.01 0.00 0\nEND\n", 2, Window),
-        (b"ROUND 1 PLAIN\n", 2, NoEnd),
-        (b"ROUND 1 PLAIN\nPARTY A 0.00 0.00 0", 3, NoEnd),
-    ];
-    for (text, line, cause) in cases {
+    for (text, line, cause) in BAD_LINES {
         assert!(rt;
-            bad_line(rt.alloc(), text) == Some((line, cause)),
+            bad_line(rt.alloc(), text) == Some((*line, *cause)),
             "at {line}"
         );
     }
@@ -213,20 +216,21 @@ fn many_lines(rt: &impl Abort, alloc: Global, parties: u32, claims: u32, more: &
     text
 }
 
+// So many parties and claims, one line too many, and its number. The limit comes before all that the line repeats or does not name.
+const TOO_MANY: &[(u32, u32, &[u8], u64)] = &[
+    (16_384, 0, b"PARTY G 0.00 0.00 0\n", 16_386),
+    (16_384, 0, b"PARTY F-0 0.00 0.01 0\n", 16_386),
+    (2, 262_144, b"CLAIM F-1 J F-0 1.00 0.50\n", 262_148),
+    (2, 262_144, b"CLAIM F-1 I-0 F-0 1.00 0.50\n", 262_148),
+    (2, 262_144, b"CLAIM F-1 J G 1.00 0.50\n", 262_148),
+];
+
 #[test]
 fn limits(rt: HostRuntime) {
     let most = many_lines(&rt, rt.alloc(), 16_384, 262_144, b"");
     assert!(rt; is_read(rt.alloc(), &most) == Some(true));
-    // The limit comes before all that a line repeats or does not name.
-    let cases: [(u32, u32, &[u8], u64); 5] = [
-        (16_384, 0, b"PARTY G 0.00 0.00 0\n", 16_386),
-        (16_384, 0, b"PARTY F-0 0.00 0.01 0\n", 16_386),
-        (2, 262_144, b"CLAIM F-1 J F-0 1.00 0.50\n", 262_148),
-        (2, 262_144, b"CLAIM F-1 I-0 F-0 1.00 0.50\n", 262_148),
-        (2, 262_144, b"CLAIM F-1 J G 1.00 0.50\n", 262_148),
-    ];
-    for (parties, claims, more, line) in cases {
-        let text = many_lines(&rt, rt.alloc(), parties, claims, more);
-        assert!(rt; bad_line(rt.alloc(), &text) == Some((line, Limit)));
+    for (parties, claims, more, line) in TOO_MANY {
+        let text = many_lines(&rt, rt.alloc(), *parties, *claims, more);
+        assert!(rt; bad_line(rt.alloc(), &text) == Some((*line, Limit)));
     }
 }
