@@ -28,7 +28,9 @@ use Rattle.turn_lock.specs.Seats.{number, seen, own}
 use Rattle.turn_lock.proofs.Histories.{prefix_trans, prefix_self}
 use Rattle.recorded_book.specs.declared.cut_reply.CutReply.TheVariants.{Frozen, Refused}
 use Rattle.recorded_book.specs.Acting.{entry_of}
+use Rattle.bureau_desk.specs.declared.publish_reply.PublishReply.{PublishReply}
 use Rattle.bureau_desk.specs.declared.publish_reply.PublishReply.TheVariants as answers
+use Rattle.shared_bureau.specs.declared.close_end.CloseEnd.{CloseEnd}
 use Rattle.shared_bureau.specs.declared.close_end.CloseEnd.TheVariants as ends
 use Rattle.shared_bureau.specs.Owned.{OwnsRound}
 use Rattle.shared_bureau.specs.Adding.{HasAdded, HasEntry, HasCut, HasPublished}
@@ -114,8 +116,8 @@ module _ {T : Type 0} (old mid : Seat T Entry) (kind : Kind) (horizon : ℕ) (cu
       added = subst (λ (n : ℕ). HasAdded old new (e ∷ entry_of n (act.Publish cut.round outcome) got ∷ [])) number_same
           (both old mid new (e ∷ []) (entry_of (number mid) (act.Publish cut.round outcome) got ∷ []) h.entry.added q.added)
 
-      ended : Ended got
-      ended = (
+      both_asked : Ended got
+      both_asked = (
         added,
         record {
           got = h.got;
@@ -134,10 +136,17 @@ module _ {T : Type 0} (old mid : Seat T Entry) (kind : Kind) (horizon : ℕ) (cu
       )
 
     pub published : (total : ℕ) → HasPublished mid new cut outcome (answers.Published total) → HasClosed old new a (ends.Published cut.round total)
-    published total q = let x = subst Ended q.answer_is (ended q.got q.entry) in record { more = e ∷ p (reply.Published total) ∷ []; added = x.0; tells = x.1 }
+    published total q = let x = subst Ended q.answer_is (both_asked q.got q.entry) in record { more = e ∷ p (reply.Published total) ∷ []; added = x.0; tells = x.1 }
 
     pub failed : (before after : ℕ) → HasPublished mid new cut outcome (answers.Device before after) → HasClosed old new a (ends.Device cut.round before after)
-    failed before after q = let x = subst Ended q.answer_is (ended q.got q.entry) in record { more = e ∷ p (reply.Refused (why.Device before after)) ∷ []; added = x.0; tells = x.1 }
+    failed before after q = let x = subst Ended q.answer_is (both_asked q.got q.entry) in record { more = e ∷ p (reply.Refused (why.Device before after)) ∷ []; added = x.0; tells = x.1 }
+
+    -- whatever the publication got
+    pub ended : (answer : PublishReply) (end : CloseEnd) → HasPublished mid new cut outcome answer
+        → ((total : ℕ) → answer ≡ answers.Published total → end ≡ ends.Published cut.round total)
+        → ((before after : ℕ) → answer ≡ answers.Device before after → end ≡ ends.Device cut.round before after) → HasClosed old new a end
+    ended (answers.Published total) end q done device = subst (HasClosed old new a) (sym (done total refl)) (published total q)
+    ended (answers.Device before after) end q done device = subst (HasClosed old new a) (sym (device before after refl)) (failed before after q)
 
 -- a Close that is refused
 pub not_opened : {T : Type 0} (old mid : Seat T Entry) (a : Act) (w : Why) → HasCut old mid a (Refused w) → HasClosed old mid a (ends.NotOpened w)

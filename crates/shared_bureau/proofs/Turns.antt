@@ -9,11 +9,12 @@ use Rattle.claim_history.specs.History.{IsLegal, IsLegalPast, AreValid, MayFollo
 use Rattle.claim_history.specs.Callers.{entries_by}
 use Rattle.turn_lock.specs.declared.view.View.{View}
 use Rattle.turn_lock.specs.declared.turn.Seat.{Seat}
+use Rattle.turn_lock.specs.declared.turn.Turn.{Turn}
 use Rattle.turn_lock.specs.Turns.{Entered, MayLeave, released}
 use Rattle.turn_lock.specs.Seats.{lock, number, view, seen, own, opened}
 use Rattle.turn_lock.proofs.Histories.{prefix_more, entries_by_more}
 use Rattle.bureau_desk.specs.Desks.{DeskView, HasSameBase}
-use Rattle.shared_bureau.specs.Adding.{HasAdded}
+use Rattle.shared_bureau.specs.Adding.{HasAdded, IsReady}
 use Rattle.shared_bureau.specs.Finishing.{base_numbers}
 
 -- the last entry of a legal history may follow those before it
@@ -21,8 +22,8 @@ pub follows : (before : List Entry) (e : Entry) → IsLegal (before ++ e ∷ [])
 follows before e legal = (subst IsLegalPast (reverse-append before (e ∷ [])) legal).0
 
 -- what holds of a number and two desks holds of equal ones
-pub moved : {X : Type 0} (P : ℕ → X → X → Type 0) {k l : ℕ} {f g n m : X} → k ≡ l → f ≡ g → n ≡ m → P k f n → P l g m
-moved P {k} {l} {f} {g} {n} {m} a b c p = subst (λ x. P l g x) c (subst (λ x. P l x n) b (subst (λ x. P x f n) a p))
+pub moved : {X : Type 0} (P : ℕ → X → X → Type 0) {j k l : ℕ} {f g n m : X} → j ≡ k → k ≡ l → f ≡ g → m ≡ n → P j f n → P l g m
+moved P {j} {k} {l} {f} {g} {n} {m} a b c d p = subst (λ x. P l g x) (sym d) (subst (λ x. P l x n) c (subst (λ x. P x f n) (a ∙ b) p))
 
 module _ {D : Type 0} (of_disk : D → Seen) where
   -- a desk whose disk, history and rounds alone have changed has the same base
@@ -65,6 +66,16 @@ module _ {D : Type 0} (of_disk : D → Seen) where
       pub left : view last ≡ released (view mid) new.history
       pub legal : IsLegal new.history
       pub valid : AreValid new.history
+
+    -- from what entering and leaving say
+    pub a_turn : (last : Seat T Entry) → (lock mid ≡ lock old) × (number mid ≡ number old) → Took → (lock last ≡ lock mid) × (number last ≡ number mid) → view last ≡ released (view mid) new.history
+        → IsLegal new.history → AreValid new.history → IsTurn last
+    a_turn last entering took leaving left legal valid =
+        record { lock_is = leaving.0 ∙ entering.0; number_is = leaving.1 ∙ entering.1; took = took; left = left; legal = legal; valid = valid }
+
+    -- the seat holds no turn again
+    pub ready_again : (turn : Turn T Entry) (last : Seat T Entry) → IsReady turn old → (lock mid ≡ lock old) × (number mid ≡ number old) → (lock last ≡ lock mid) × (number last ≡ number mid) → view last ≡ released (view mid) new.history → IsReady turn last
+    ready_again turn last ready entering leaving left = record { made = leaving.0 ∙ entering.0 ∙ ready.made; free = ap (λ (v : View Entry). v.holds) left }
 
     module _ (last : Seat T Entry) (t : IsTurn last) where
       pub seen_is : seen last ≡ new.history

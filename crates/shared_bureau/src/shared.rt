@@ -1,12 +1,17 @@
 //! The calls of a shared desk.
-ghost use Rattle.std.specs.Prelude.{◌≡◌, ◌<◌, ◌≤◌, ◌+◌, true, false, List, length, All, IfOk, IfErr};
+ghost use Rattle.std.specs.Prelude.{◌≡◌, ◌<◌, ◌≤◌, ◌+◌, true, false, ℕ, List, [], length, All, IfOk, IfErr};
 ghost use Rattle.claim_history.specs.Acts.{is_valid, is_publication, is_close};
+ghost use Rattle.claim_history.specs.declared.act.Act.{Act};
 ghost use Rattle.claim_history.specs.declared.act.Act.TheVariants as acts;
+ghost use Rattle.claim_history.specs.declared.entry.Entry.{Entry};
+ghost use Rattle.recorded_book.specs.Acting.{IsActError};
+ghost use Rattle.bureau_desk.specs.declared.publish_reply.PublishReply.TheVariants as answers;
+ghost use Rattle.shared_bureau.specs.declared.close_end.CloseEnd.TheVariants as ends;
 ghost use Rattle.turn_lock.specs.Turns.{IsRegistrarOf, drew, gave, new_view};
 ghost use Rattle.turn_lock.specs.Seats.{most_seats, most_callers, lock, lock_of, number, seen, own, view, registry, registrar_view, made};
 ghost use Rattle.shared_bureau.specs.Owned.{OwnsRound};
 ghost use Rattle.shared_bureau.specs.Adding.{IsReady, HasEntry, HasNoEntry, HasCut, HasPublished};
-ghost use Rattle.shared_bureau.specs.Closing.{HasClosed};
+ghost use Rattle.shared_bureau.specs.Closing.{HasClosed, Tells};
 ghost use Rattle.shared_bureau.specs.Finishing.{base_numbers, AreNew, HasFinished};
 
 use crate::close_end::CloseEnd;
@@ -158,34 +163,14 @@ impl<D: Disk> Shared<D> {
         let cut = match self.cut(rt, seat, kind, horizon) {
             Ok(CutReply::Frozen(cut)) => cut,
             Ok(CutReply::Refused(why)) => return CloseEnd::NotOpened(why),
-            Err(ActError::Memory) => return CloseEnd::Memory { round: None },
-            Err(
-                ActError::Full {
-                    what,
-                    needed,
-                    limit,
-                },
-            ) => {
-                return CloseEnd::Full {
-                    what,
-                    needed,
-                    limit,
-                };
-            }
+            Err(error) => return unasked_end(error),
         };
         let round = cut.round();
         pause.pause(rt, round);
         let Ok(checked) = certified(alloc, solver, cut) else {
             return CloseEnd::Memory { round: Some(round) };
         };
-        match self.publish(rt, seat, checked) {
-            PublishReply::Published { total } => CloseEnd::Published { round, total },
-            PublishReply::Device { before, after } => CloseEnd::Device {
-                round,
-                before,
-                after,
-            },
-        }
+        published_end(round, self.publish(rt, seat, checked))
     }
 
     /// The desk back, for all seats that were made. Its history begins with what each has seen, and its disk keeps every
@@ -200,5 +185,38 @@ impl<D: Disk> Shared<D> {
         let desk = turn.finish(registrar, seats);
         let _book = desk.book();
         desk
+    }
+}
+
+// What comes of a Close that has no entry.
+fn unasked_end(error: ActError) -> CloseEnd
+    ensures { (history : List Entry) (caller : ℕ) (a : Act) → IsActError history caller a error → Tells history caller a result [] }
+{
+    match error {
+        ActError::Memory => CloseEnd::Memory { round: None },
+        ActError::Full {
+            what,
+            needed,
+            limit,
+        } => CloseEnd::Full {
+            what,
+            needed,
+            limit,
+        },
+    }
+}
+
+// What comes of a round of this number that was closed, where its publication got this answer.
+fn published_end(round: u32, answer: PublishReply) -> CloseEnd
+    ensures published { (total : ℕ) → answer ≡ answers.Published total → result ≡ ends.Published round total }
+    ensures device { (before after : ℕ) → answer ≡ answers.Device before after → result ≡ ends.Device round before after }
+{
+    match answer {
+        PublishReply::Published { total } => CloseEnd::Published { round, total },
+        PublishReply::Device { before, after } => CloseEnd::Device {
+            round,
+            before,
+            after,
+        },
     }
 }
