@@ -17,7 +17,7 @@ ghost use Rattle.journal_replay.specs.Replays.{history_of, AreSound};
 ghost use Rattle.round_journal.specs.Opened.{IsOpen};
 ghost use Rattle.round_journal.specs.declared.record.Record.{Record};
 ghost use Rattle.disk_model.specs.Calls.{Passes};
-ghost use Rattle.recorded_book.specs.Calls.{HoldsAbandoning};
+ghost use Rattle.recorded_book.specs.Calls.{HoldsAbandoning, IsLeftOpen};
 ghost use Rattle.recorded_book.specs.Recorded.{Records};
 ghost use Rattle.recorded_book.specs.Acting.{HasActed, IsActError, MayBePut, IsLater, IsUntouched, IsSpared, IsOutcomeDue, HasClosed, IsCloseDue, IsCutReply, IsNotAbandoned, IsOpenedHistory, entry_of};
 
@@ -80,15 +80,26 @@ impl<D: Disk> RecordedBook<D> {
         ensures crash { IsTrue (D.seen self.old.recorder.journal.disk).tells → Passes (D.seen self.old.recorder.journal.disk) (D.seen self.new.recorder.journal.disk) (HoldsAbandoning self.old.book.history) }
         ensures later { IsLater D.seen self.old.recorder self.new.recorder }
     {
-        if !has_open(self.book.book()) {
-            return Ok(());
+        if has_open(self.book.book()) {
+            self.abandon_open()
+        } else {
+            Ok(())
         }
-        if self.make_room(&Act::Abandon).is_err() {
+    }
+
+    // The same, where a round is open.
+    fn abandon_open(&mut self) -> Result<(), NotAbandoned>
+        requires { IsLeftOpen self.old.book.history }
+        ensures done { OnOk result (IsOpenedHistory self.old.book.history self.new.book.history) }
+        ensures cause { IfErr result (IsNotAbandoned (D.seen self.old.recorder.journal.disk).count (D.seen self.new.recorder.journal.disk).count) }
+        ensures crash { IsTrue (D.seen self.old.recorder.journal.disk).tells → Passes (D.seen self.old.recorder.journal.disk) (D.seen self.new.recorder.journal.disk) (HoldsAbandoning self.old.book.history) }
+        ensures later { IsLater D.seen self.old.recorder self.new.recorder }
+    {
+        let Ok(due) = self.answer(0, &Act::Abandon) else {
             return Err(NotAbandoned::Memory);
-        }
+        };
         let book = self.book.book();
         let _history = book.history();
-        let due = self.book.answer(0, &Act::Abandon);
         match self.put(0, Act::Abandon, due) {
             Reply::Refused(Why::Device { before, after }) => {
                 Err(NotAbandoned::Device { before, after })
