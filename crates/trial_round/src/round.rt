@@ -196,6 +196,6 @@ pub fn serve_trial<R: Threads + Wait + Sync>(
     drop(batch);
     let end = end?;
     let sums = judge_end(alloc, firms, claims, seed, &end);
-    drop(end);
+    drop(end.desk.close());
     sums
 }
