@@ -33,11 +33,17 @@ loop-claim-preserved c =
           })
     ]
 
-pub returns-clause-formed : goal.returns-clause-formed
-returns-clause-formed c =
+pub add_claim-requires-clause-few : goal.add_claim-requires-clause-few
+add_claim-requires-clause-few c = omega (arith, c.loop-claim.invariant.few, c.loop-claim-test.true, c.requires.few_claims)
+
+pub returns-clause-cut : goal.returns-clause-cut
+returns-clause-cut c =
     let all = c.args.claims.now in
     let whole : take c.loop-claim.claim-index all ≡ all = take_all c.loop-claim.claim-index all (omega arith) in
     let parties = c.loop-claim.invariant.parties ∙ ap (λ (cs : List ClaimFact). parties_in c.args.accounts.now c.args.kind (claims_due c.args.horizon cs)) whole in
     let due = c.loop-claim.invariant.due ∙ ap (λ (cs : List ClaimFact). claims_in (claims_due c.args.horizon cs)) whole in
     let made : List Party → List CutClaim → CutView = λ ps cs. record { round = c.args.round; kind = c.args.kind; parties = ps; claims = cs } in
-    subst WellFormed (sym (c.new.ensures ∙ ap₂ made parties due)) (formed c.args.round all c.args.accounts.now c.args.kind c.args.horizon c.requires)
+    c.new.ensures ∙ ap₂ made parties due
+
+pub returns-clause-formed : goal.returns-clause-formed
+returns-clause-formed c = subst WellFormed (sym (returns-clause-cut c)) (formed c.args.round c.args.claims.now c.args.accounts.now c.args.kind c.args.horizon c.requires)
