@@ -24,8 +24,13 @@ fn with_one<'a>(
 ) -> Result<Command<'a>, AllocError>
     ensures shape { IfOk result (λ c. app_of c ≡ knowing name.entry.now (value id.entry.now ∷ []) (app_of program.entry)) }
 {
-    let command = taking(alloc, Command::new(alloc, name), id)?;
-    program.subcommand(command)
+    match taking(alloc, Command::new(alloc, name), id) {
+        Ok(command) => program.subcommand(command),
+        Err(e) => {
+            drop(program);
+            Err(e)
+        }
+    }
 }
 
 // The command `trial`, which takes three values.
@@ -43,8 +48,13 @@ fn trial<'a>(alloc: Global) -> Result<Command<'a>, AllocError>
 fn with_trial<'a>(alloc: Global, program: Command<'a>) -> Result<Command<'a>, AllocError>
     ensures shape { IfOk result (λ c. app_of c ≡ knowing (codes "trial") trial_values (app_of program.entry)) }
 {
-    let trial = trial(alloc)?;
-    program.subcommand(trial)
+    match trial(alloc) {
+        Ok(trial) => program.subcommand(trial),
+        Err(e) => {
+            drop(program);
+            Err(e)
+        }
+    }
 }
 
 // The commands that take values, added to the program.
