@@ -29,6 +29,7 @@ pub fn audit_disk<K: Sink, D: Disk>(alloc: Global, sink: &mut K, disk: &mut D) -
     match Desk::view(alloc, disk) {
         Ok(book) => {
             write_sound(&mut buffer, book.history());
+            drop(book);
             end_with(sink, 0, buffer.as_slice())
         }
         Err(cause) => {

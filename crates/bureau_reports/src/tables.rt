@@ -64,7 +64,11 @@ pub fn print_table<K: Sink, D: Disk>(alloc: Global, table: Table, sink: &mut K, 
         return end_with(sink, 9, b"fault memory\n");
     };
     match Desk::view(alloc, disk) {
-        Ok(book) => print_book(alloc, table, &book, sink),
+        Ok(book) => {
+            let status = print_book(alloc, table, &book, sink);
+            drop(book);
+            status
+        }
         Err(cause) => tell_refused(sink, &mut buffer, cause),
     }
 }

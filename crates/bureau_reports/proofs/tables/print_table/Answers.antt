@@ -32,19 +32,19 @@ returns-in_default-clause-no_read_fault g c = no_other c.end_with.result 9 3 (λ
 
 pub returns-in-Ok-view-clause-wrote : goal.returns-in-Ok-view-clause-wrote
 returns-in-Ok-view-clause-wrote g c =
-    wrote_for _ (IsTableDue (table_text c.args.table) _ _ _ _) _ _ _ (table_due (table_text c.args.table) _ _ _ _ c.in-Ok-view.book.history c.in-Ok-view.ensures.ok) c.print_book.ensures.wrote
+    wrote_for _ (IsTableDue (table_text c.args.table) _ _ _ _) _ _ _ (table_due (table_text c.args.table) _ _ _ _ c.in-Ok-view.book.history c.in-Ok-view.ensures.ok) c.print_book-status.ensures.wrote
 
 pub returns-in-Ok-view-clause-quiet : goal.returns-in-Ok-view-clause-quiet
 returns-in-Ok-view-clause-quiet g c = c.view.ensures.quiet
 
 pub returns-in-Ok-view-clause-write_fault : goal.returns-in-Ok-view-clause-write_fault
-returns-in-Ok-view-clause-write_fault g c = c.print_book.ensures.write_fault
+returns-in-Ok-view-clause-write_fault g c = c.print_book-status.ensures.write_fault
 
 pub returns-in-Ok-view-clause-disk_fault : goal.returns-in-Ok-view-clause-disk_fault
-returns-in-Ok-view-clause-disk_fault g c = λ five. absurd (c.print_book.ensures.no_disk_fault five)
+returns-in-Ok-view-clause-disk_fault g c = λ five. absurd (c.print_book-status.ensures.no_disk_fault five)
 
 pub returns-in-Ok-view-clause-no_read_fault : goal.returns-in-Ok-view-clause-no_read_fault
-returns-in-Ok-view-clause-no_read_fault g c = c.print_book.ensures.no_read_fault
+returns-in-Ok-view-clause-no_read_fault g c = c.print_book-status.ensures.no_read_fault
 
 -- ---- there is no book
 
