@@ -29,13 +29,14 @@ fn check_statement<K: Sink>(
     ensures no_read_fault { result ≢ 3 }
     ensures no_disk_fault { result ≢ 5 }
 {
-    let Ok(mut checker) = Checker::for_cut(alloc, cut) else {
-        return end_with(sink, 9, b"fault memory\n");
-    };
     let Ok(mut buffer) = Vec::with_capacity(alloc, LINE_BYTES) else {
         return end_with(sink, 9, b"fault memory\n");
     };
+    let Ok(mut checker) = Checker::for_cut(alloc, cut) else {
+        return end_with(sink, 9, b"fault memory\n");
+    };
     let verdict = checker.verdict(cut, outcome);
+    drop(checker);
     write_verdict(&mut buffer, cut, verdict);
     end_with(sink, status_of_verdict(verdict), buffer.as_slice())
 }

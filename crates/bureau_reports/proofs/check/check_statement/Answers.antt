@@ -9,12 +9,12 @@ use Rattle.bureau_reports.proofs.check.check_statement.Goals as goal
 pub returns-in_default-clause-wrote : goal.returns-in_default-clause-wrote
 returns-in_default-clause-wrote g c = wrote_line (IsCheckDue c.args.input.now) _ _ 9 (codes "fault memory\n") _ no_statement_memory c.end_with.ensures.written
 
-pub returns-in_default-with_capacity-clause-wrote : goal.returns-in_default-with_capacity-clause-wrote
-returns-in_default-with_capacity-clause-wrote g c = wrote_line (IsCheckDue c.args.input.now) _ _ 9 (codes "fault memory\n") _ no_statement_memory c.end_with-in_default-with_capacity.ensures.written
+pub returns-in_default-for_cut-clause-wrote : goal.returns-in_default-for_cut-clause-wrote
+returns-in_default-for_cut-clause-wrote g c = wrote_line (IsCheckDue c.args.input.now) _ _ 9 (codes "fault memory\n") _ no_statement_memory c.end_with-in_default-for_cut.ensures.written
 
 pub returns-clause-wrote : goal.returns-clause-wrote
 returns-clause-wrote g c =
     let verdict = c.verdict-verdict.result in
-    let said : c.as_slice.result.now ≡ verdict_text c.args.cut.now verdict = ◌∙◌ {A = List ℕ} c.as_slice.ensures.value (◌∙◌ {A = List ℕ} c.write_verdict.ensures.text (ap (λ (t : List ℕ). t ++ verdict_text c.args.cut.now verdict) c.in-Ok-with_capacity.ensures.items)) in
+    let said : c.as_slice.result.now ≡ verdict_text c.args.cut.now verdict = ◌∙◌ {A = List ℕ} c.as_slice.ensures.value (◌∙◌ {A = List ℕ} c.write_verdict.ensures.text (ap (λ (t : List ℕ). t ++ verdict_text c.args.cut.now verdict) c.in-Ok.ensures.items)) in
     let written = subst (λ (n : ℕ). IsWritten (g.K.Sink.held c.args.sink.now) (g.K.Sink.held c.end_with-2.new.sink) n c.as_slice.result.now c.end_with-2.result) c.status_of_verdict.ensures c.end_with-2.ensures.written in
     wrote_text (IsCheckDue c.args.input.now) _ _ (verdict_status verdict) (verdict_text c.args.cut.now verdict) c.as_slice.result.now _ (judged c.args.cut.now c.args.outcome.now c.requires verdict c.verdict-verdict.ensures.verdict) said written
