@@ -7,7 +7,7 @@ use Rattle.std.proofs.lemmas.Bool.{false≢true}
 use Rattle.setoff_model.specs.declared.cut.CutClaim.{CutClaim}
 use Rattle.setoff_model.specs.declared.name.Key.{Key}
 use Rattle.statement_text.specs.Drafts.{Drafted, MayBeClaim, IsClaimOf}
-use Rattle.statement_text.proofs.Drafts.{may_be_claim, key_refused, creditor_refused, same_refused}
+use Rattle.statement_text.proofs.Drafts.{may_be_claim, key_refused, creditor_refused, debtor_refused, same_refused}
 use Rattle.statement_text.proofs.draft.Draft.placed.Goals as goal
 
 abbrev Refused : Drafted → Key → List ℕ → ℕ → Type 0
@@ -22,6 +22,11 @@ pub returns-in_default-clause-refused : goal.returns-in_default-clause-refused
 returns-in_default-clause-refused c =
     subst (λ (d : Drafted). Refused d c.args.key.now c.args.debtor.now c.args.amount) c.self.view_is
     (creditor_refused c.self.inside.firms.keys c.self.inside.keys.keys _ c.args.key.now c.args.debtor.now c.args.amount c.self.invariant c.in_default.ensures)
+
+pub returns-in_default-place_of-clause-refused : goal.returns-in_default-place_of-clause-refused
+returns-in_default-place_of-clause-refused c =
+    subst (λ (d : Drafted). Refused d c.args.key.now c.args.debtor.now c.args.amount) c.self.view_is
+    (debtor_refused c.self.inside.firms.keys c.self.inside.keys.keys _ c.args.key.now c.args.debtor.now c.args.amount c.self.invariant c.in_default-place_of.ensures)
 
 pub returns-then-debtor-creditor-clause-refused : goal.returns-then-debtor-creditor-clause-refused
 returns-then-debtor-creditor-clause-refused c =
