@@ -1,11 +1,12 @@
 //! Tests of the bodies of acts.
 
+use crate::made::{day, name};
 use act_bodies::{
     bodies_have_their_lengths, body_length, can_be_kept, each_body_is_of_one_call, encode,
     read_body,
 };
-use claim_history::{Act, Day};
-use setoff_model::{Key, Kind, Name, Outcome};
+use claim_history::Act;
+use setoff_model::{Key, Kind, Outcome};
 use std::process::Abort;
 
 const FIRM: [u8; 7] = [0, 0, 0, 1, 1, 1, 0x41];
@@ -25,14 +26,6 @@ const PUBLISH: [u8; 53] = [
 ];
 
 const ABANDON: [u8; 5] = [0, 0, 0, 0, 13];
-
-fn name(rt: &impl Abort, text: &[u8]) -> Name {
-    Name::of(text).expect(rt, "a name")
-}
-
-fn day(rt: &impl Abort, number: u32) -> Day {
-    Day::of_number(number).expect(rt, "a day")
-}
 
 // What names B's claim I-1.
 fn key(rt: &impl Abort) -> Key {

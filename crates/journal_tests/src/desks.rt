@@ -1,25 +1,19 @@
 //! Tests of desks.
 
+use crate::made::{day, disk_of, name};
 use bureau_desk::{
     ActError, CutReply, Desk, DeskCause, PublishReply, Room, a_frozen_cut_may_be_published,
 };
-use claim_history::{Act, Day, Reply, Why};
+use claim_history::{Act, Reply, Why};
 use disk_model::MemoryDisk;
 use round_journal::RecordWhy;
 use setoff_checker::Checker;
 use setoff_model::{Key, Kind, Name, Outcome};
 use std::process::Abort;
 
-// A disk in memory with these bytes, of whose calls one fails.
-fn disk_of(rt: &(impl Abort + AllocGlobal), bytes: &[u8], fails: u64) -> MemoryDisk {
-    let bytes = Vec::from_slice(rt.alloc(), bytes).expect(rt, "memory");
-    let fails = Vec::from_slice(rt.alloc(), &[fails]).expect(rt, "memory");
-    MemoryDisk::new(rt.alloc(), bytes, fails)
-}
-
 // A desk on a disk with these bytes, of whose calls one fails.
 fn desk_on(rt: &(impl Abort + AllocGlobal), bytes: &[u8], fails: u64) -> Desk<MemoryDisk> {
-    let desk = Desk::open(rt.alloc(), disk_of(rt, bytes, fails)).ok();
+    let desk = Desk::open(rt.alloc(), disk_of(rt, bytes, &[fails])).ok();
     desk.expect(rt, "a desk")
 }
 
@@ -38,14 +32,6 @@ fn are_done(rt: &impl Abort, desk: &mut Desk<MemoryDisk>, acts: Vec<Act>) {
         let reply = ask(rt, desk, act);
         assert!(rt; reply == Reply::Done);
     }
-}
-
-fn name(rt: &impl Abort, text: &[u8]) -> Name {
-    Name::of(text).expect(rt, "a name")
-}
-
-fn day(rt: &impl Abort, number: u32) -> Day {
-    Day::of_number(number).expect(rt, "a day")
 }
 
 fn key_of(creditor: Name, invoice: Name) -> Key {
@@ -80,6 +66,27 @@ fn four_kept(rt: &(impl Abort + AllocGlobal)) -> MemoryDisk {
     desk.close()
 }
 
+// Closes a desk, and says how many bytes it leaves.
+fn closed(desk: Desk<MemoryDisk>) -> usize {
+    let disk = desk.close();
+    let length = disk.bytes().len();
+    drop(disk);
+    length
+}
+
+// Closes a desk, which leaves so many bytes, and opens another on these.
+fn reopened(
+    rt: &(impl Abort + AllocGlobal),
+    desk: Desk<MemoryDisk>,
+    length: usize,
+) -> Desk<MemoryDisk> {
+    let disk = desk.close();
+    assert!(rt; disk.bytes().len() == length);
+    let desk = desk_on(rt, disk.bytes(), 0);
+    drop(disk);
+    desk
+}
+
 // How many acts a desk was opened with, and how many entries it has.
 fn counts(desk: &Desk<MemoryDisk>) -> (u64, usize) {
     (desk.opened_with(), desk.book().history().len())
@@ -102,7 +109,7 @@ fn acts_are_on_the_disk(rt: HostRuntime) {
     assert!(rt; counts(&desk) == (4, 4));
     assert!(rt; desk.rounds().is_empty());
     assert!(rt; desk.faults() == 0);
-    assert!(rt; desk.close().bytes().len() == 81);
+    assert!(rt; closed(desk) == 81);
     assert!(rt; viewed(&rt, &mut disk) == 4);
     assert!(rt; disk.bytes().len() == 81);
 }
@@ -132,19 +139,24 @@ fn a_failed_sync_is_told_and_settled(rt: HostRuntime) {
     for fails in 5..=8 {
         let mut desk = desk_on(&rt, b"", fails);
         is_settled(&rt, &mut desk);
-        assert!(rt; desk.close().bytes().len() == 21);
+        assert!(rt; closed(desk) == 21);
+    }
+}
+
+// Whether a reply is the cut of round 1 without claims.
+fn is_empty_round(reply: &Result<CutReply, ActError>) -> bool {
+    match reply {
+        Ok(CutReply::Frozen(cut)) => cut.round() == 1 && cut.claims().is_empty(),
+        _ => false,
     }
 }
 
 // A Close by caller 1 opens or continues round 1, which has no claims.
 fn is_frozen(rt: &impl Abort, desk: &mut Desk<MemoryDisk>) {
-    match desk.cut(1, Kind::Plain, day(rt, 20_453)) {
-        Ok(CutReply::Frozen(cut)) => {
-            assert!(rt; cut.round() == 1);
-            assert!(rt; cut.claims().is_empty());
-        }
-        _ => panic!(rt; "a round"),
-    }
+    let reply = desk.cut(1, Kind::Plain, day(rt, 20_453));
+    let frozen = is_empty_round(&reply);
+    drop(reply);
+    assert!(rt; frozen);
 }
 
 // A desk has the one act that it was opened with and an abandonment, and no open round.
@@ -158,11 +170,9 @@ fn is_abandoned(rt: &impl Abort, desk: &Desk<MemoryDisk>) {
 fn an_open_round_is_abandoned_at_opening(rt: HostRuntime) {
     let mut desk = desk_on(&rt, b"", 0);
     is_frozen(&rt, &mut desk);
-    let disk = desk.close();
-    assert!(rt; disk.bytes().len() == 24);
-    let desk = desk_on(&rt, disk.bytes(), 0);
+    let desk = reopened(&rt, desk, 24);
     is_abandoned(&rt, &desk);
-    assert!(rt; desk.close().bytes().len() == 34);
+    assert!(rt; closed(desk) == 34);
 }
 
 // Asks the position of a firm that is not known so many times, and is refused as such. This takes no bytes of the journal, and an
@@ -196,7 +206,7 @@ fn a_close_that_continues_a_round_gets_full(rt: HostRuntime) {
     is_frozen(&rt, &mut desk);
     is_full(&rt, &mut desk);
     assert!(rt; counts(&desk) == (0, 1_048_574));
-    assert!(rt; desk.close().bytes().len() == 39);
+    assert!(rt; closed(desk) == 39);
 }
 
 // Whatever the moment of a crash, and whichever writes it leaves, a desk opens on it.
@@ -208,7 +218,7 @@ fn every_crash_opens(rt: HostRuntime) {
             let image = disk.image(rt.alloc(), moment, pick).expect(&rt, "memory");
             let desk = desk_on(&rt, &image, 0);
             assert!(rt; desk.opened_with() <= 4);
-            assert!(rt; desk.close().bytes().len() <= 81);
+            assert!(rt; closed(desk) <= 81);
         }
     }
 }
@@ -241,11 +251,9 @@ fn a_round_is_published(rt: HostRuntime) {
     assert!(rt; counts(&desk) == (0, 2));
     desk.clear_rounds();
     assert!(rt; desk.rounds().is_empty());
-    let disk = desk.close();
-    assert!(rt; disk.bytes().len() == 46);
-    let desk = desk_on(&rt, disk.bytes(), 0);
+    let desk = reopened(&rt, desk, 46);
     assert!(rt; counts(&desk) == (2, 2));
-    assert!(rt; desk.close().bytes().len() == 46);
+    assert!(rt; closed(desk) == 46);
 }
 
 // The header, and the record of FIRM A by caller 1.
@@ -264,7 +272,7 @@ const OPEN_ROUND: &[u8] =
 
 // Why no desk is opened on a disk with these bytes, of whose calls one fails; None where one is.
 fn refused_for(rt: &(impl Abort + AllocGlobal), bytes: &[u8], fails: u64) -> Option<DeskCause> {
-    let refused = Desk::open(rt.alloc(), disk_of(rt, bytes, fails)).err();
+    let refused = Desk::open(rt.alloc(), disk_of(rt, bytes, &[fails])).err();
     Some(refused?.cause)
 }
 

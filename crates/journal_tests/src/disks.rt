@@ -1,16 +1,10 @@
 //! Tests of disks.
 
-use disk_model::{Disk, DiskFailed, FileDisk, MemoryDisk, runs_compose, torn_writes};
+use crate::made::disk_of;
+use disk_model::{Disk, FileDisk, MemoryDisk, runs_compose, torn_writes};
 use std::fs::{self, File};
 use std::process::Abort;
 use std::rt::Files;
-
-// A disk in memory with these bytes, of whose calls these fail.
-fn disk_of(rt: &(impl Abort + AllocGlobal), bytes: &[u8], fails: &[u64]) -> MemoryDisk {
-    let bytes = Vec::from_slice(rt.alloc(), bytes).expect(rt, "memory");
-    let fails = Vec::from_slice(rt.alloc(), fails).expect(rt, "memory");
-    MemoryDisk::new(rt.alloc(), bytes, fails)
-}
 
 // Whether a piece is written into a disk in memory, both of less than 100 bytes.
 fn wrote(rt: &impl Abort, disk: &mut MemoryDisk, at: u64, piece: &[u8]) -> bool {
@@ -196,55 +190,59 @@ fn file<'a, R: Abort + AllocGlobal + Files<File = File>>(rt: &'a R, path: &str) 
     FileDisk::new(rt, path)
 }
 
+// Whether all writes are brought to the file.
+fn syncs(disk: &mut FileDisk<'_, HostRuntime>) -> bool {
+    disk.sync().is_ok()
+}
+
+// Whether four bytes are read from a place on.
+fn reads(disk: &mut FileDisk<'_, HostRuntime>, at: u64) -> bool {
+    disk.read_at(at, &mut [0; 4]).is_ok()
+}
+
+// Whether a piece is written, of less than 100 bytes, at a place below 100.
+fn writes(rt: &impl Abort, disk: &mut FileDisk<'_, HostRuntime>, at: u64, piece: &[u8]) -> bool {
+    assert!(rt; at < 100);
+    assert!(rt; piece.len() < 100);
+    disk.write_at(at, piece).is_ok()
+}
+
+// The number of bytes, where it is told.
+fn length(disk: &mut FileDisk<'_, HostRuntime>) -> Option<u64> {
+    disk.len().ok()
+}
+
 // A file is neither synced nor written. Its folder is missing.
 fn is_homeless(rt: &impl Abort, disk: &mut FileDisk<'_, HostRuntime>) {
-    let synced = disk.sync();
-    let written = disk.write_at(0, b"a");
-    assert!(rt; synced.is_err());
-    assert!(rt; written.is_err());
+    assert!(rt; !syncs(disk));
+    assert!(rt; !writes(rt, disk, 0, b"a"));
     assert!(rt; disk.faults() == 2);
 }
 
 // A sync of a missing file succeeds, and it has no bytes.
 fn is_missing(rt: &impl Abort, disk: &mut FileDisk<'_, HostRuntime>) {
-    let synced = disk.sync();
-    let length = disk.len();
-    assert!(rt; synced.is_ok());
-    assert!(rt; length == Ok(0));
-}
-
-// Brings all writes to the file.
-fn sync(rt: &impl Abort, disk: &mut FileDisk<'_, HostRuntime>) {
-    let synced = disk.sync();
-    assert!(rt; synced.is_ok());
+    assert!(rt; syncs(disk));
+    assert!(rt; length(disk) == Some(0));
 }
 
 // Writes seven bytes to a new file, two of them over others, with a sync before and after these.
 fn write_whole(rt: &impl Abort, disk: &mut FileDisk<'_, HostRuntime>) {
     append(rt, disk, b"abcd");
-    sync(rt, disk);
-    let end = last::<_, 3>(rt, disk);
-    assert!(rt; end == *b"bcd");
+    assert!(rt; syncs(disk));
+    assert!(rt; last::<_, 3>(rt, disk) == *b"bcd");
     append(rt, disk, b"efg");
-    let over = disk.write_at(2, b"XY");
-    assert!(rt; over.is_ok());
-    sync(rt, disk);
-    let length = disk.len();
-    assert!(rt; length == Ok(7));
+    assert!(rt; writes(rt, disk, 2, b"XY"));
+    assert!(rt; syncs(disk));
+    assert!(rt; length(disk) == Some(7));
     assert!(rt; disk.faults() == 0);
 }
 
 // These bytes are read by another, and none past the end.
 fn is_read(rt: &impl Abort, disk: &mut FileDisk<'_, HostRuntime>) {
-    let whole = last::<_, 7>(rt, disk);
-    assert!(rt; whole == *b"abXYefg");
-    let mut into = [0; 4];
-    let inside = disk.read_at(3, &mut into);
-    let near = disk.read_at(4, &mut into);
-    let far = disk.read_at(u64::MAX, &mut into);
-    assert!(rt; inside == Ok(()));
-    assert!(rt; near == Err(DiskFailed));
-    assert!(rt; far == Err(DiskFailed));
+    assert!(rt; last::<_, 7>(rt, disk) == *b"abXYefg");
+    assert!(rt; reads(disk, 3));
+    assert!(rt; !reads(disk, 4));
+    assert!(rt; !reads(disk, u64::MAX));
     assert!(rt; disk.faults() == 2);
 }
 
@@ -271,15 +269,12 @@ fn has_it_alone(
     early: &mut FileDisk<'_, HostRuntime>,
 ) {
     append(rt, writer, b"ab");
-    let read = reader.len();
-    let synced = reader.sync();
-    assert!(rt; read.is_err() && synced.is_err());
+    assert!(rt; length(reader).is_none());
+    assert!(rt; !syncs(reader));
     assert!(rt; reader.faults() == 2);
-    let empty = early.len();
-    let late = early.write_at(0, b"xy");
-    assert!(rt; empty == Ok(0) && late.is_err());
-    let length = writer.len();
-    assert!(rt; length == Ok(2));
+    assert!(rt; length(early) == Some(0));
+    assert!(rt; !writes(rt, early, 0, b"xy"));
+    assert!(rt; length(writer) == Some(2));
     assert!(rt; writer.faults() == 0);
 }
 
@@ -289,16 +284,13 @@ fn is_shared(
     first: &mut FileDisk<'_, HostRuntime>,
     second: &mut FileDisk<'_, HostRuntime>,
 ) {
-    let lengths = (first.len(), second.len());
-    let synced = second.sync();
-    assert!(rt; lengths == (Ok(2), Ok(2)));
-    assert!(rt; synced.is_err());
-    let alone = first.sync();
-    let read = second.len();
-    assert!(rt; alone.is_ok() && read.is_err());
+    assert!(rt; length(first) == Some(2));
+    assert!(rt; length(second) == Some(2));
+    assert!(rt; !syncs(second));
+    assert!(rt; syncs(first));
+    assert!(rt; length(second).is_none());
     append(rt, first, b"c");
-    let end = last::<_, 3>(rt, first);
-    assert!(rt; end == *b"abc");
+    assert!(rt; last::<_, 3>(rt, first) == *b"abc");
 }
 
 // Those that read a file share it, and one that writes has it alone. The file is missing at first.
@@ -308,8 +300,7 @@ fn a_file_is_locked(rt: HostRuntime) {
     let _ = fs::remove_file(&rt, path);
     let mut early = file(&rt, path);
     let mut reader = file(&rt, path);
-    let length = early.len();
-    assert!(rt; length == Ok(0));
+    assert!(rt; length(&mut early) == Some(0));
     has_it_alone(&rt, &mut file(&rt, path), &mut reader, &mut early);
     is_shared(&rt, &mut reader, &mut file(&rt, path));
     fs::remove_file(&rt, path).ok().expect(&rt, "a removal");

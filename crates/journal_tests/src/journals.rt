@@ -1,5 +1,6 @@
 //! Tests of journals.
 
+use crate::made::disk_of;
 use claim_history::Act;
 use disk_model::MemoryDisk;
 use round_journal::{Device, Journal, JournalCause, Record, RecordWhy, read_records};
@@ -21,13 +22,6 @@ fn append(rt: &impl Abort, journal: &mut Journal<MemoryDisk>, body: &[u8]) -> Re
     assert!(rt; journal.gate() < 1000);
     assert!(rt; body.len() < 1000);
     journal.append(body)
-}
-
-// A disk in memory with these bytes, of whose calls one fails.
-fn disk_of(rt: &(impl Abort + AllocGlobal), bytes: &[u8], fails: u64) -> MemoryDisk {
-    let bytes = Vec::from_slice(rt.alloc(), bytes).expect(rt, "memory");
-    let fails = Vec::from_slice(rt.alloc(), &[fails]).expect(rt, "memory");
-    MemoryDisk::new(rt.alloc(), bytes, fails)
 }
 
 // The records are one, of caller 1 and FIRM A at 8.
@@ -60,7 +54,7 @@ fn opening(alloc: Global, disk: MemoryDisk) -> (Found, usize) {
 
 // This is what is read, and what is found at an opening, and no byte more is there after it, or less.
 fn is_found(rt: &(impl Abort + AllocGlobal), bytes: &[u8], due: Found, length: usize) {
-    let mut disk = disk_of(rt, bytes, 0);
+    let mut disk = disk_of(rt, bytes, &[]);
     let before = read(rt.alloc(), &mut disk);
     assert!(rt; before == due);
     let (found, after) = opening(rt.alloc(), disk);
@@ -82,7 +76,7 @@ fn records_of(rt: &(impl Abort + AllocGlobal), disk: &mut MemoryDisk) -> Vec<Rec
 
 #[test]
 fn an_empty_disk_becomes_a_journal(rt: HostRuntime) {
-    let mut disk = disk_of(&rt, b"", 0);
+    let mut disk = disk_of(&rt, b"", &[]);
     assert!(rt; records_of(&rt, &mut disk).is_empty());
     assert!(rt; disk.bytes().is_empty());
     assert!(rt; disk.moment() == 2);
@@ -106,7 +100,7 @@ fn a_record_is_read_whole_or_not_at_all(rt: HostRuntime) {
     for n in 10..21 {
         is_found(&rt, &ONE[..n], Err(short), n);
     }
-    let mut disk = disk_of(&rt, &ONE, 0);
+    let mut disk = disk_of(&rt, &ONE, &[]);
     is_firm_a(&rt, &records_of(&rt, &mut disk));
     let (journal, records) = open(&rt, disk);
     is_firm_a(&rt, &records);
@@ -172,7 +166,7 @@ fn goes_on(rt: &impl Abort, journal: &mut Journal<MemoryDisk>) {
 #[test]
 fn a_failed_append_is_settled(rt: HostRuntime) {
     for (fails, moment) in [(5, 18), (6, 20), (7, 26), (8, 28)] {
-        let (mut journal, _) = open(&rt, disk_of(&rt, b"", fails));
+        let (mut journal, _) = open(&rt, disk_of(&rt, b"", &[fails]));
         goes_on(&rt, &mut journal);
         let disk = journal.close();
         assert!(rt; disk.moment() == moment);
@@ -184,7 +178,7 @@ fn a_failed_append_is_settled(rt: HostRuntime) {
 // After an append whose last sync failed a crash leaves the record or leaves it out, and an opening tells which.
 #[test]
 fn a_crash_leaves_the_last_record_or_not(rt: HostRuntime) {
-    let (mut journal, _) = open(&rt, disk_of(&rt, b"", 8));
+    let (mut journal, _) = open(&rt, disk_of(&rt, b"", &[8]));
     let failed = append(&rt, &mut journal, &FIRM_A);
     assert!(rt; failed.is_err());
     let disk = journal.close();
@@ -202,7 +196,7 @@ fn a_failed_opening_hands_the_disk_back(rt: HostRuntime) {
         after: 1,
     };
     for fails in 1..=4 {
-        let opened = Journal::open(rt.alloc(), disk_of(&rt, b"", fails));
+        let opened = Journal::open(rt.alloc(), disk_of(&rt, b"", &[fails]));
         let refused = opened.err().expect(&rt, "a fault");
         assert!(rt; refused.cause == device);
         assert!(rt; refused.disk.moment() == 2 * fails);

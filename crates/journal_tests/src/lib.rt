@@ -12,6 +12,8 @@ mod disks;
 #[cfg(test)]
 mod journals;
 #[cfg(test)]
+mod made;
+#[cfg(test)]
 mod replays;
 #[cfg(test)]
 mod streams;

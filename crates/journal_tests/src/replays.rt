@@ -3,6 +3,7 @@ ghost use Rattle.std.specs.Prelude.{◌≡◌, IsTrue, true};
 ghost use Rattle.act_bodies.specs.Bodies.{is_keepable};
 ghost use Rattle.round_journal.specs.Records.{AreKeepable};
 
+use crate::made::{day, name};
 use claim_book::Book;
 use claim_history::{Act, Day, Position, Reply, Why};
 use journal_replay::{ReplayStop, replay};
@@ -28,7 +29,7 @@ fn can_be_kept(kept: &Record) -> bool
 
 // What is told of a book: its entries and bytes, the open round, what is left of the invoices I-1 of A, B and C, and the position
 // of A.
-#[derive(Clone, Copy, Debug, PartialEq, Eq)]
+#[derive(Clone, Copy, PartialEq, Eq)]
 struct Told {
     entries: u64,
     bytes: u64,
@@ -85,10 +86,6 @@ fn acted(rt: &(impl Abort + AllocGlobal), acts: Vec<Act>) -> Result<Told, Replay
     replayed(rt.alloc(), records)
 }
 
-fn name(rt: &impl Abort, text: &[u8]) -> Name {
-    Name::of(text).expect(rt, "a name")
-}
-
 // A creditor's invoice I-1 against a debtor, and its confirmation.
 fn file(creditor: Name, invoice: Name, debtor: Name, amount: u64, due: Day) -> Act {
     let key = Key { creditor, invoice };
@@ -109,7 +106,7 @@ fn confirm(creditor: Name, invoice: Name, debtor: Name) -> Act {
 fn triangle(rt: &(impl Abort + AllocGlobal)) -> Vec<Act> {
     let (a, b, c) = (name(rt, b"A"), name(rt, b"B"), name(rt, b"C"));
     let one = name(rt, b"I-1");
-    let horizon = Day::of_number(20_119).expect(rt, "a day");
+    let horizon = day(rt, 20_119);
     let acts = vec![in rt.alloc();
         Act::Firm { firm: a },
         Act::Firm { firm: b },

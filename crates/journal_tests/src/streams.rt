@@ -53,7 +53,7 @@ fn end_within(rt: &(impl Abort + AllocGlobal), limit: u64) -> Option<ReadEnd> {
     let mut source = SureSource::new(bytes);
     match read_whole(rt.alloc(), &mut source, limit) {
         Ok(bytes) => {
-            assert!(rt; bytes.as_slice() == b"abcde".as_slice(), "at {limit}");
+            assert!(rt; bytes.as_slice() == b"abcde".as_slice());
             None
         }
         Err(end) => Some(end),
