@@ -5,4 +5,5 @@ pub mod Calls
 pub mod Loops
 pub mod Found
 pub mod Lengths
+pub mod Written
 mod Worked
