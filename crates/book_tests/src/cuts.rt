@@ -113,10 +113,10 @@ fn new_account(firm: Name) -> AccountFact {
     account(firm, 0, 0, 1_000_000_000_000_000, 0)
 }
 
-// The window of an account that is within its limits.
-fn window_of(rt: &impl Abort, account: &AccountFact, kind: Kind) -> (u64, u64) {
+// An account that is within its limits has this window.
+fn window_is(rt: &impl Abort, account: &AccountFact, kind: Kind, due: (u64, u64)) {
     assert!(rt; keeps_limits(account));
-    window(account, kind)
+    assert!(rt; window(account, kind) == due);
 }
 
 #[test]
@@ -130,16 +130,11 @@ fn windows_of_accounts(rt: HostRuntime) {
     let owing = account(firm, -2_000, 5_000, 1_000, 10_000);
     let deep = account(firm, -999_999_999_999, most, 0, 1);
     let full = account(firm, 1_000_000_000_000_000, most, ceiling, 7);
-    let cases = [
-        (&rich, Kind::Funded, (6_000, 999_999_999_994_000)),
-        (&rich, Kind::Plain, (0, 0)),
-        (&owing, Kind::Funded, (3_000, 3_000)),
-        (&deep, Kind::Funded, (0, most)),
-        (&full, Kind::Funded, (7, 0)),
-    ];
-    for (account, kind, due) in cases {
-        assert!(rt; window_of(&rt, account, kind) == due);
-    }
+    window_is(&rt, &rich, Kind::Funded, (6_000, 999_999_999_994_000));
+    window_is(&rt, &rich, Kind::Plain, (0, 0));
+    window_is(&rt, &owing, Kind::Funded, (3_000, 3_000));
+    window_is(&rt, &deep, Kind::Funded, (0, most));
+    window_is(&rt, &full, Kind::Funded, (7, 0));
 }
 
 // ---- the triangle
@@ -228,6 +223,7 @@ fn cuts_to(rt: &impl Abort, alloc: Global, names: &Names, claims: &[ClaimFact], 
     ];
     let cut = cut_of(rt, alloc, claims, &accounts, Kind::Plain, names.day);
     assert!(rt; is_cut(&cut, names, due));
+    drop(cut);
 }
 
 #[test]
@@ -282,6 +278,7 @@ fn the_triangle_after_a_round(rt: HostRuntime) {
 fn no_claims(rt: HostRuntime) {
     let cut = cut_of(&rt, rt.alloc(), &[], &[], Kind::Funded, day(&rt, 0));
     assert!(rt; cut.parties().is_empty() && cut.claims().is_empty() && cut.kind() == Kind::Funded);
+    drop(cut);
 }
 
 // ---- a table of claims
@@ -413,4 +410,7 @@ fn a_table_of_claims(rt: HostRuntime) {
     assert!(rt; cut.claims().len() > 100 && cut.parties().len() == 9);
     claims_match(&rt, &cut, &claims, horizon);
     assert!(rt; windows_match(&cut, &accounts));
+    drop(cut);
+    drop(accounts);
+    drop(claims);
 }
