@@ -97,7 +97,7 @@ fn lanes_are_served_at_the_same_time(rt: HostRuntime) {
     let desk = served(&rt, alloc, desk_on(&rt, alloc, b""), &batches[0], &gate);
     assert!(rt; !steps.was_late(&rt));
     each_has_one(&rt, desk.book().history());
-    drop(desk);
+    drop(desk.close());
 }
 
 // ---- a lane finds its own writes
@@ -148,5 +148,5 @@ FENCE
     let desk = served(&rt, alloc, desk_on(&rt, alloc, b""), &batches[0], &Nothing);
     let desk = served(&rt, alloc, desk, &batches[1], &Nothing);
     finds_own_writes(&rt, desk.book().history());
-    drop(desk);
+    drop(desk.close());
 }

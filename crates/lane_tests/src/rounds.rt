@@ -280,9 +280,30 @@ fn opened(rt: &impl Abort, alloc: Global) -> (Shared<MemoryDisk>, Registrar<Memo
     ensures { (registry result.1 ≡ lock_of result.0.turn) × (made result.1 ≡ 0) }
 {
     match Shared::open(alloc, desk_on(rt, alloc, b""), 0) {
-        Ok((shared, registrar, _)) => (shared, registrar),
+        Ok((shared, registrar, no_seats)) => {
+            no_seats.destroy_empty();
+            (shared, registrar)
+        }
         Err(_) => panic!(rt; "memory"),
     }
+}
+
+// The desk, when its two seats have asked all.
+fn finished(
+    rt: &impl Abort,
+    alloc: Global,
+    shared: Shared<MemoryDisk>,
+    registrar: Registrar<MemoryDesk>,
+    first: Seat<MemoryDesk>,
+    second: Seat<MemoryDesk>,
+) -> MemoryDesk
+    requires made { (registry registrar ≡ lock_of shared.turn) × (made registrar ≡ 2) }
+    requires ready { IsReady shared.turn first × IsReady shared.turn second }
+{
+    let mut seats = Vec::with_capacity(alloc, 2).ok().expect(rt, "memory");
+    seats.push_reserved(first);
+    seats.push_reserved(second);
+    shared.finish(registrar, seats)
 }
 
 #[test]
@@ -298,10 +319,9 @@ fn a_round_stays_its_owners(rt: HostRuntime) {
     assert!(rt; !steps.was_late(&rt));
     assert!(rt; one == 2_100);
     assert!(rt; other == 0);
-    let seats = vec![in alloc; first, second].ok().expect(&rt, "memory");
-    let desk = shared.finish(registrar, seats);
+    let desk = finished(&rt, alloc, shared, registrar, first, second);
     assert!(rt; desk.rounds().len() == 2);
-    drop(desk);
+    drop(desk.close());
 }
 
 // ---- the turn while a round is solved
@@ -339,11 +359,10 @@ fn others_are_answered_while_a_round_is_solved(rt: HostRuntime) {
     );
     assert!(rt; !steps.was_late(&rt));
     assert!(rt; total == 2_100);
-    let seats = vec![in alloc; first, second].ok().expect(&rt, "memory");
-    let desk = shared.finish(registrar, seats);
+    let desk = finished(&rt, alloc, shared, registrar, first, second);
     let history = desk.book().history();
     assert!(rt; history.len() == 20);
     assert!(rt; history[9].reply == Reply::Opened { round: 1 });
     assert!(rt; history[19].reply == Reply::Published { total });
-    drop(desk);
+    drop(desk.close());
 }

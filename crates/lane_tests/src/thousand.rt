@@ -75,6 +75,6 @@ fn a_thousand_lines_have_the_replies_that_are_due(rt: HostRuntime) {
     }
     let mut other = desk_on(&rt, alloc, b"");
     are_due(&rt, &mut other, history);
-    drop(other);
-    drop(desk);
+    drop(other.close());
+    drop(desk.close());
 }

@@ -1,8 +1,9 @@
 //! Seats of a lock that take turns in threads.
 ghost use Rattle.std.specs.Prelude.{◌≡◌, ◌≤◌, ◌<◌, ◌+◌, [], ◌++◌, ◌∷◌, length, false, true, All, slice_index_or};
-ghost use Rattle.turn_lock.specs.Seats.{lock, lock_of, holds, registry, made};
+ghost use Rattle.turn_lock.specs.Seats.{lock, lock_of, holds, most_seats, registry, made};
 
 use std::alloc::Global;
+use std::process::Abort;
 use std::sync::Wait;
 use std::thread::{self, Threads};
 use turn_lock::{Registrar, Seat, Story, Turn};
@@ -96,24 +97,50 @@ fn empty(alloc: Global) -> Notes
     }
 }
 
+// A lock round no notes, and so many seats.
+fn opened(
+    rt: &impl Abort,
+    alloc: Global,
+    seats: u32,
+) -> (Turn<Notes>, Registrar<Notes>, Vec<Seat<Notes>>)
+    requires { seats ≤ most_seats }
+    ensures made { (registry result.1 ≡ lock_of result.0) × (made result.1 ≡ seats) }
+    ensures seats { (length result.2.items ≡ seats) × All (λ s. (lock s ≡ lock_of result.0) × (holds s ≡ false)) result.2.items }
+{
+    match Turn::make(alloc, empty(alloc), seats) {
+        Ok((turn, registrar, seats)) => (turn, registrar, seats),
+        Err(_) => panic!(rt; "memory"),
+    }
+}
+
 // Whether the notes of a caller are its first, second and third, in order.
 fn thrice(notes: &[Note], caller: u32) -> bool {
-    let of_caller = || notes.iter().filter(|note| note.caller == caller);
-    of_caller().count() == 3
-        && of_caller()
-            .enumerate()
-            .all(|(time, note)| note.time == time)
+    let mut times = 0usize;
+    for note in notes {
+        if note.caller == caller {
+            if note.time != times {
+                return false;
+            }
+            times = times.saturating_add(1);
+        }
+    }
+    times == 3
+}
+
+// Each of so many callers has three notes, and there are no others.
+fn are_thrice(rt: &impl Abort, notes: &[Note], callers: u32) {
+    assert!(rt; notes.len() == 3 * callers as usize);
+    for past in 0..callers {
+        assert!(rt; thrice(notes, past + 1));
+    }
 }
 
 #[test]
 fn sixteen_seats_in_threads(rt: HostRuntime) {
-    let Ok((turn, registrar, mut seats)) = Turn::make(rt.alloc(), empty(rt.alloc()), 16) else {
-        panic!(rt; "memory");
-    };
+    let (turn, registrar, mut seats) = opened(&rt, rt.alloc(), 16);
     all_act(&rt, &turn, seats.as_mut_slice());
     let notes = turn.finish(registrar, seats);
-    assert!(rt; notes.list.len() == 48);
-    assert!(rt; (1..17).all(|caller| thrice(&notes.list, caller)));
+    are_thrice(&rt, &notes.list, 16);
 }
 
 // A seat that has acted three times.
@@ -165,9 +192,7 @@ fn both_act<R: Threads + Wait + Sync>(
 // While two seats act in threads of their own, a third thread enrols three more, which act, too.
 #[test]
 fn seats_are_enrolled_while_others_act(rt: HostRuntime) {
-    let Ok((turn, mut registrar, _)) = Turn::make(rt.alloc(), empty(rt.alloc()), 0) else {
-        panic!(rt; "memory");
-    };
+    let (turn, mut registrar, _) = opened(&rt, rt.alloc(), 0);
     assert!(rt; registrar.made() == 0);
     let first = turn.enrol(&mut registrar);
     let second = turn.enrol(&mut registrar);
@@ -180,6 +205,5 @@ fn seats_are_enrolled_while_others_act(rt: HostRuntime) {
     assert!(rt; registrar.made() == 5);
     let seats = vec![in rt.alloc(); first, second, third, fourth, fifth].ok();
     let notes = turn.finish(registrar, seats.expect(&rt, "memory"));
-    assert!(rt; notes.list.len() == 15);
-    assert!(rt; (1..6).all(|caller| thrice(&notes.list, caller)));
+    are_thrice(&rt, &notes.list, 5);
 }
