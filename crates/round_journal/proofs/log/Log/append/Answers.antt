@@ -1,6 +1,6 @@
-use Rattle.std.proofs.Common.{◌∙◌, inl, inr, ℕ, false, refl, sym, subst, None, Some}
+use Rattle.std.proofs.Common.{◌∙◌, arith, inl, inr, ℕ, false, refl, sym, subst, None, Some}
 use Rattle.round_journal.specs.Kept.{IsKeptAt, IsStaged}
-use Rattle.round_journal.proofs.Results.{on_err_all}
+use Rattle.round_journal.proofs.Results.{counted_ok, on_err_all}
 use Rattle.round_journal.proofs.Steps.{kept_on, kept_off, run_settle, run_stage, run_gate}
 use Rattle.round_journal.proofs.log.Log.append.Goals as goal
 
@@ -94,3 +94,6 @@ returns-in_err-open_gate-clause-failed_in g c =
         kept = c.in_err-open_gate.ensures.failed bodies c.args.body.now refl staged;
       }),
     ))
+
+pub returns-clause-cause : goal.returns-clause-cause
+returns-clause-cause g c = counted_ok tt (omega (arith, c.settle.ensures.cause.later, c.stage.ensures.cause.later, c.open_gate.ensures.cause.later))
