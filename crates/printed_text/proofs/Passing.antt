@@ -1,8 +1,10 @@
 -- Text that goes through a buffer, step after step.
-use Rattle.std.proofs.Common.{◌≡◌, ℕ, List, [], ◌++◌, refl, sym, ap, ◌∙◌, subst, append_assoc}
+use Rattle.std.proofs.Common.{◌≡◌, ◌≤◌, ℕ, List, [], ◌++◌, refl, sym, ap, ◌∙◌, subst, append_assoc, arith}
 use Rattle.std.specs.Prelude.{Option, Result, Ok, Err, OnOk, OnErr}
 use Rattle.std.specs.Io.KnownBytes.{Appends}
 use Rattle.std.proofs.lemmas.List.{append-nil}
+use Rattle.fault_count.specs.Counts.{IsCounted}
+use Rattle.fault_count.proofs.Rising.{risen_within}
 use Rattle.bureau_edge.specs.Streams.{AppendsPart}
 use Rattle.bureau_edge.proofs.Known.{Appends-none, Appends-then}
 use Rattle.printed_text.specs.Writing.{GoesThrough}
@@ -92,3 +94,10 @@ on_err_if (Err e) P Q f h = f h
 pub on_ok_if : {T E : Type 0} (r : Result T E) (P Q : Type 0) → (P → Q) → OnOk r P → OnOk r Q
 on_ok_if (Ok t) P Q f h = f h
 on_ok_if (Err e) P Q f h = tt
+
+-- a failure of a later step
+pub counted_later : {T E U F : Type 0} (low before after : ℕ) (e : E) (s : Result U F) → low ≤ before → IsCounted {T = T} before after (Err e) → IsCounted low after s
+counted_later low before after e s first c = record {
+  later = omega (arith, first, c.later);
+  cause = λ _. risen_within low before after after first (omega arith) (c.cause refl);
+}

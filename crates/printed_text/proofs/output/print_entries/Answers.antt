@@ -8,7 +8,7 @@ use Rattle.bureau_edge.specs.Streams.{AppendsPart}
 use Rattle.printed_text.specs.Writing.{GoesThrough}
 use Rattle.printed_text.specs.Printing.{added_text, entry_text, rounds_in}
 use Rattle.setoff_model.proofs.Lists.{on_err}
-use Rattle.printed_text.proofs.Passing.{GoesThroughUpTo, up_begins, up_breaks, up_ends, up_more}
+use Rattle.printed_text.proofs.Passing.{GoesThroughUpTo, counted_later, up_begins, up_breaks, up_ends, up_more}
 use Rattle.printed_text.proofs.Printing.{IsNext, added_from, entry_text_is, next_more, past_next, published_at}
 use Rattle.printed_text.proofs.output.print_entries.Goals as goal
 
@@ -73,3 +73,6 @@ returns-clause-ok g c =
     let i = c.loop-i.i in
     up_ends (g.K.Sink.held c.args.sink.now) (g.K.Sink.held c.loop-i.sink) c.args.buffer.now.items c.loop-i.buffer.items _ (added_text (take c.args.from h) (drop c.args.from h)) c.loop-i.invariant.passes
     (ap (λ (rest : List Entry). added_text (take i h) rest) (drop_all i h c.loop-i-test.false))
+
+pub returns-in_err-next-clause-cause : goal.returns-in_err-next-clause-cause
+returns-in_err-next-clause-cause g c = counted_later (g.K.Sink.faults c.args.sink.now) (g.K.Sink.faults c.loop-i.sink) (g.K.Sink.faults c.print_answer.new.sink) _ _ c.loop-i.invariant.later c.in_err-next.ensures.cause

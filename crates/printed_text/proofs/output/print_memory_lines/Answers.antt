@@ -4,7 +4,7 @@ use Rattle.request_text.specs.declared.request.Request.{Request}
 use Rattle.served_lines.specs.declared.line_end.LineEnd.TheVariants as ends
 use Rattle.printed_text.specs.Printing.{end_text, ends_text, unanswered}
 use Rattle.setoff_model.proofs.Lists.{on_err}
-use Rattle.printed_text.proofs.Passing.{GoesThroughUpTo, up_begins, up_breaks, up_ends, up_more}
+use Rattle.printed_text.proofs.Passing.{GoesThroughUpTo, counted_later, up_begins, up_breaks, up_ends, up_more}
 use Rattle.printed_text.proofs.Printing.{unanswered_from}
 use Rattle.printed_text.proofs.output.print_memory_lines.Goals as goal
 
@@ -45,3 +45,6 @@ pub returns-clause-ok : goal.returns-clause-ok
 returns-clause-ok g c =
     up_ends (g.K.Sink.held c.args.sink.now) (g.K.Sink.held c.loop-request.sink) c.args.buffer.now.items c.loop-request.buffer.items _ (ends_text (unanswered c.args.requests.now)) c.loop-request.invariant.passes
     (ap (λ (left : List Request). ends_text (unanswered left)) (drop_all c.loop-request.request-index c.args.requests.now c.loop-request-test.false))
+
+pub returns-in_err-print_end-clause-cause : goal.returns-in_err-print_end-clause-cause
+returns-in_err-print_end-clause-cause g c = counted_later (g.K.Sink.faults c.args.sink.now) (g.K.Sink.faults c.loop-request.sink) (g.K.Sink.faults c.print_end.new.sink) _ _ c.loop-request.invariant.later c.in_err-print_end.ensures.cause

@@ -5,7 +5,7 @@ use Rattle.setoff_model.proofs.Columns.{no_claim}
 use Rattle.statement_text.specs.Statements.{claim_line, claim_lines}
 use Rattle.printed_text.specs.Printing.{line_bytes, lines_bytes}
 use Rattle.setoff_model.proofs.Lists.{on_err}
-use Rattle.printed_text.proofs.Passing.{GoesThroughUpTo, up_begins, up_breaks, up_ends, up_more}
+use Rattle.printed_text.proofs.Passing.{GoesThroughUpTo, counted_later, up_begins, up_breaks, up_ends, up_more}
 use Rattle.printed_text.proofs.Printing.{claims_from}
 use Rattle.printed_text.proofs.statement.print_claims.Goals as goal
 
@@ -52,3 +52,6 @@ returns-clause-ok g c =
     let i = c.loop-i.i in
     up_ends (g.K.Sink.held c.args.sink.now) (g.K.Sink.held c.loop-i.sink) c.args.buffer.now.items c.loop-i.buffer.items _ (lines_bytes (claim_lines fs cs ds)) c.loop-i.invariant.passes
     (ap (λ (rest : List CutClaim). lines_bytes (claim_lines fs rest (drop i ds))) (drop_all i cs (omega (arith, c.loop-i-test.false, c.requires.discharge_each))))
+
+pub returns-in_err-print_claim-clause-cause : goal.returns-in_err-print_claim-clause-cause
+returns-in_err-print_claim-clause-cause g c = counted_later (g.K.Sink.faults c.args.sink.now) (g.K.Sink.faults c.loop-i.sink) (g.K.Sink.faults c.print_claim.new.sink) _ _ c.loop-i.invariant.later c.in_err-print_claim.ensures.cause

@@ -11,7 +11,7 @@ use Rattle.statement_text.specs.declared.line.Line.TheVariants as line
 use Rattle.statement_text.specs.Statements.{party_lines}
 use Rattle.printed_text.specs.Printing.{line_bytes, lines_bytes}
 use Rattle.setoff_model.proofs.Lists.{on_err}
-use Rattle.printed_text.proofs.Passing.{GoesThroughUpTo, up_begins, up_breaks, up_ends, up_more}
+use Rattle.printed_text.proofs.Passing.{GoesThroughUpTo, counted_later, up_begins, up_breaks, up_ends, up_more}
 use Rattle.printed_text.proofs.Printing.{parties_from}
 use Rattle.printed_text.proofs.statement.print_parties.Goals as goal
 
@@ -58,3 +58,6 @@ pub returns-clause-ok : goal.returns-clause-ok
 returns-clause-ok g c =
     up_ends (g.K.Sink.held c.args.sink.now) (g.K.Sink.held c.loop-i.sink) c.args.buffer.now.items c.loop-i.buffer.items _ (lines_bytes (party_lines c.args.parties.now c.args.prices.now)) c.loop-i.invariant.passes
     (ap (λ (fs : List Party). lines_bytes (party_lines fs (drop c.loop-i.i c.args.prices.now))) (drop_all c.loop-i.i c.args.parties.now c.loop-i-test.false))
+
+pub returns-in_err-print_party-clause-cause : goal.returns-in_err-print_party-clause-cause
+returns-in_err-print_party-clause-cause g c = counted_later (g.K.Sink.faults c.args.sink.now) (g.K.Sink.faults c.loop-i.sink) (g.K.Sink.faults c.print_party.new.sink) _ _ c.loop-i.invariant.later c.in_err-print_party.ensures.cause
