@@ -251,13 +251,21 @@ fn a_file_is_written_synced_and_opened_again(rt: HostRuntime) {
     let name = "disk_model_test";
     let _ = fs::remove_dir_all(&rt, name);
     let path = "disk_model_test/file";
-    is_homeless(&rt, &mut file(&rt, path));
+    let mut homeless = file(&rt, path);
+    is_homeless(&rt, &mut homeless);
+    drop(homeless);
     fs::create_dir(&rt, name).ok().expect(&rt, "a folder");
-    is_missing(&rt, &mut file(&rt, path));
+    let mut missing = file(&rt, path);
+    is_missing(&rt, &mut missing);
+    drop(missing);
     let exists = fs::exists(&rt, path).ok();
     assert!(rt; exists == Some(false));
-    write_whole(&rt, &mut file(&rt, path));
-    is_read(&rt, &mut file(&rt, path));
+    let mut written = file(&rt, path);
+    write_whole(&rt, &mut written);
+    drop(written);
+    let mut read = file(&rt, path);
+    is_read(&rt, &mut read);
+    drop(read);
     fs::remove_dir_all(&rt, name).ok().expect(&rt, "a removal");
 }
 
@@ -301,7 +309,13 @@ fn a_file_is_locked(rt: HostRuntime) {
     let mut early = file(&rt, path);
     let mut reader = file(&rt, path);
     assert!(rt; length(&mut early) == Some(0));
-    has_it_alone(&rt, &mut file(&rt, path), &mut reader, &mut early);
-    is_shared(&rt, &mut reader, &mut file(&rt, path));
+    let mut writer = file(&rt, path);
+    has_it_alone(&rt, &mut writer, &mut reader, &mut early);
+    drop(writer);
+    drop(early);
+    let mut other = file(&rt, path);
+    is_shared(&rt, &mut reader, &mut other);
+    drop(other);
+    drop(reader);
     fs::remove_file(&rt, path).ok().expect(&rt, "a removal");
 }
