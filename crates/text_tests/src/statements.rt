@@ -21,13 +21,16 @@ CLAIM A I-3 C 12.00 7.00
 END
 ";
 
-// The claims of the triangle: who owes, to whom, how much.
+// A claim of the triangle: who owes, to whom, how much.
+fn owes(rt: &impl Abort, claim: &CutClaim, debtor: u32, creditor: u32, amount: u64) {
+    assert!(rt; claim.debtor == debtor && claim.creditor == creditor && claim.amount == amount);
+}
+
 fn are_of_the_triangle(rt: &impl Abort, claims: &[CutClaim]) {
     assert!(rt; claims.len() == 3);
-    let places = [(0, 1, 1000), (1, 2, 700), (2, 0, 1200)];
-    for (claim, (debtor, creditor, amount)) in claims.iter().zip(places) {
-        assert!(rt; claim.debtor == debtor && claim.creditor == creditor && claim.amount == amount);
-    }
+    owes(rt, &claims[0], 0, 1, 1000);
+    owes(rt, &claims[1], 1, 2, 700);
+    owes(rt, &claims[2], 2, 0, 1200);
     assert!(rt; claims[0].key.invoice.bytes() == b"I-1".as_slice());
 }
 
