@@ -10,15 +10,16 @@ use std::process::Abort;
 
 const FIRMS: [&str; 3] = ["A", "B", "C"];
 
+const VERBS: [&str; 5] = ["FIRM", "FUND", "POSITION", "DRAW", "DRAW"];
+
 // The line of this number: an act of one of three firms, by the lanes in turn.
 fn line_of(rt: &impl Abort, alloc: Global, number: usize) -> String {
     let lane = number % 16 + 1;
     let firm = FIRMS[number % 3];
+    let verb = VERBS[number % 5];
     let line = match number % 5 {
-        0 => format!(in alloc; "{lane} FIRM {firm}\n"),
-        1 => format!(in alloc; "{lane} FUND {firm} {number}.00\n"),
-        2 => format!(in alloc; "{lane} POSITION {firm}\n"),
-        _ => format!(in alloc; "{lane} DRAW {firm} {number}.00\n"),
+        0 | 2 => format!(in alloc; "{lane} {verb} {firm}\n"),
+        _ => format!(in alloc; "{lane} {verb} {firm} {number}.00\n"),
     };
     line.expect(rt, "memory")
 }
