@@ -112,6 +112,7 @@ fn acts_are_on_the_disk(rt: HostRuntime) {
     assert!(rt; closed(desk) == 81);
     assert!(rt; viewed(&rt, &mut disk) == 4);
     assert!(rt; disk.bytes().len() == 81);
+    drop(disk);
 }
 
 // The first act fails by the disk, the same act is then done, and then refused.
@@ -221,6 +222,7 @@ fn every_crash_opens(rt: HostRuntime) {
             assert!(rt; closed(desk) <= 81);
         }
     }
+    drop(disk);
 }
 
 // Closes a round of caller 1 and publishes the outcome without discharges and with prices of 0, where it is greatest.

@@ -90,6 +90,7 @@ fn each_write_is_torn_at_each_moment(rt: HostRuntime) {
             has_images(&rt, &disk, moment, images);
         }
     }
+    drop(disk);
 }
 
 // A call of a disk.
@@ -146,6 +147,7 @@ fn the_named_calls_fail_and_no_others(rt: HostRuntime) {
     assert!(rt; disk.refused() == 0);
     is_image(&rt, &disk, 14, 0, b"abcd\0");
     is_image(&rt, &disk, 16, 0, b"abXYZ");
+    drop(disk);
 }
 
 #[test]
@@ -157,6 +159,7 @@ fn the_count_of_faults_stops_at_its_last_value(rt: HostRuntime) {
         assert!(rt; synced.is_ok() == succeeds);
         assert!(rt; disk.faults() == u64::MAX);
     }
+    drop(disk);
     runs_compose::<MemoryDisk>();
     torn_writes();
 }
@@ -182,6 +185,7 @@ fn a_place_above_63_never_stands(rt: HostRuntime) {
             .expect(&rt, "memory");
         assert!(rt; count_of_x(&rt, &image, end) == count);
     }
+    drop(disk);
 }
 
 // The file of this path.

@@ -86,6 +86,7 @@ fn an_empty_disk_becomes_a_journal(rt: HostRuntime) {
     let disk = journal.close();
     assert!(rt; disk.bytes() == b"BUREAUJ1\0".as_slice());
     assert!(rt; disk.moment() == 10);
+    drop(disk);
 }
 
 #[test]
@@ -172,6 +173,7 @@ fn a_failed_append_is_settled(rt: HostRuntime) {
         assert!(rt; disk.moment() == moment);
         let kept = disk.bytes().get(8..19);
         assert!(rt; kept == Some([1, 0, 0, 0, 5, 0, 0, 0, 0, 13, 0].as_slice()));
+        drop(disk);
     }
 }
 
@@ -187,6 +189,7 @@ fn a_crash_leaves_the_last_record_or_not(rt: HostRuntime) {
         let image = disk.image(rt.alloc(), 16, pick).expect(&rt, "memory");
         is_found(&rt, &image, Ok(count), 21);
     }
+    drop(disk);
 }
 
 #[test]
