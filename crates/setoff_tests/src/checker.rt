@@ -119,15 +119,11 @@ fn certified(rt: &impl Abort, alloc: Global, discharge: u64) -> Result<Checked, 
 
 #[test]
 fn certifies_a_triangle(rt: HostRuntime) {
-    match certified(&rt, rt.alloc(), 700) {
-        Ok(checked) => {
-            assert!(rt; checked.cut().claims().len() == 3);
-            assert!(rt; checked.outcome().prices() == [1, 2, 0].as_slice());
-            let (cut, outcome) = checked.parts();
-            assert!(rt; cut.round() == 1 && outcome.discharges() == [700, 700, 700].as_slice());
-        }
-        Err(_) => panic!(rt; "the triangle is refused"),
-    }
+    let checked = certified(&rt, rt.alloc(), 700).expect(&rt, "the triangle is certified");
+    assert!(rt; checked.cut().claims().len() == 3);
+    assert!(rt; checked.outcome().prices() == [1, 2, 0].as_slice());
+    let (cut, outcome) = checked.parts();
+    assert!(rt; cut.round() == 1 && outcome.discharges() == [700, 700, 700].as_slice());
 }
 
 #[test]
@@ -136,11 +132,7 @@ fn refuses_a_smaller_total(rt: HostRuntime) {
         total: 1800,
         bound: 2100,
     };
-    match certified(&rt, rt.alloc(), 600) {
-        Err(refusal) => {
-            assert!(rt; refusal.verdict == want && refusal.cut.claims().len() == 3);
-            assert!(rt; refusal.outcome.discharges() == [600, 600, 600].as_slice());
-        }
-        Ok(_) => panic!(rt; "a smaller total is kept"),
-    }
+    let refusal = certified(&rt, rt.alloc(), 600).expect_err(&rt, "a smaller total is refused");
+    assert!(rt; refusal.verdict == want && refusal.cut.claims().len() == 3);
+    assert!(rt; refusal.outcome.discharges() == [600, 600, 600].as_slice());
 }
