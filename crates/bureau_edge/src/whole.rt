@@ -8,7 +8,7 @@ use crate::source::Source;
 use std::alloc::{AllocError, Global};
 
 /// Why a source was not read whole. The bytes that were taken from it are lost.
-#[derive(Clone, Copy, Debug, PartialEq, Eq)]
+#[derive(Clone, Copy, PartialEq, Eq)]
 pub enum ReadEnd {
     /// There was no memory for the bytes.
     Memory,

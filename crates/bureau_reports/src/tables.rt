@@ -19,7 +19,7 @@ use setoff_model::limits::LINE_BYTES;
 use std::alloc::{AllocError, Global};
 
 /// A table of a book.
-#[derive(Clone, Copy, Debug, PartialEq, Eq)]
+#[derive(Clone, Copy, PartialEq, Eq)]
 pub enum Table {
     /// The account and the position of each firm.
     Positions,

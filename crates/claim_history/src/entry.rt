@@ -70,7 +70,7 @@ pub enum Reply {
 }
 
 /// One entry of the history: what was asked, by which caller, and the reply.
-#[derive(Clone, Debug, Drop)]
+#[derive(Clone, Drop)]
 pub struct Entry {
     /// Who asked: the number of a lane, or 0 for the bureau itself.
     pub caller: u32,

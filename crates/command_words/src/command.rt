@@ -2,7 +2,7 @@
 use claim_history::Day;
 
 /// What the words ask for.
-#[derive(Clone, Copy, Debug, PartialEq, Eq)]
+#[derive(Clone, Copy, PartialEq, Eq)]
 pub enum Command {
     /// `run`: serves the requests of the source on the disk.
     Run,

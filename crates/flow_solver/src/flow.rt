@@ -10,7 +10,7 @@ use residual_state::State;
 use std::marker::Model;
 
 /// What a solver found: one flow for each arc of a net, in cents, and one price for each party.
-#[derive(Debug, Drop)]
+#[derive(Drop)]
 pub struct Flow {
     flows: Vec<u64>,
     prices: Vec<i64>,

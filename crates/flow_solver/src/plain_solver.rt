@@ -21,7 +21,7 @@ use std::alloc::{AllocError, Global};
 ///
 /// This is the primal-dual method for flows of least cost: R. K. Ahuja, T. L. Magnanti and J. B. Orlin, Network Flows,
 /// Prentice Hall 1993, chapter 9. It asks for memory that is linear in the parties and the arcs.
-#[derive(Clone, Copy, Debug)]
+#[derive(Clone, Copy)]
 pub struct PlainSolver {}
 
 impl PlainSolver {

@@ -1,7 +1,7 @@
 //! The arcs of a net.
 
 /// What one party of a cut owes another by all its claims together.
-#[derive(Clone, Copy, Debug, PartialEq, Eq)]
+#[derive(Clone, Copy, PartialEq, Eq)]
 pub struct Arc {
     /// The place of the firm that owes, in the parties of the net, from 0.
     pub debtor: u32,

@@ -14,7 +14,7 @@ use std::marker::Model;
 ///
 /// There are at most 16,384 parties, each with at most 2 * 10^15 cents of spend and of room, and at most 262,144 arcs.
 /// All arcs together have at most 262,144 times 999,999,999,999 cents, which is below 2^58.
-#[derive(Debug, Drop)]
+#[derive(Drop)]
 pub struct Net {
     parties: Vec<Party>,
     arcs: Vec<Arc>,

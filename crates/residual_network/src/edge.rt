@@ -1,7 +1,7 @@
 //! The arcs of the network.
 
 /// An arc from one node to another: how much it holds, and what a unit of flow on it counts.
-#[derive(Clone, Copy, Debug)]
+#[derive(Clone, Copy)]
 pub struct Edge {
     /// The node that it goes from: a party by its place among the parties, or the ground, which is the place after them.
     pub tail: usize,

@@ -14,7 +14,7 @@ use std::alloc::{AllocError, Global};
 ///
 /// The nodes are the parties, and after them the ground. The first arcs are those of the net, in its order, and then comes
 /// one from each party to the ground. The excess of a node is what it has beyond what it owes.
-#[derive(Debug, Drop)]
+#[derive(Drop)]
 pub struct State {
     /// The arcs: those of the net, and then one from each party to the ground.
     pub edges: Vec<Edge>,

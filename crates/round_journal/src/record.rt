@@ -3,7 +3,7 @@
 use claim_history::Act;
 
 /// A record: the place of its gate in the file, and the act that was kept with the number of its caller.
-#[derive(Debug, Drop)]
+#[derive(Drop)]
 pub struct Record {
     /// The place of the gate.
     pub offset: u64,

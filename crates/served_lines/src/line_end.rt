@@ -3,7 +3,7 @@
 use limited_book::Room;
 
 /// What came of a line.
-#[derive(Clone, Copy, Debug, PartialEq, Eq)]
+#[derive(Clone, Copy, PartialEq, Eq)]
 pub enum LineEnd {
     /// Its act has its entry; where it is a Close that is accepted, its round has the entry of its publication, too.
     Replied,
