@@ -1,37 +1,12 @@
 //! A bureau for the multilateral set-off of trade credit: the program.
 //!
-//! `bureau` is the whole program over its words, a source, a sink and a disk. `main` calls it with a disk over the file
+//! `main` calls `bureau`, which is the whole program over its words, a source, a sink and a disk, with a disk over the file
 //! `bureau.journal` of the folder that it runs in, or `without_words` where there was no memory for the words or for the path of the
-//! journal, and nothing else. Where the words are no command's, `main` tells the commands on the error stream.
-//! The word `run` reads requests and serves batch after batch on a desk over the disk's journal, the lanes of a batch side by side.
-//! The other commands change nothing on the disk: `check` judges a statement, `import` turns invoices into requests, `audit` tells
-//! whether the journal is sound, `positions` and `notices` print the tables of its book, and `trial` draws a round and serves it in
-//! memory.
-//!
-//! - The input is read whole before the disk is called. Then batch after batch is served, and its text is printed before the next
-//!   one is served. The abandonment of a round that the journal left open is printed first.
-//! - Each reply is the one reply of the entries before it, or tells of a fault that the disk counted.
-//! - An accepted act is on the disk before its reply is printed.
-//! - A Close that is accepted is followed by the publication of its round: solved, certified, and never without a proof. Where memory
-//!   is missing for that, the round stays open.
-//! - Want of memory, a full act or a fault of the disk ends one line. A fault of the sink ends the run.
-//! - What `run` prints is one fault line; or all entries of this run and a line for each line that was not replied to.
+//! journal, and nothing else. Where the words are no command's, it tells the commands on the error stream.
 #![tactic(auto)]
 
-#[cfg(test)]
-mod command_tests;
-#[cfg(test)]
-mod fault_tests;
-#[cfg(test)]
-mod journal_tests;
-#[cfg(test)]
-mod lane_tests;
-mod run;
-#[cfg(test)]
-mod tests;
-mod top;
-
 use batch_runs::Unhindered;
+use bureau_commands::{bureau, without_words};
 use bureau_edge::{StandardIn, StandardOut};
 use command_words::USAGE;
 use disk_model::FileDisk;
@@ -41,7 +16,6 @@ use std::fs::File;
 use std::io::{self, ErrorKind};
 use std::path::Path;
 use std::process::ExitCode;
-pub use top::{Ended, bureau, without_words};
 
 // The words after the program's name. Where one of them is no text, there are none, and no list of the program's words is that.
 // The only error is that memory is missing.

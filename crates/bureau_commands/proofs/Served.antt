@@ -1,0 +1,180 @@
+-- A run over a desk.
+use Rattle.std.specs.Prelude.{Option, IsTrue, drop, take, if◌then◌else◌}
+use Rattle.std.proofs.Common.{◌≡◌, ◌∙◌, ⊎_elim, inr, ℕ, ◌≤◌, Bool, true, false, List, [], ◌∷◌, ◌++◌, length, refl, sym, ap, subst, arith, length-append}
+use Rattle.std.proofs.lemmas.List.{append-nil}
+use Rattle.std.proofs.lemmas.List.Elements.{All-weaker}
+use Rattle.std.proofs.Math.Seq.{take-append_seam}
+use Rattle.std.specs.Io.KnownBytes.{Appends}
+use Rattle.bureau_edge.specs.Streams.{AppendsPart}
+use Rattle.bureau_edge.proofs.Known.{AppendsPart-front}
+use Rattle.fault_count.specs.Counts.{HasRisen}
+use Rattle.disk_model.specs.Calls.{Seen}
+use Rattle.claim_history.specs.declared.act.Act.TheVariants as act
+use Rattle.claim_history.specs.declared.entry.Entry.{Entry}
+use Rattle.claim_history.specs.declared.entry.Reply.TheVariants as reply
+use Rattle.claim_history.specs.History.{IsLegal}
+use Rattle.claim_history.specs.Rounds.{cuts_after}
+use Rattle.claim_history.proofs.Greatest.{greatest_law}
+use Rattle.claim_history.proofs.Published.{cuts_more, cuts_none}
+use Rattle.request_text.specs.declared.request.Request.{Request}
+use Rattle.journal_replay.specs.Replays.{history_of}
+use Rattle.recorded_book.specs.Acting.{IsOpenedHistory, entry_of}
+use Rattle.recorded_book.specs.Devices.{AreBetween, IsBetween}
+use Rattle.recorded_book.specs.Moments.{HasMoments}
+use Rattle.bureau_desk.specs.Desks.{DeskView, KeepsDesk}
+use Rattle.bureau_desk.specs.Opening.{IsDeskOpen}
+use Rattle.served_lines.specs.Ends.{is_memory_end, is_full_end}
+use Rattle.printed_text.specs.Printing.{added_text, printed_of}
+use Rattle.printed_text.specs.Writing.{Wrote, broken}
+use Rattle.batch_runs.specs.Runs.{Done, AreOf, AreServed, all_added, some_device, some_end}
+use Rattle.bureau_commands.specs.Headline.{IsHeadline, LeavesDisk, SurvivesCrashes, run_text}
+use Rattle.batch_runs.specs.Serving.{HasRunBatches, HasSameOpening}
+use Rattle.bureau_commands.specs.Due.{IsBatchesDue}
+use Rattle.bureau_commands.specs.Due.{served as served_due}
+use Rattle.batch_runs.proofs.Printed.{five_by, no_three_by}
+use Rattle.batch_runs.proofs.Rising.{device_rose}
+use Rattle.bureau_reports.proofs.Written.{told_status, written_after, wrote_line}
+
+-- ---- an opened history
+
+-- it begins with the records', and what is behind them publishes nothing
+pub begun_parts : (opened begun : List Entry) → IsOpenedHistory opened begun → (rest : List Entry) × (begun ≡ opened ++ rest) × (cuts_after (length opened) begun ≡ [])
+begun_parts opened begun is = ⊎_elim
+    (λ same. ([], same.1 ∙ sym (append-nil opened), ap (cuts_after (length opened)) same.1 ∙ cuts_none opened))
+    (λ more. (
+      entry_of 0 act.Abandon (reply.Abandoned more.0) ∷ [],
+      more.1,
+      ap (cuts_after (length opened)) more.1 ∙ cuts_more (length opened) opened (entry_of 0 act.Abandon (reply.Abandoned more.0)) (omega arith) ∙ ap (λ l. l ++ []) (cuts_none opened),
+    ))
+    is
+
+-- A desk that was opened has the entries of the records, and has published nothing since.
+pub begun_few : {D : Type 0} (seen : D → Seen) (old : D) (d : DeskView D) → IsDeskOpen seen old d → d.opened_with ≤ length d.history
+begun_few seen old d opening =
+    let parts = begun_parts (history_of opening.records) d.history opening.history in
+    omega (arith, opening.opened_with, ap (λ (l : List Entry). length l) parts.1, length-append (history_of opening.records) parts.0)
+
+pub none_begun : {D : Type 0} (seen : D → Seen) (old : D) (d : DeskView D) → IsDeskOpen seen old d → d.rounds ≡ cuts_after d.opened_with d.history
+none_begun seen old d opening =
+    opening.rounds ∙ sym (ap (λ (n : ℕ). cuts_after n d.history) opening.opened_with ∙ (begun_parts (history_of opening.records) d.history opening.history).2)
+
+-- what the last of the six numbers tells
+abbrev bit : Bool → ℕ
+bit b = if b then 1 else 0
+
+same_bit : (a b : Bool) → bit a ≡ bit b → a ≡ b
+same_bit true true is = refl
+same_bit true false is = let n : 1 ≡ 0 = is in absurd (omega (arith, n))
+same_bit false true is = let n : 0 ≡ 1 = is in absurd (omega (arith, n))
+same_bit false false is = refl
+
+-- what the first of them tells, where the disk tells its bytes
+same_moment : (a b : Bool) (m n : ℕ) → a ≡ true → b ≡ true → (if a then m else 0) ≡ (if b then n else 0) → m ≡ n
+same_moment a b m n one two is = sym (ap (λ (t : Bool). if t then m else 0) one) ∙ is ∙ ap (λ (t : Bool). if t then n else 0) two
+
+module _ {D : Type 0} (seen : D → Seen) (old : D) (first last : DeskView D) (opening : IsDeskOpen seen old first) (keeps : KeepsDesk seen last) (base : HasSameOpening seen first last) where
+  abbrev opened : List Entry
+  opened = history_of opening.records
+
+  abbrev begun : (rest : List Entry) × (first.history ≡ opened ++ rest) × (cuts_after (length opened) first.history ≡ [])
+  begun = begun_parts opened first.history opening.history
+
+  from_one : take first.opened_with first.history ≡ opened
+  from_one = ap (λ (n : ℕ). take n first.history) opening.opened_with ∙ ap (take (length opened)) begun.1 ∙ take-append_seam opened begun.0
+
+  same_rest : drop first.opened_with first.history ≡ drop (length opened) first.history
+  same_rest = ap (λ (n : ℕ). drop n first.history) opening.opened_with
+
+  -- the line of the abandonment
+  begun_text : printed_of (take first.opened_with first.history) (drop first.opened_with first.history) [] ≡ added_text opened (drop (length opened) first.history)
+  begun_text = append-nil (added_text (take first.opened_with first.history) (drop first.opened_with first.history))
+      ∙ ap (λ (l : List Entry). added_text l (drop first.opened_with first.history)) from_one ∙ ap (added_text opened) same_rest
+
+  first_tells : (seen first.at_opening_end).tells ≡ (seen old).tells
+  first_tells = ap (λ (d : D). (seen d).tells) opening.at_opening_end ∙ opening.same
+
+  last_tells : (seen last.at_opening_end).tells ≡ (seen old).tells
+  last_tells = same_bit (seen last.at_opening_end).tells (seen first.at_opening_end).tells base.tells ∙ first_tells
+
+  tells_so : IsTrue (seen old).tells → IsTrue (seen last.disk).tells
+  tells_so told = keeps.same ∙ last_tells ∙ told
+
+  later_so : (seen old).count ≤ (seen last.at_opening_end).count
+  later_so = subst (λ (n : ℕ). (seen old).count ≤ n) (sym (base.faults ∙ ap (λ (d : D). (seen d).count) opening.at_opening_end)) opening.later
+
+  between : AreBetween (seen old).count (seen last.disk).count last.history
+  between = All-weaker (IsBetween (seen last.at_opening_end).count (seen last.disk).count) (IsBetween (seen old).count (seen last.disk).count)
+      (λ e is before counted told. let b = is before counted told in (omega (arith, later_so, b.0), b.1, b.2)) last.history keeps.between
+
+  moment_so : IsTrue (seen old).tells → (seen last.at_first_sync).moment ≡ (seen first.at_first_sync).moment
+  moment_so told = same_moment (seen last.at_opening_end).tells (seen first.at_opening_end).tells (seen last.at_first_sync).moment (seen first.at_first_sync).moment (last_tells ∙ told) (first_tells ∙ told) base.moment
+
+  survives : IsTrue (seen old).tells → SurvivesCrashes seen old last.disk (length opened) last.history
+  survives told = record {
+    first = (seen first.at_first_sync).moment;
+    begun = first.disk;
+    turned = opening.turned told;
+    moments = subst (λ (n : ℕ). HasMoments (seen last.disk) (seen first.at_first_sync).moment n last.history) (base.opened_with ∙ opening.opened_with)
+        (subst (λ (m : ℕ). HasMoments (seen last.disk) m last.opened_with last.history) (moment_so told) (keeps.moments (tells_so told)));
+    at_exit = keeps.present (tells_so told);
+  }
+
+  leaves : (done : List Done) → (done ≡ [] → last ≡ first) → done ≡ [] → IsTrue (seen old).tells → LeavesDisk (seen old) (seen last.disk)
+  leaves done none empty told =
+      subst (λ (d : DeskView D). LeavesDisk (seen old) (seen d.disk)) (sym (none empty)) (record { opened = inr ((seen first.at_first_sync).moment, opening.turned told); spared = opening.spared told })
+
+  headline : (batches : List (List Request)) (done : List Done) (status : ℕ) → AreOf batches status done → last.history ≡ first.history ++ all_added done → AreServed first.history done → (done ≡ [] → last ≡ first)
+      → IsHeadline seen old last.disk batches status (run_text opened first.history done)
+  headline batches done status all parts served none = record {
+    opened = opened;
+    begun = first.history;
+    done = done;
+    history = last.history;
+    is_history = record { records = opening.records; found = opening.found; sound = opening.sound; opened_is = refl; begins = opening.history; parts = parts };
+    all = all;
+    text_is = refl;
+    on_disk = λ told. keeps.reads_left (tells_so told);
+    legal = keeps.legal;
+    valid = keeps.valid;
+    between = between;
+    served = served;
+    greatest = λ before later e total is published. greatest_law before later e total (subst IsLegal is keeps.legal) published;
+    survives = survives;
+    early = leaves done none;
+  }
+
+  -- the batches were served
+  pub wrote_all : (x y z : Option (List ℕ)) (batches : List (List Request)) (status : ℕ) → Appends x y (printed_of (take first.opened_with first.history) (drop first.opened_with first.history) []) → HasRunBatches seen first last batches y z status
+      → Wrote (IsBatchesDue seen old last.disk batches) x z status
+  wrote_all x y z batches status before ran =
+      let text = run_text opened first.history ran.done in
+      wrote_line (IsBatchesDue seen old last.disk batches) x z ran.due text status (served_due ran.due text (headline batches ran.done ran.due ran.all ran.history ran.served ran.none))
+      (written_after x y z (added_text opened (drop (length opened) first.history)) _ ran.due status (subst (Appends x y) begun_text before) ran.written)
+
+  -- the sink failed at the abandonment's line
+  pub wrote_begun : (x y : Option (List ℕ)) (batches : List (List Request)) → last ≡ first → AppendsPart x y (printed_of (take first.opened_with first.history) (drop first.opened_with first.history) [])
+      → Wrote (IsBatchesDue seen old last.disk batches) x y 4
+  wrote_begun x y batches same part =
+      let none : List Done = [] in
+      wrote_line (IsBatchesDue seen old last.disk batches) x y 4 (run_text opened first.history none) 4
+      (served_due 4 (run_text opened first.history none)
+      (headline batches none 4 (record { rest = batches; in_order = refl; ended = inr refl }) (ap (λ (d : DeskView D). d.history) same ∙ sym (append-nil first.history)) tt (λ e. same)))
+      (broken (AppendsPart-front x y (added_text opened (drop (length opened) first.history)) [] (subst (AppendsPart x y) begun_text part)))
+
+  -- where the status tells of a device, the disk's count rose
+  pub ran_rose : (x y : Option (List ℕ)) (batches : List (List Request)) (status : ℕ) → HasRunBatches seen first last batches x y status → status ≡ 5 → HasRisen (seen old).count (seen last.disk).count
+  ran_rose x y batches status ran five = ⊎_elim
+      (λ due. ⊎_elim
+      (λ all. device_rose (seen old).count (seen last.disk).count first.history (all_added ran.done) (subst IsLegal ran.history keeps.legal) (subst (AreBetween (seen old).count (seen last.disk).count) ran.history between)
+      (five_by (some_end is_memory_end ran.done) (some_device ran.done) (some_end is_full_end ran.done) (sym all.1 ∙ sym due ∙ five)))
+      (λ four. absurd (omega (arith, due, four, five)))
+      ran.all.ended)
+      (λ four. absurd (omega (arith, five, four)))
+      (told_status x y ran.due _ status ran.written)
+
+-- no status of batches tells of the source
+pub ran_no_three : {D : Type 0} (seen : D → Seen) (first last : DeskView D) (batches : List (List Request)) (x y : Option (List ℕ)) (status : ℕ) → HasRunBatches seen first last batches x y status → status ≡ 3 → ⊥
+ran_no_three seen first last batches x y status ran three = ⊎_elim
+    (λ due. ⊎_elim (λ all. no_three_by (some_end is_memory_end ran.done) (some_device ran.done) (some_end is_full_end ran.done) (sym all.1 ∙ sym due ∙ three)) (λ four. omega (arith, due, four, three)) ran.all.ended)
+    (λ four. omega (arith, four, three))
+    (told_status x y ran.due _ status ran.written)
