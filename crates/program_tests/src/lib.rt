@@ -1,4 +1,4 @@
-//! Tests of the top call, over commands, the journal, faults and lanes, and of what stands right below it: reports and trials.
+//! Tests of the top call: commands, the journal, faults and lanes.
 //!
 //! They stand apart, since a crate with tests is proved twice, and a program cannot be called by another crate.
 #![tactic(auto)]
@@ -12,8 +12,4 @@ mod journals;
 #[cfg(test)]
 mod lanes;
 #[cfg(test)]
-mod reports;
-#[cfg(test)]
 mod runs;
-#[cfg(test)]
-mod trials;
