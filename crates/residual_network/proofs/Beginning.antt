@@ -11,7 +11,7 @@ use Rattle.setoff_model.proofs.Circulation.{sum_below-same, sum_below-all, sum_b
 use Rattle.residual_network.specs.Network.{Arcs, Network, arc_gain, has, owes, IsFlow, ArcSlack, AtRest, AreArcsAmong}
 use Rattle.residual_network.specs.NetworkOf.{IsNetworkOf, IsAmongParties, empty_flow, full_flow}
 use Rattle.residual_network.specs.Laws.{NetworkLaw}
-use Rattle.residual_network.proofs.Sums.{sum_below-split, choose_yes, choose_no}
+use Rattle.setoff_model.proofs.Sums.{sum_below-split, choose_yes, choose_no}
 use Rattle.residual_network.proofs.Resting.{in_at, out_at}
 
 -- ---- each arc is a claim's or a window's

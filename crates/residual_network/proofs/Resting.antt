@@ -11,7 +11,7 @@ use Rattle.setoff_model.proofs.Complementary.{tight_from_slack}
 use Rattle.residual_network.specs.Network.{Network, arc_gain, has, owes, IsFlow, ArcSlack, AtRest}
 use Rattle.residual_network.specs.NetworkOf.{IsNetworkOf}
 use Rattle.residual_network.specs.Laws.{RestLaw}
-use Rattle.residual_network.proofs.Sums.{sum_below-split, sum_below-only, choose_yes, choose_no}
+use Rattle.setoff_model.proofs.Sums.{sum_below-split, sum_below-only, choose_yes, choose_no}
 
 -- what a party has and owes
 pub in_at : (o : Obligations) (net : Network) (x d : List ℕ) (f : ℕ) → IsNetworkOf o net

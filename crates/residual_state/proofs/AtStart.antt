@@ -11,7 +11,7 @@ use Rattle.netting_graph.specs.declared.arc.Arc.{Arc}
 use Rattle.netting_graph.specs.NetView.{NetView, IsNet, obligations_of_net, arc_amounts, arc_creditors, arc_debtors}
 use Rattle.residual_network.specs.Network.{Network, IsFlow, ArcSlack, AreArcsAmong, excess_at}
 use Rattle.residual_network.specs.NetworkOf.{IsNetworkOf, empty_flow, full_flow}
-use Rattle.residual_network.proofs.Sums.{sum_below-split}
+use Rattle.setoff_model.proofs.Sums.{sum_below-split}
 use Rattle.residual_network.proofs.Beginning.{nothing, empty_claim, empty_window, full_claim, full_window, network_law}
 use Rattle.residual_network.specs.declared.edge.Edge.{Edge}
 use Rattle.residual_state.specs.declared.state.State.{State}

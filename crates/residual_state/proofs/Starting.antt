@@ -9,7 +9,7 @@ use Rattle.setoff_model.specs.Setoff.{price_at, flow_at}
 use Rattle.setoff_model.proofs.SumsBounded.{sum_below-most}
 use Rattle.netting_graph.specs.declared.arc.Arc.{Arc}
 use Rattle.netting_graph.specs.NetView.{NetView, IsNet, IsArcAmong, arc_debtors, arc_creditors, arc_amounts}
-use Rattle.residual_network.proofs.Sums.{choose_yes, choose_no}
+use Rattle.setoff_model.proofs.Sums.{choose_yes, choose_no}
 use Rattle.residual_state.specs.Starts.{IsChanged, IsDifference, AreInRange}
 
 chosen_most : (a b x u : ℕ) → x ≤ u → (if a == b then x else 0) ≤ u

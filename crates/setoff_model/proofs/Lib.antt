@@ -17,3 +17,9 @@ pub mod Complementary
 pub mod Squeezed
 pub mod OneSqueezed
 pub mod Near
+pub mod Sums
+pub mod Weighed
+pub mod Narrowed
+pub mod WeightedBounded
+mod Ones
+mod WorkedWeights

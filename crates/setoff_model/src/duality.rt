@@ -3,7 +3,8 @@ ghost use Rattle.setoff_model.specs.Setoff.{WeakDuality, AsWritten};
 ghost use Rattle.setoff_model.specs.CutView.{LawfulFits, SumsAreBounded};
 ghost use Rattle.setoff_model.specs.ProofTest.{ProofTestLaw};
 ghost use Rattle.setoff_model.specs.Slackness.{Slackness};
-ghost use Rattle.setoff_model.specs.Squeezing.{SqueezingKeeps, SqueezedIsOne};
+ghost use Rattle.setoff_model.specs.Squeezing.{SqueezingKeeps, SqueezedIsOne, NarrowingKeeps};
+ghost use Rattle.setoff_model.specs.Weighted.{WeightedDuality, WeightedSlackness, WeightedSumsAreBounded, WeightsOfOne};
 
 /// The law behind every published round: weak duality of linear programming, for circulations.
 ///
@@ -40,4 +41,26 @@ pub fn slackness()
 pub fn squeezing_keeps_proofs()
     ensures keeps { SqueezingKeeps }
     ensures one { SqueezedIsOne }
+{}
+
+/// The same where a cent of one claim counts more than a cent of another: by weights from 1 to 9, one for each claim.
+///
+/// A call does nothing. By its clauses every lawful weighted total is at most the weighted bound of every price list, so a
+/// set-off that is proved by prices is greatest by these weights. The total is the bound exactly where each claim with
+/// `weight + price of the debtor - price of the creditor` above 0 is discharged whole, each where that is below 0 not at all,
+/// and the windows are used up as in `slackness`. No sum of a well-formed cut reaches 2^84. Where each weight is 1, totals,
+/// bounds, greatest set-offs and proofs are those of claims without weights.
+pub fn weighted_duality()
+    ensures laws { WeightedDuality }
+    ensures slackness { WeightedSlackness }
+    ensures bounded { WeightedSumsAreBounded }
+    ensures of_one { WeightsOfOne }
+{}
+
+/// The law of gaps between prices that are narrowed to the largest weight, and to no less: what the prices prove of weighted
+/// claims, they prove.
+///
+/// A call does nothing.
+pub fn narrowing_keeps_proofs()
+    ensures { NarrowingKeeps }
 {}
