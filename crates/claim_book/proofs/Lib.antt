@@ -1,7 +1,7 @@
-pub mod Names
 pub mod Known
 pub mod Sound
 pub mod Tables
+pub mod Marks
 pub mod Books
 pub mod Lookups
 pub mod Found

@@ -1,5 +1,5 @@
 //! A history with its claims and accounts.
-ghost use Rattle.std.specs.Prelude.{ℕ, ◌≡◌, ◌<◌, ◌+◌, ◌≤◌, ◌++◌, ◌∷◌, [], length, is_some, IfOk, IfErr, OnOk, OnErr, vec_len, vec_capacity, true, false, All};
+ghost use Rattle.std.specs.Prelude.{ℕ, ◌≡◌, ◌<◌, ◌+◌, ◌≤◌, ◌++◌, ◌∷◌, [], length, is_some, IfOk, IfErr, OnOk, OnErr, vec_len, vec_capacity, true, false, All, if◌then◌else◌};
 ghost use Rattle.std.specs.Option.{option_map};
 ghost use Rattle.setoff_model.specs.Limits.{most_rounds};
 ghost use Rattle.setoff_model.specs.declared.kind.Kind.{Kind};
@@ -11,7 +11,8 @@ ghost use Rattle.claim_history.specs.States.{state_of, number_of, is_in_cut, is_
 ghost use Rattle.claim_history.specs.History.{answer_of, IsLegal, AreValid, MayFollow, is_opening};
 ghost use Rattle.claim_history.specs.Acts.{is_valid, is_publication};
 ghost use Rattle.claim_history.specs.Laws.{KeepLimits, KeepAmounts, IsWithin, OpenIsFrozen};
-ghost use Rattle.claim_book.specs.Book.{ledger_of, claim_in, account_in, position_in, room_for, room_needed, KeepsRoom, open_cut_of, GivesCut};
+ghost use Rattle.fact_tables.specs.Marks.{no_marks};
+ghost use Rattle.claim_book.specs.Book.{is_abandoned, ledger_of, claim_in, account_in, position_in, room_for, room_needed, KeepsRoom, open_cut_of, GivesCut};
 
 use crate::account_answer::{
     answer_draw, answer_firm, answer_fund, answer_limit, answer_offer, answer_position,
@@ -20,7 +21,7 @@ use crate::claim_answer::{
     answer_confirm, answer_dispute, answer_file, answer_receive, answer_withdraw,
 };
 use crate::round::{
-    KeptRound, end_round, holds_claim, holds_firm, horizon_of, keep_round, outcome_in, take_cut,
+    KeptRound, end_round, horizon_of, is_funded_round, keep_round, outcome_in, take_cut,
 };
 use crate::round_answer::{answer_abandon, answer_close};
 use claim_history::{AccountFact, Act, ClaimFact, Day, Entry, Position, Reply, accepted};
@@ -51,7 +52,7 @@ impl Model for Book {
 
     ghost view = { λ b. record { history = b.entries.items; room = min (vec_capacity b.entries - vec_len b.entries) (min b.claims.room b.accounts.room) } };
 
-    ghost invariant = { λ b. IsBook (record { entries = b.entries.items; claims = b.claims.facts; accounts = b.accounts.facts; openings = b.openings; round = b.kept }) };
+    ghost invariant = { λ b. IsBook (record { entries = b.entries.items; claims = b.claims.facts; claim_marks = b.claims.marks; accounts = b.accounts.facts; account_marks = b.accounts.marks; openings = b.openings; round = b.kept }) };
 }
 
 impl Book {
@@ -133,14 +134,14 @@ impl Book {
     pub(crate) fn is_frozen(&self, key: &Key) -> bool
         ensures { result ≡ is_in_cut (state_of self.now.history).open_round key.now }
     {
-        holds_claim(&self.kept, key)
+        self.claims.is_marked(key)
     }
 
     // Whether the open round holds the account of a firm.
     pub(crate) fn is_held(&self, firm: &Name) -> bool
         ensures { result ≡ is_held (state_of self.now.history).open_round firm.now }
     {
-        holds_firm(&self.kept, firm)
+        is_funded_round(&self.kept) && self.accounts.is_marked(firm)
     }
 
     // The number of the open round, 0 where none is open.
@@ -171,6 +172,7 @@ impl Book {
         self.claims.apply(&entry);
         self.accounts.apply(&entry);
         end_round(&mut self.kept, entry.reply);
+        unmark_ended(&mut self.claims, &mut self.accounts, entry.reply);
         put_entry(&mut self.entries, entry);
     }
 
@@ -189,6 +191,8 @@ impl Book {
     {
         let horizon = horizon_of(&entry.act);
         let owner = entry.caller;
+        self.claims.mark(&cut);
+        self.accounts.mark(&cut);
         let round = KeptRound {
             owner,
             horizon,
@@ -222,6 +226,8 @@ impl Book {
         let discharges = outcome_in(&entry.act).discharges();
         self.claims.discharge(&cut, discharges);
         self.accounts.discharge(&cut, discharges);
+        self.claims.unmark();
+        self.accounts.unmark();
         put_entry(&mut self.entries, entry);
         Some(cut)
     }
@@ -343,6 +349,21 @@ impl Book {
                 payable: self.claims.owed_by(&firm),
             }),
         }
+    }
+}
+
+// Takes all marks off where a reply abandons the open round.
+fn unmark_ended(claims: &mut ClaimTable, accounts: &mut AccountTable, reply: Reply)
+    ensures claims { claims.new.facts ≡ claims.old.facts }
+    ensures claim_marks { claims.new.marks ≡ (if is_abandoned reply then no_marks claims.old.facts else claims.old.marks) }
+    ensures claim_room { claims.new.room ≡ claims.old.room }
+    ensures accounts { accounts.new.facts ≡ accounts.old.facts }
+    ensures account_marks { accounts.new.marks ≡ (if is_abandoned reply then no_marks accounts.old.facts else accounts.old.marks) }
+    ensures account_room { accounts.new.room ≡ accounts.old.room }
+{
+    if matches!(reply, Reply::Abandoned { .. }) {
+        claims.unmark();
+        accounts.unmark();
     }
 }
 

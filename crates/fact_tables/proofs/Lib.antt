@@ -3,6 +3,8 @@ pub mod Putting
 pub mod Balances
 pub mod Flowing
 pub mod Keyed
+pub mod Names
+pub mod Marking
 pub mod Settle
 pub mod Summed
 pub mod Threads

@@ -31,11 +31,11 @@ found_any p (x ∷ xs) = found_step (p x) x (find p xs) (list_any p xs) (found_a
 
 -- ---- at most one passes
 
-one_left : (b : Bool) (n : ℕ) → cond b 1 0 + n ≤ 1 → 1 ≤ n → b ≡ false
+pub one_left : (b : Bool) (n : ℕ) → cond b 1 0 + n ≤ 1 → 1 ≤ n → b ≡ false
 one_left true n le more = absurd (omega (arith, le, more))
 one_left false n le more = refl
 
-passes : {X : Type 0} (p : X → Bool) (xs : List X) (i : ℕ) (d : X) → i < length xs → p (get_or xs i d) ≡ true → 1 ≤ count_by p xs
+pub passes : {X : Type 0} (p : X → Bool) (xs : List X) (i : ℕ) (d : X) → i < length xs → p (get_or xs i d) ≡ true → 1 ≤ count_by p xs
 passes p xs i d lt here = subst (λ n. n ≤ count_by p xs) (cond-true (p (get_or xs i d)) 1 0 here) (get_or-le-sum_by (λ x. cond (p x) 1 0) xs i d lt)
 
 -- the first that passes is the one at any place that passes
@@ -48,11 +48,11 @@ find_once p (x ∷ xs) (suc i) d lt here once =
     let other : p x ≡ false = one_left (p x) (count_by p xs) both more in
     cond-false (p x) (Some x) (find p xs) other ∙ find_once p xs i d (omega (arith, lt)) here (omega (arith, both))
 
-no_one : (b : Bool) (n : ℕ) → cond b 1 0 + n ≡ 0 → b ≡ false
+pub no_one : (b : Bool) (n : ℕ) → cond b 1 0 + n ≡ 0 → b ≡ false
 no_one true n e = absurd (omega (arith, e))
 no_one false n e = refl
 
-last_one : (b : Bool) (n : ℕ) → b ≡ true → cond b 1 0 + n ≤ 1 → n ≡ 0
+pub last_one : (b : Bool) (n : ℕ) → b ≡ true → cond b 1 0 + n ≤ 1 → n ≡ 0
 last_one true n e le = omega (arith, le)
 last_one false n e le = absurd (true≢false (sym e))
 

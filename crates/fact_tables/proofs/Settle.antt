@@ -87,7 +87,7 @@ pub map_start : {X : Type 0} (f : X → X) (xs : List X) → ((x : X) → f x �
 map_start f [] same = refl
 map_start f (x ∷ xs) same = ap₂ (λ y ys. y ∷ ys) (sym (same x)) (map_start f xs same)
 
-pub map_same : {X : Type 0} (f g : X → X) (xs : List X) → ((x : X) → f x ≡ g x) → map f xs ≡ map g xs
+pub map_same : {X Y : Type 0} (f g : X → Y) (xs : List X) → ((x : X) → f x ≡ g x) → map f xs ≡ map g xs
 map_same f g [] same = refl
 map_same f g (x ∷ xs) same = ap₂ (λ y ys. y ∷ ys) (same x) (map_same f g xs same)
 

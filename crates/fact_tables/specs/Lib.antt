@@ -1,3 +1,4 @@
 pub mod Tables
 pub mod Sums
 pub mod Settling
+pub mod Marks

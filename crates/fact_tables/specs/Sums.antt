@@ -1,5 +1,5 @@
 -- Sums of amounts by firm, and what firms are owed and owe on claims.
-use Rattle.std.specs.Prelude.{◌≡◌, ℕ, ◌<◌, ◌^◌, Bool, true, ◌&&◌, List, map, filter, sum, sum_by, position, All}
+use Rattle.std.specs.Prelude.{◌≡◌, ℕ, length, ◌<◌, ◌^◌, Bool, true, ◌&&◌, List, map, filter, sum, sum_by, position, All}
 use Rattle.std.specs.List.{list_any}
 use Rattle.setoff_model.specs.Same.{same_name}
 use Rattle.setoff_model.specs.declared.name.Key.{Key}
@@ -35,9 +35,10 @@ pub record MayStand (claims : List ClaimFact) : Type 0 where
   pub once : KeysOnce claims
   pub small : sum_by (λ c. c.left) claims < 2 ^ 64
 
--- the claims of the keys of an index, in its order, with what each firm is owed and owes
-pub record IsClaimTable (keys : List Key) (claims : List ClaimFact) (to : SumsView) (by : SumsView) : Type 0 where
+-- the claims of the keys of an index, in its order, a mark for each, and what each firm is owed and owes
+pub record IsClaimTable (keys : List Key) (claims : List ClaimFact) (marks : List Bool) (to : SumsView) (by : SumsView) : Type 0 where
   pub keys_are : keys ≡ map (λ c. c.key) claims
+  pub one_each : length marks ≡ length claims
   pub stand : MayStand claims
   pub owed_to : AreSums (λ c. c.key.creditor) claims to
   pub owed_by : AreSums (λ c. c.debtor) claims by

@@ -1,5 +1,5 @@
 -- The tables of claims and accounts, and how an entry changes them.
-use Rattle.std.specs.Prelude.{◌≡◌, ℕ, ◌-◌, ◌≤◌, count_by, All, ◌∷◌, ◌++◌, [], List, map, pos, ◌+ℤ◌, ◌-ℤ◌, if◌then◌else◌}
+use Rattle.std.specs.Prelude.{◌≡◌, ℕ, Bool, length, ◌-◌, ◌≤◌, count_by, All, ◌∷◌, ◌++◌, [], List, map, pos, ◌+ℤ◌, ◌-ℤ◌, if◌then◌else◌}
 use Rattle.setoff_model.specs.declared.name.Key.{Key}
 use Rattle.setoff_model.specs.Limits.{first_ceiling}
 use Rattle.setoff_model.specs.Same.{same_name, same_key}
@@ -15,14 +15,16 @@ use Rattle.claim_history.specs.Laws.{IsWithin}
 
 -- ---- tables
 
--- the claims in order of filing, and how many may be filed without taking memory
+-- the claims in order of filing, the mark of each, and how many may be filed without taking memory
 pub record ClaimsView : Type 0 where
   pub facts : List ClaimFact
+  pub marks : List Bool
   pub room : ℕ
 
--- the accounts in order of registration, and how many firms may be registered without taking memory
+-- the accounts in order of registration, the mark of each, and how many firms may be registered without taking memory
 pub record AccountsView : Type 0 where
   pub facts : List AccountFact
+  pub marks : List Bool
   pub room : ℕ
 
 -- ---- accounts
@@ -114,7 +116,8 @@ pub record AreAccounts (accounts : List AccountFact) : Type 0 where
   pub once : FirmsOnce accounts
   pub small : AreSmall accounts
 
--- the accounts of the firms of an index, in its order
-pub record AreAccountsOf (names : List (List ℕ)) (accounts : List AccountFact) : Type 0 where
+-- the accounts of the firms of an index, in its order, and a mark for each
+pub record AreAccountsOf (names : List (List ℕ)) (accounts : List AccountFact) (marks : List Bool) : Type 0 where
   pub names_are : names ≡ map (λ a. a.firm) accounts
+  pub one_each : length marks ≡ length accounts
   pub kept : AreAccounts accounts

@@ -1,11 +1,13 @@
 //! The accounts of a book.
-ghost use Rattle.std.specs.Prelude.{◌≡◌, ◌+◌, ◌*◌, ◌<◌, ◌≤◌, ◌^◌, ◌++◌, ◌∷◌, [], find, map, length, position, vec_len, vec_capacity, true, false, OnOk, OnErr};
+ghost use Rattle.std.specs.Prelude.{◌≡◌, ◌+◌, ◌*◌, ◌<◌, ◌≤◌, ◌^◌, ◌++◌, ◌∷◌, [], ◌||◌, Bool, find, map, length, position, vec_len, vec_capacity, true, false, OnOk, OnErr};
 ghost use Rattle.std.specs.List.{list_any};
 ghost use Rattle.setoff_model.specs.Setoff.{total_of};
 ghost use Rattle.setoff_model.specs.CutView.{WellFormed};
 ghost use Rattle.setoff_model.specs.Same.{same_name};
 ghost use Rattle.claim_history.specs.Acts.{is_valid};
 ghost use Rattle.fact_tables.specs.Settling.{settled_account};
+ghost use Rattle.claim_history.specs.declared.fact.AccountFact.{AccountFact};
+ghost use Rattle.fact_tables.specs.Marks.{accounts_in, no_marks, account_marks_with, mark_at};
 ghost use Rattle.fact_tables.specs.Tables.{new_account, funded, drawn, limited, offered, accounts_after, accounts_with, RegistersNone, FirmsOnce, AreSmall, AreWithin, AreAccounts};
 
 use crate::guesses::Guesses;
@@ -16,13 +18,14 @@ use setoff_model::{Cut, Name};
 use std::alloc::{AllocError, Global};
 use std::marker::Model;
 
-/// The accounts of the registered firms in order of registration. No firm is there twice, and each balance is from -10^15 to 10^15
-/// cents.
+/// The accounts of the registered firms in order of registration, and a mark for each. No firm is there twice, and each balance is
+/// from -10^15 to 10^15 cents.
 ///
 /// Beside them stands the room: how many firms may be registered without taking memory.
 #[derive(Drop)]
 pub struct AccountTable {
     facts: Vec<AccountFact>,
+    marks: Vec<bool>,
     names: NameIndex,
 }
 
@@ -32,19 +35,21 @@ impl Model for AccountTable {
 
     ghost Value = { AccountsView };
 
-    ghost view = { λ t. record { facts = t.facts.items; room = min (vec_capacity t.facts - vec_len t.facts) t.names.room } };
+    ghost view = { λ t. record { facts = t.facts.items; marks = t.marks.items; room = min (min (vec_capacity t.facts - vec_len t.facts) (vec_capacity t.marks - vec_len t.marks)) t.names.room } };
 
-    ghost invariant = { λ t. AreAccountsOf t.names.names t.facts.items };
+    ghost invariant = { λ t. AreAccountsOf t.names.names t.facts.items t.marks.items };
 }
 
 impl AccountTable {
     /// A table without accounts. It takes no memory.
     pub fn new(alloc: Global) -> AccountTable
         ensures facts { result.facts ≡ [] }
+        ensures marks { result.marks ≡ [] }
         ensures room { result.room ≡ 0 }
     {
         AccountTable {
             facts: Vec::new(alloc),
+            marks: Vec::new(alloc),
             names: NameIndex::new(alloc),
         }
     }
@@ -54,11 +59,13 @@ impl AccountTable {
     /// The only error is that memory is missing. It comes only where there was less room.
     pub fn reserve(&mut self, accounts: usize) -> Result<(), AllocError>
         ensures facts { self.new.facts ≡ self.old.facts }
+        ensures marks { self.new.marks ≡ self.old.marks }
         ensures room { OnOk result (accounts ≤ self.new.room) }
         ensures kept { self.old.room ≤ self.new.room }
         ensures needed { OnErr result (self.old.room < accounts) }
     {
         self.names.reserve(accounts)?;
+        self.marks.reserve(accounts)?;
         self.facts.reserve(accounts)
     }
 
@@ -76,6 +83,55 @@ impl AccountTable {
         find_account(&self.facts, &self.names, firm)
     }
 
+    /// Whether a firm's account has a mark; not where the firm has none.
+    pub fn is_marked(&self, firm: &Name) -> bool
+        ensures { result ≡ mark_at self.now.marks (position (λ a. same_name firm.now a.firm) self.now.facts) }
+    {
+        match self.place(firm) {
+            None => false,
+            Some(place) => self.marks[place],
+        }
+    }
+
+    /// Marks the accounts of the parties of a cut, and takes off each other mark. It takes no memory.
+    pub fn mark(&mut self, cut: &Cut)
+        ensures facts { self.new.facts ≡ self.old.facts }
+        ensures marks { self.new.marks ≡ accounts_in cut.now self.old.facts }
+        ensures room { self.new.room ≡ self.old.room }
+    {
+        self.unmark();
+        for party in cut.parties().iter() {
+            self.mark_account(&party.firm);
+        }
+    }
+
+    /// Takes off all marks. It takes no memory.
+    pub fn unmark(&mut self)
+        ensures facts { self.new.facts ≡ self.old.facts }
+        ensures marks { self.new.marks ≡ no_marks self.old.facts }
+        ensures room { self.new.room ≡ self.old.room }
+    {
+        self.marks.fill(false);
+    }
+
+    // The place of a firm's account; None where the firm has none.
+    fn place(&self, firm: &Name) -> Option<usize>
+        ensures { result ≡ position (λ a. same_name firm.now a.firm) self.now.facts }
+    {
+        self.names.place(firm)
+    }
+
+    // Marks a firm's account, where it has one. The marks were those of a test.
+    fn mark_account(&mut self, firm: &Name)
+        ensures facts { self.new.facts ≡ self.old.facts }
+        ensures marks { (test : AccountFact → Bool) → self.old.marks ≡ map test self.old.facts → self.new.marks ≡ map (λ a. same_name firm.now a.firm || test a) self.old.facts }
+        ensures room { self.new.room ≡ self.old.room }
+    {
+        if let Some(place) = self.place(firm) {
+            self.marks[place] = true;
+        }
+    }
+
     /// Changes the accounts as an entry says, where it is accepted. There is room for one more, no firm is registered twice, and
     /// the balances stay small. It takes no memory.
     pub fn apply(&mut self, entry: &Entry)
@@ -83,9 +139,11 @@ impl AccountTable {
         requires valid { is_valid entry.now.act ≡ true }
         requires accounts { AreAccounts (accounts_with entry.now self.old.facts) }
         ensures facts { self.new.facts ≡ accounts_with entry.now self.old.facts }
+        ensures marks { self.new.marks ≡ account_marks_with entry.now self.old.marks }
         ensures room { self.old.room ≤ self.new.room + 1 }
     {
         change_accounts(&mut self.facts, &mut self.names, entry);
+        mark_new(&mut self.marks, entry);
     }
 
     /// Puts into each account what the round of a cut discharged towards its firm, and takes out what it discharged by it. It takes
@@ -99,6 +157,7 @@ impl AccountTable {
         requires total { total_of discharges.now < 10 ^ 18 }
         requires small { AreSmall (map (settled_account (record { cut = cut.now; discharges = discharges.now })) self.old.facts) }
         ensures facts { self.new.facts ≡ map (settled_account (record { cut = cut.now; discharges = discharges.now })) self.old.facts }
+        ensures marks { self.new.marks ≡ self.old.marks }
         ensures room { self.new.room ≡ self.old.room }
     {
         discharge_accounts(&mut self.facts, &self.names, cut, discharges);
@@ -159,6 +218,18 @@ fn change_accounts(accounts: &mut Vec<AccountFact>, names: &mut NameIndex, entry
     match &entry.act {
         Act::Firm { firm } => add_account(accounts, names, firm),
         act => change_account(accounts, names, act),
+    }
+}
+
+// Puts the mark of an account at the end that the entry adds, which has none.
+fn mark_new(marks: &mut Vec<bool>, entry: &Entry)
+    requires { vec_len marks.old < vec_capacity marks.old }
+    ensures items { marks.new.items ≡ account_marks_with entry.now marks.old.items }
+    ensures len { vec_len marks.new ≤ vec_len marks.old + 1 }
+    ensures capacity { vec_capacity marks.old ≤ vec_capacity marks.new }
+{
+    if accepted(entry) && matches!(&entry.act, Act::Firm { .. }) {
+        let _ = marks.push(false);
     }
 }
 

@@ -1,11 +1,13 @@
 //! The claims of a book.
-ghost use Rattle.std.specs.Prelude.{◌≡◌, ◌+◌, ◌<◌, ◌≤◌, ◌++◌, ◌∷◌, [], ◌&&◌, sum, filter, find, position, map, set, length, get_or, OnOk, OnErr, if◌then◌else◌};
+ghost use Rattle.std.specs.Prelude.{Bool, ◌≡◌, ◌+◌, ◌<◌, ◌≤◌, ◌++◌, ◌∷◌, [], false, ◌&&◌, ◌||◌, sum, filter, find, position, map, set, length, get_or, OnOk, OnErr, if◌then◌else◌};
 ghost use Rattle.setoff_model.specs.CutView.{WellFormed};
 ghost use Rattle.setoff_model.specs.Same.{same_name, same_key};
 ghost use Rattle.claim_history.specs.Facts.{is_confirmed as confirmed};
 ghost use Rattle.fact_tables.specs.Settling.{settled_claim};
 ghost use Rattle.fact_tables.specs.Tables.{new_claim, with_status, with_receipt, claims_with};
 ghost use Rattle.fact_tables.specs.Sums.{MayStand};
+ghost use Rattle.claim_history.specs.declared.fact.ClaimFact.{ClaimFact};
+ghost use Rattle.fact_tables.specs.Marks.{claims_in, no_marks, claim_marks_with, mark_at};
 
 use crate::firm_sums::FirmSums;
 use crate::walk::{Sides, Walk};
@@ -15,12 +17,13 @@ use setoff_model::{Cut, CutClaim, Key, Name};
 use std::alloc::{AllocError, Global};
 use std::marker::Model;
 
-/// The claims in order of filing, with their status and open amount. No key is there twice.
+/// The claims in order of filing, with their status and open amount, and a mark for each. No key is there twice.
 ///
 /// Beside them stands the room: how many claims may be filed without taking memory.
 #[derive(Drop)]
 pub struct ClaimTable {
     facts: Vec<ClaimFact>,
+    marks: Vec<bool>,
     keys: KeyIndex,
     receivables: FirmSums,
     payables: FirmSums,
@@ -33,19 +36,21 @@ impl Model for ClaimTable {
 
     ghost Value = { ClaimsView };
 
-    ghost view = { λ t. record { facts = t.facts.items; room = min (min (vec_capacity t.facts - vec_len t.facts) t.keys.room) (min t.receivables.room t.payables.room) } };
+    ghost view = { λ t. record { facts = t.facts.items; marks = t.marks.items; room = min (min (min (vec_capacity t.facts - vec_len t.facts) (vec_capacity t.marks - vec_len t.marks)) t.keys.room) (min t.receivables.room t.payables.room) } };
 
-    ghost invariant = { λ t. IsClaimTable t.keys.keys t.facts.items t.receivables t.payables };
+    ghost invariant = { λ t. IsClaimTable t.keys.keys t.facts.items t.marks.items t.receivables t.payables };
 }
 
 impl ClaimTable {
     /// A table without claims. It takes no memory.
     pub fn new(alloc: Global) -> ClaimTable
         ensures facts { result.facts ≡ [] }
+        ensures marks { result.marks ≡ [] }
         ensures room { result.room ≡ 0 }
     {
         ClaimTable {
             facts: Vec::new(alloc),
+            marks: Vec::new(alloc),
             keys: KeyIndex::new(alloc),
             receivables: FirmSums::new(alloc),
             payables: FirmSums::new(alloc),
@@ -57,6 +62,7 @@ impl ClaimTable {
     /// The only error is that memory is missing. It comes only where there was less room.
     pub fn reserve(&mut self, claims: usize) -> Result<(), AllocError>
         ensures facts { self.new.facts ≡ self.old.facts }
+        ensures marks { self.new.marks ≡ self.old.marks }
         ensures room { OnOk result (claims ≤ self.new.room) }
         ensures kept { self.old.room ≤ self.new.room }
         ensures needed { OnErr result (self.old.room < claims) }
@@ -64,6 +70,7 @@ impl ClaimTable {
         self.keys.reserve(claims)?;
         self.receivables.reserve(claims)?;
         self.payables.reserve(claims)?;
+        self.marks.reserve(claims)?;
         self.facts.reserve(claims)
     }
 
@@ -98,12 +105,47 @@ impl ClaimTable {
         self.payables.sum(firm)
     }
 
+    /// Whether the claim of a key has a mark; not where the key was never filed.
+    pub fn is_marked(&self, key: &Key) -> bool
+        ensures { result ≡ mark_at self.now.marks (position (λ c. same_key key.now c.key) self.now.facts) }
+    {
+        match self.place(key) {
+            None => false,
+            Some(place) => self.marks[place],
+        }
+    }
+
+    /// Marks the claims of a cut, and takes off each other mark. It takes no memory.
+    ///
+    /// The claims of the cut are found in one walk over the table, as by `discharge`.
+    pub fn mark(&mut self, cut: &Cut)
+        ensures facts { self.new.facts ≡ self.old.facts }
+        ensures marks { self.new.marks ≡ claims_in cut.now self.old.facts }
+        ensures room { self.new.room ≡ self.old.room }
+    {
+        self.unmark();
+        let mut walk = Walk::new();
+        for claim in cut.claims().iter() {
+            self.mark_claim(&mut walk, &claim.key);
+        }
+    }
+
+    /// Takes off all marks. It takes no memory.
+    pub fn unmark(&mut self)
+        ensures facts { self.new.facts ≡ self.old.facts }
+        ensures marks { self.new.marks ≡ no_marks self.old.facts }
+        ensures room { self.new.room ≡ self.old.room }
+    {
+        self.marks.fill(false);
+    }
+
     /// Changes the claims as an entry says, where it is accepted. There is room for one more, no key is filed twice, and the open
     /// amounts together stay below 2^64 cents. It takes no memory.
     pub fn apply(&mut self, entry: &Entry)
         requires room { 0 < self.old.room }
         requires stand { MayStand (claims_with entry.now self.old.facts) }
         ensures facts { self.new.facts ≡ claims_with entry.now self.old.facts }
+        ensures marks { self.new.marks ≡ claim_marks_with entry.now self.old.marks }
         ensures room { self.old.room ≤ self.new.room + 1 }
     {
         if !accepted(entry) {
@@ -141,6 +183,7 @@ impl ClaimTable {
         requires one_each { length discharges.now ≡ length cut.now.claims }
         requires formed { WellFormed cut.now }
         ensures facts { self.new.facts ≡ map (settled_claim (record { cut = cut.now; discharges = discharges.now })) self.old.facts }
+        ensures marks { self.new.marks ≡ self.old.marks }
         ensures room { self.new.room ≡ self.old.room }
     {
         let mut walk = Walk::new();
@@ -152,11 +195,23 @@ impl ClaimTable {
     // Takes an amount off a claim of a cut.
     fn settle(&mut self, walk: &mut Walk, claim: &CutClaim, amount: u64)
         ensures facts { self.new.facts ≡ map (with_receipt claim.now.key amount) self.old.facts }
+        ensures marks { self.new.marks ≡ self.old.marks }
         ensures room { self.new.room ≡ self.old.room }
     {
         let found = self.next_place(walk, &claim.key);
         let sides = self.receive_at(found, walk.sides_of(claim), &claim.key, amount);
         walk.keep(claim, sides);
+    }
+
+    // Marks the claim of a key, which is looked for on the walk first. The marks were those of a test.
+    fn mark_claim(&mut self, walk: &mut Walk, key: &Key)
+        ensures facts { self.new.facts ≡ self.old.facts }
+        ensures marks { (test : ClaimFact → Bool) → self.old.marks ≡ map test self.old.facts → self.new.marks ≡ map (λ c. same_key key.now c.key || test c) self.old.facts }
+        ensures room { self.new.room ≡ self.old.room }
+    {
+        if let Some(place) = self.next_place(walk, key) {
+            self.marks[place] = true;
+        }
     }
 
     // The place of a claim, which is looked for on the walk first.
@@ -179,11 +234,13 @@ impl ClaimTable {
         requires room { 0 < self.old.room }
         requires stand { MayStand (self.old.facts ++ new_claim key.now debtor.now amount due.now ∷ []) }
         ensures facts { self.new.facts ≡ self.old.facts ++ new_claim key.now debtor.now amount due.now ∷ [] }
+        ensures marks { self.new.marks ≡ self.old.marks ++ false ∷ [] }
         ensures room { self.old.room ≤ self.new.room + 1 }
     {
         self.keys.add(*key);
         self.receivables.begin(&key.creditor);
         self.payables.begin(debtor);
+        let _ = self.marks.push(false);
         let _ = self.facts.push(ClaimFact {
             key: *key,
             debtor: *debtor,
@@ -203,6 +260,7 @@ impl ClaimTable {
 
     fn set_status(&mut self, key: &Key, status: Status)
         ensures facts { self.new.facts ≡ map (with_status key.now status) self.old.facts }
+        ensures marks { self.new.marks ≡ self.old.marks }
         ensures room { self.new.room ≡ self.old.room }
     {
         if let Some(place) = self.keys.place(key) {
@@ -213,6 +271,7 @@ impl ClaimTable {
 
     fn receive(&mut self, key: &Key, amount: u64)
         ensures facts { self.new.facts ≡ map (with_receipt key.now amount) self.old.facts }
+        ensures marks { self.new.marks ≡ self.old.marks }
         ensures room { self.new.room ≡ self.old.room }
     {
         let found = self.place(key);
@@ -223,6 +282,7 @@ impl ClaimTable {
     fn receive_at(&mut self, found: Option<usize>, sides: Sides, key: &Key, amount: u64) -> Sides
         requires { found ≡ position (λ c. same_key key.now c.key) self.old.facts }
         ensures facts { self.new.facts ≡ map (with_receipt key.now amount) self.old.facts }
+        ensures marks { self.new.marks ≡ self.old.marks }
         ensures room { self.new.room ≡ self.old.room }
     {
         let _ = key;
@@ -244,6 +304,7 @@ impl ClaimTable {
         requires debtor { claim.debtor ≡ (get_or self.old.facts place claim).debtor }
         requires left { claim.left ≤ (get_or self.old.facts place claim).left }
         ensures facts { self.new.facts ≡ set self.old.facts place claim }
+        ensures marks { self.new.marks ≡ self.old.marks }
         ensures room { self.new.room ≡ self.old.room }
     {
         let old = self.facts[place];

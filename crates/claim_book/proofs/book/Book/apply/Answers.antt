@@ -18,9 +18,9 @@ apply-requires-2-clause-accounts c =
 pub invariant_of-self : goal.invariant_of-self
 invariant_of-self c =
     let next = subst (λ (b : BookView). MayFollow b.history c.args.entry) (sym c.self.view_is) c.requires.next in
-    rw (c.put_entry.ensures.items, c.apply.ensures.facts, c.apply-2.ensures.facts, c.end_round.ensures)
+    rw (c.put_entry.ensures.items, c.unmark_ended.ensures.claims, c.unmark_ended.ensures.accounts, c.unmark_ended.ensures.claim_marks, c.unmark_ended.ensures.account_marks, c.apply.ensures.facts, c.apply.ensures.marks, c.apply-2.ensures.facts, c.apply-2.ensures.marks, c.end_round.ensures)
     (book_grows _ c.args.entry c.self.invariant c.requires.valid c.requires.apart c.requires.no_opening next)
 
 pub returns-clause-kept : goal.returns-clause-kept
 returns-clause-kept c = keeps_room c.args.self.now.history c.args.entry c.args.self.now.room _ (λ other. c.requires.room)
-    (omega (arith, ap (λ (b : BookView). b.room) c.self.view_is, c.apply.ensures.room, c.apply-2.ensures.room, c.put_entry.ensures.len, c.put_entry.ensures.capacity))
+    (omega (arith, ap (λ (b : BookView). b.room) c.self.view_is, c.apply.ensures.room, c.apply-2.ensures.room, c.unmark_ended.ensures.claim_room, c.unmark_ended.ensures.account_room, c.put_entry.ensures.len, c.put_entry.ensures.capacity))

@@ -53,7 +53,7 @@ pub invariant_of-self-2 : goal.invariant_of-self-2
 invariant_of-self-2 c =
     let next = subst (λ (b : BookView). MayFollow b.history c.args.entry) (sym c.self.view_is) c.requires.next in
     let is = settles _ c.args.entry c.outcome_in.ensures.0 c.outcome_in.result.now c.take_cut-cut.result c.self.invariant c.requires.valid (sym c.accepted.ensures ∙ c.if-not-accepted.false) c.outcome_in.ensures.1 next c.take_cut-cut.ensures.cut in
-    rw (c.put_entry-2.ensures.items, c.discharge.ensures.facts, c.discharge-2.ensures.facts, c.take_cut-cut.ensures.none, c.discharges-discharges.ensures) is.grows
+    rw (c.put_entry-2.ensures.items, c.unmark.ensures.facts, c.unmark.ensures.marks, c.unmark-2.ensures.facts, c.unmark-2.ensures.marks, c.discharge.ensures.facts, c.discharge-2.ensures.facts, c.take_cut-cut.ensures.none, c.discharges-discharges.ensures) is.grows
 
 pub returns-clause-cut : goal.returns-clause-cut
 returns-clause-cut c =

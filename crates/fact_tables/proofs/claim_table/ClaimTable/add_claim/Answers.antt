@@ -1,4 +1,4 @@
-use Rattle.std.specs.Prelude.{if◌then◌else◌, Bool, ◌++◌, ◌∷◌, []}
+use Rattle.std.specs.Prelude.{if◌then◌else◌, Bool, false, ◌++◌, ◌∷◌, []}
 use Rattle.std.proofs.Common.{◌<◌, sym, ◌∙◌, ap, subst, refl, arith}
 use Rattle.setoff_model.specs.Same.{same_key}
 use Rattle.setoff_model.proofs.SameNames.{key_same}
@@ -6,6 +6,7 @@ use Rattle.claim_history.specs.declared.fact.ClaimFact.{ClaimFact}
 use Rattle.fact_tables.specs.Tables.{ClaimsView, new_claim}
 use Rattle.fact_tables.specs.Sums.{MayStand}
 use Rattle.name_index.proofs.Rows.{longer}
+use Rattle.fact_tables.proofs.Marking.{one_longer}
 use Rattle.fact_tables.proofs.Keyed.{is_new}
 use Rattle.fact_tables.proofs.Summed.{sums_filed}
 use Rattle.fact_tables.proofs.claim_table.ClaimTable.add_claim.Goals as goal
@@ -22,10 +23,13 @@ invariant_of-self c =
     let facts = c.self.inside.facts.items in
     let stand = subst (λ (t : ClaimsView). MayStand (t.facts ++ claim ∷ [])) (sym c.self.view_is) c.requires.stand in
     let room = subst (λ (t : ClaimsView). 0 < t.room) (sym c.self.view_is) c.requires.room in
-    let pushed = c.push.ensures.items ∙ ap (λ (b : Bool). if b then facts ++ claim ∷ [] else facts) (c.push.ensures.succeeds (omega (arith, room))) in
-    rw (pushed, c.add.ensures.keys)
+    let pushed = c.push-2.ensures.items ∙ ap (λ (b : Bool). if b then facts ++ claim ∷ [] else facts) (c.push-2.ensures.succeeds (omega (arith, room))) in
+    let marks = c.self.inside.marks.items in
+    let marked = c.push.ensures.items ∙ ap (λ (b : Bool). if b then marks ++ false ∷ [] else marks) (c.push.ensures.succeeds (omega (arith, room))) in
+    rw (pushed, marked, c.add.ensures.keys)
     (record {
       keys_are = longer (λ (r : ClaimFact). r.key) c.self.inside.keys.keys facts c.self.invariant.keys_are claim;
+      one_each = one_longer marks facts false claim c.self.invariant.one_each;
       stand = stand;
       owed_to = sums_filed (λ (r : ClaimFact). r.key.creditor) facts c.self.inside.receivables c.begin.new.self claim c.self.invariant.owed_to refl c.begin.ensures.begun c.begin.ensures.known c.begin.ensures.sums;
       owed_by = sums_filed (λ (r : ClaimFact). r.debtor) facts c.self.inside.payables c.begin-2.new.self claim c.self.invariant.owed_by refl c.begin-2.ensures.begun c.begin-2.ensures.known c.begin-2.ensures.sums;

@@ -8,7 +8,7 @@ use Rattle.fact_tables.proofs.claim_table.ClaimTable.discharge.Goals as goal
 pub loop-i-init : goal.loop-i-init
 loop-i-init c =
     let none : (n : ℕ) → n - 0 ≡ n = λ n. omega arith in
-    record { facts = map_start (claim_after c.args.cut.now c.args.discharges.now 0) c.args.self.now.facts (λ x. ap (λ (n : ℕ). record x { left = n }) (none x.left)); room = refl }
+    record { facts = map_start (claim_after c.args.cut.now c.args.discharges.now 0) c.args.self.now.facts (λ x. ap (λ (n : ℕ). record x { left = n }) (none x.left)); marks = refl; room = refl }
 
 pub loop-i-preserved : goal.loop-i-preserved
 loop-i-preserved c =
@@ -22,6 +22,7 @@ loop-i-preserved c =
           ∙ ap (map (with_receipt x.key (slice_index c.args.discharges.now i))) c.loop-i.invariant.facts
           ∙ map_step (with_receipt x.key (slice_index c.args.discharges.now i)) (claim_after cut c.args.discharges.now i) _ c.args.self.now.facts
           (claim_next cut c.args.discharges.now i x (slice_index c.args.discharges.now i) c.requires.formed.keys lt is refl);
+      marks = c.settle.ensures.marks ∙ c.loop-i.invariant.marks;
       room = c.settle.ensures.room ∙ c.loop-i.invariant.room;
     }
 

@@ -7,5 +7,6 @@ use Rattle.fact_tables.proofs.claim_table.ClaimTable.discharge.Given as goal
 abbrev pub invariant-loop-i : goal.invariant-loop-i
 invariant-loop-i l = record {
   facts : l.self.facts ≡ map (claim_after l.cut l.discharges l.i) l.initial.self.facts;
+  marks : l.self.marks ≡ l.initial.self.marks;
   room : l.self.room ≡ l.initial.self.room;
 }

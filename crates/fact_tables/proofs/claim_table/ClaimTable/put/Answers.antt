@@ -1,6 +1,7 @@
 use Rattle.std.specs.Prelude.{set, if◌then◌else◌, ℕ}
 use Rattle.std.proofs.Common.{◌+◌, ◌-◌, sym, ◌∙◌, ap₂, arith}
 use Rattle.std.proofs.Math.Seq.{map-set_same}
+use Rattle.std.proofs.lemmas.List.{length-set}
 use Rattle.setoff_model.specs.Same.{same_name}
 use Rattle.claim_history.specs.declared.fact.ClaimFact.{ClaimFact}
 use Rattle.fact_tables.specs.Sums.{sum_of}
@@ -66,6 +67,7 @@ invariant_of-self c =
     let keys = map-set_same (λ (r : ClaimFact). r.key) facts place y y put.key in
     record {
       keys_are = c.self.invariant.keys_are ∙ sym keys;
+      one_each = c.self.invariant.one_each ∙ sym (length-set facts place y);
       stand = record {
         once = keys_once facts (set facts place y) (sym keys) c.self.invariant.stand.once;
         small = omega (
