@@ -1,11 +1,11 @@
 -- Raises and squeezing keep the facts.
 use Rattle.std.specs.Prelude.{ℤ, pos, ◌+ℤ◌, ◌-ℤ◌, ◌<ℤ◌, ◌≤ℤ◌, slice_index, Bool}
-use Rattle.std.proofs.Common.{◌≡◌, ℕ, ◌<◌, ◌≤◌, List, length, sym, ◌∙◌, inl, inr, ◌⊎◌, arith}
+use Rattle.std.proofs.Common.{◌≡◌, ℕ, ◌<◌, ◌≤◌, List, length, sym, ◌∙◌, inl, inr, arith}
 use Rattle.std.proofs.lemmas.Int.{ints}
 use Rattle.std.proofs.lemmas.Bool.{cases_lt}
-use Rattle.setoff_model.specs.Setoff.{price_at}
-use Rattle.setoff_model.specs.Squeezing.{IsSqueezed}
-use Rattle.setoff_model.proofs.Squeezed.{gain_above_back, gain_below_back, order_back, step_kept}
+use Rattle.setoff_model.specs.Limits.{most_weight}
+use Rattle.setoff_model.specs.Squeezing.{IsSqueezedTo}
+use Rattle.setoff_model.proofs.Narrowed.{gain_above_back, gain_below_back, gain_even}
 use Rattle.residual_network.specs.Network.{Arcs, arc_gain, IsFlow, ArcSlack, AreArcsAmong}
 use Rattle.residual_network.specs.Labels.{mark, IsBelowRaises, IsRaised}
 use Rattle.residual_network.specs.Laws.{RaiseLaw, SqueezingLaw}
@@ -91,48 +91,18 @@ raise_law = record { slack = raise_slack; inside = gain_inside; out = gain_out; 
 
 -- ---- the gains after squeezing
 
-above_back : (r : ℕ) (p q : List ℤ) (f g : ℕ) → (r ≡ 0) ⊎ (r ≡ 1) → IsSqueezed p q
-    → pos 0 <ℤ ((pos r +ℤ price_at q f) -ℤ price_at q g) → pos 0 <ℤ ((pos r +ℤ price_at p f) -ℤ price_at p g)
-above_back r p q f g (inl e) squeezed h =
-    let lt : price_at q g <ℤ price_at q f = omega (arith, ints, e, h) in
-    let was = order_back p q g f squeezed lt in
-    omega (arith, ints, e, was)
-above_back r p q f g (inr e) squeezed h =
-    let one : pos 0 <ℤ ((pos 1 +ℤ price_at q f) -ℤ price_at q g) = omega (arith, ints, e, h) in
-    let was = gain_above_back p q f g squeezed one in
-    omega (arith, ints, e, was)
-
-below_back : (r : ℕ) (p q : List ℤ) (f g : ℕ) → (r ≡ 0) ⊎ (r ≡ 1) → IsSqueezed p q
-    → ((pos r +ℤ price_at q f) -ℤ price_at q g) <ℤ pos 0 → ((pos r +ℤ price_at p f) -ℤ price_at p g) <ℤ pos 0
-below_back r p q f g (inl e) squeezed h =
-    let lt : price_at q f <ℤ price_at q g = omega (arith, ints, e, h) in
-    let was = order_back p q f g squeezed lt in
-    omega (arith, ints, e, was)
-below_back r p q f g (inr e) squeezed h =
-    let one : ((pos 1 +ℤ price_at q f) -ℤ price_at q g) <ℤ pos 0 = omega (arith, ints, e, h) in
-    let was = gain_below_back p q f g squeezed one in
-    omega (arith, ints, e, was)
-
-pub squeezing_slack : (arcs : Arcs) (x : List ℕ) (p q : List ℤ) (n : ℕ) → AreArcsAmong n arcs → IsSqueezed p q
+pub squeezing_slack : (arcs : Arcs) (x : List ℕ) (p q : List ℤ) (n : ℕ) → AreArcsAmong n arcs → IsSqueezedTo most_weight p q
     → ArcSlack arcs x p → ArcSlack arcs x q
 squeezing_slack arcs x p q n is squeezed facts = record {
-  full = λ a in' h. facts.full a in'
-      (above_back (slice_index arcs.rewards a) p q (slice_index arcs.tails a) (slice_index arcs.heads a) (is.reward a in') squeezed h);
-  empty = λ a in' h. facts.empty a in'
-      (below_back (slice_index arcs.rewards a) p q (slice_index arcs.tails a) (slice_index arcs.heads a) (is.reward a in') squeezed h);
+  full = λ a in' h. facts.full a in' (gain_above_back most_weight p q squeezed (slice_index arcs.rewards a)
+      (slice_index arcs.tails a) (slice_index arcs.heads a) (is.reward a in') h);
+  empty = λ a in' h. facts.empty a in' (gain_below_back most_weight p q squeezed (slice_index arcs.rewards a)
+      (slice_index arcs.tails a) (slice_index arcs.heads a) (is.reward a in') h);
 }
-
--- a gain of 0 stays 0
-even_kept : (r : ℕ) (p q : List ℤ) (f g : ℕ) → (r ≡ 0) ⊎ (r ≡ 1) → IsSqueezed p q
-    → ((pos r +ℤ price_at p f) -ℤ price_at p g) ≡ pos 0 → ((pos r +ℤ price_at q f) -ℤ price_at q g) ≡ pos 0
-even_kept r p q f g (inl e) squeezed h =
-    let s = squeezed.same f g (omega (arith, ints, e, h)) in omega (arith, ints, e, s)
-even_kept r p q f g (inr e) squeezed h =
-    let s = step_kept p q f g squeezed (omega (arith, ints, e, h)) in omega (arith, ints, e, s)
 
 pub squeezing_law : SqueezingLaw
 squeezing_law = record {
   slack = squeezing_slack;
-  even = λ arcs p q n a is squeezed in' h. even_kept (slice_index arcs.rewards a) p q (slice_index arcs.tails a)
-      (slice_index arcs.heads a) (is.reward a in') squeezed h;
+  even = λ arcs p q n a is squeezed in' h. gain_even most_weight p q squeezed (slice_index arcs.rewards a)
+      (slice_index arcs.tails a) (slice_index arcs.heads a) (is.reward a in') h;
 }

@@ -5,9 +5,9 @@ use lib.Signed.{◌<ℤ◌}
 use Rattle.std.proofs.lemmas.Int.{ints}
 use Rattle.setoff_model.specs.Sums.{sum_below}
 use Rattle.setoff_model.specs.Setoff.{Obligations, IsLawful, inflow, outflow, price_at}
-use Rattle.setoff_model.specs.Slackness.{Slack, gain}
+use Rattle.setoff_model.specs.Weighted.{WeightedSlack, weighted_gain}
 use Rattle.setoff_model.proofs.Circulation.{sum_below-same, sum_below-zero, price_past}
-use Rattle.setoff_model.proofs.Complementary.{tight_from_slack}
+use Rattle.setoff_model.proofs.Weighed.{weighted_tight}
 use Rattle.residual_network.specs.Network.{Network, arc_gain, has, owes, IsFlow, ArcSlack, AtRest}
 use Rattle.residual_network.specs.NetworkOf.{IsNetworkOf}
 use Rattle.residual_network.specs.Laws.{RestLaw}
@@ -72,7 +72,7 @@ rest_lawful o net x d is flow rest one same = record {
 
 pub rest_slack : (o : Obligations) (net : Network) (x d : List ℕ) (p : List ℤ) → IsNetworkOf o net → IsFlow net.arcs x
     → AtRest net x → ArcSlack net.arcs x p → length p ≡ length o.spends
-    → ((c : ℕ) → c < length o.amounts → slice_index d c ≡ slice_index x c) → Slack o d p
+    → ((c : ℕ) → c < length o.amounts → slice_index d c ≡ slice_index x c) → WeightedSlack o net.arcs.rewards d p
 rest_slack o net x d p is flow rest facts each same = record {
   full = λ c in' h. same c in' ∙ facts.full c (omega (arith, is.arcs)) (subst (λ (z : ℤ). pos 0 <ℤ z) (sym (claim_gain c in')) h)
       ∙ is.amount c in';
@@ -87,8 +87,8 @@ rest_slack o net x d p is flow rest facts each same = record {
       omega (arith, e, empty);
 }
   where
-    claim_gain : (c : ℕ) → c < length o.amounts → arc_gain net.arcs p c ≡ gain o p c
-    claim_gain c in' = let t = is.tail c in' in let h = is.head c in' in let r = is.counts c in' in rw (t, h, r) refl
+    claim_gain : (c : ℕ) → c < length o.amounts → arc_gain net.arcs p c ≡ weighted_gain o net.arcs.rewards p c
+    claim_gain c in' = let t = is.tail c in' in let h = is.head c in' in rw (t, h) refl
 
     window_gain : (f : ℕ) → f < length o.spends → arc_gain net.arcs p (length o.amounts + f) ≡ price_at p f
     window_gain f in' =
@@ -99,6 +99,6 @@ rest_slack o net x d p is flow rest facts each same = record {
 pub rest_law : RestLaw
 rest_law = record {
   lawful = rest_lawful;
-  tight = λ o net x d p is flow rest facts each one same. tight_from_slack o d p one each
+  tight = λ o net x d p is flow rest facts each one same. weighted_tight o net.arcs.rewards d p one each
       (rest_slack o net x d p is flow rest facts each same);
 }
