@@ -1,25 +1,25 @@
 -- The state at the beginning.
 use Rattle.std.specs.Prelude.{slice_index, if◌then◌else◌, ◌==◌, pos, ◌-ℤ◌}
-use Rattle.std.proofs.Common.{◌≡◌, ℕ, ◌+◌, ◌<◌, List, [], ◌∷◌, ◌++◌, length, sym, ◌∙◌, ap, arith, length-append}
+use Rattle.std.specs.List.{All}
+use Rattle.std.proofs.Common.{◌≡◌, ℕ, ◌+◌, ◌<◌, ◌≤◌, List, [], ◌∷◌, ◌++◌, length, sym, ◌∙◌, ap, arith, length-append}
 use Rattle.std.proofs.lemmas.Int.{ints}
 use Rattle.std.proofs.lemmas.List.{length-map}
+use Rattle.setoff_model.specs.Limits.{most_firms, most_claims}
 use Rattle.setoff_model.specs.declared.cut.Party.{Party}
 use Rattle.setoff_model.specs.Setoff.{Obligations, price_at, flow_at}
 use Rattle.setoff_model.specs.CutView.{spends}
 use Rattle.setoff_model.proofs.Circulation.{sum_below-same, sum_below-none}
-use Rattle.netting_graph.specs.declared.arc.Arc.{Arc}
-use Rattle.netting_graph.specs.NetView.{NetView, IsNet, obligations_of_net, arc_amounts, arc_creditors, arc_debtors}
 use Rattle.residual_network.specs.Network.{Network, IsFlow, ArcSlack, AreArcsAmong, excess_at}
 use Rattle.residual_network.specs.NetworkOf.{IsNetworkOf, empty_flow, full_flow}
 use Rattle.setoff_model.proofs.Sums.{sum_below-split}
 use Rattle.residual_network.proofs.Beginning.{nothing, empty_claim, empty_window, full_claim, full_window, network_law}
 use Rattle.residual_network.specs.declared.edge.Edge.{Edge}
 use Rattle.residual_state.specs.declared.state.State.{State}
-use Rattle.residual_state.specs.Edges.{AreAmong, capacities, network_of, graph}
+use Rattle.residual_state.specs.Edges.{AreAmong, AreWindows, IsClaimEdge, obligations_of_edges, tails, heads, capacities, rewards, network_of, graph}
 use Rattle.residual_state.specs.Starts.{IsDifference}
-use Rattle.residual_state.specs.States.{IsStateOf}
-use Rattle.residual_state.proofs.Networks.{among_parties}
-use Rattle.residual_state.proofs.Starting.{in_range, difference_small}
+use Rattle.residual_state.specs.States.{IsStateOf, weighed_edges}
+use Rattle.residual_state.proofs.Networks.{among_parties, in_range, network_is, counts_kept}
+use Rattle.residual_state.proofs.Starting.{difference_small}
 
 -- ---- excesses of the full flow
 
@@ -67,35 +67,39 @@ among_of edges n m e are =
       reward = λ a lt. are.reward a (omega (arith, caps));
     }
 
-pub started : (net : NetView) (w : State) → IsNet net → IsNetworkOf (obligations_of_net net) (network_of (spends net.parties) w.edges.items) → w.flows.items ≡ full_flow (obligations_of_net net) →
-    length w.excess.items ≡ length net.parties + 1 → IsDifference net.arcs w.excess.items (length net.arcs) → length w.prices.items ≡ length net.parties → ((f : ℕ) → price_at w.prices.items f ≡ pos 0) → IsStateOf (obligations_of_net net) w
-started net w is network flows nodes differ prices zero =
-    let o = obligations_of_net net in
-    let parties : length (spends net.parties) ≡ length net.parties = length-map net.parties (λ (f : Party). f.spend) in
-    let arcs : length (arc_amounts net.arcs) ≡ length net.arcs = length-map net.arcs (λ (a : Arc). a.amount) in
-    let long : length (spends net.parties ++ 0 ∷ []) ≡ length (spends net.parties) + 1 = length-append (spends net.parties) (0 ∷ []) in
-    let flow : IsFlow (graph w.edges.items) (full_flow (obligations_of_net net)) = network_law.full (obligations_of_net net) (network_of (spends net.parties) w.edges.items) network in
-    let facts : ArcSlack (graph w.edges.items) (full_flow (obligations_of_net net)) w.prices.items = network_law.full_slack (obligations_of_net net) (network_of (spends net.parties) w.edges.items) w.prices.items network zero in
+pub started : (parties : List Party) (claims windows : List Edge) (w : State) → length parties ≤ most_firms → length claims ≤ most_claims → All (IsClaimEdge (length parties)) claims →
+    AreWindows parties (length parties) windows → w.edges.items ≡ claims ++ windows → w.flows.items ≡ full_flow (obligations_of_edges parties claims) → length w.excess.items ≡ length parties + 1 →
+    IsDifference claims w.excess.items (length claims) → length w.prices.items ≡ length parties → ((f : ℕ) → price_at w.prices.items f ≡ pos 0) → IsStateOf (weighed_edges parties claims) w
+started parties claims windows w few_parties few_claims are of edges flows nodes differ prices zeros =
+    let long : length (spends parties) ≡ length parties = length-map parties (λ (f : Party). f.spend) in
+    let caps : length (capacities claims) ≡ length claims = length-map claims (λ (e : Edge). e.capacity) in
+    let node_each : length (spends parties ++ 0 ∷ []) ≡ length (spends parties) + 1 = length-append (spends parties) (0 ∷ []) in
+    let whole = network_is parties claims are windows of in
+    let network : IsNetworkOf (obligations_of_edges parties claims) (network_of (spends parties) w.edges.items) = rw edges whole in
+    let flow : IsFlow (graph w.edges.items) (full_flow (obligations_of_edges parties claims)) = network_law.full (obligations_of_edges parties claims) (network_of (spends parties) w.edges.items) network in
+    let facts : ArcSlack (graph w.edges.items) (full_flow (obligations_of_edges parties claims)) w.prices.items = network_law.full_slack (obligations_of_edges parties claims) (network_of (spends parties) w.edges.items) w.prices.items network zeros in
+    let among = among_parties parties claims are in
     record {
       sound = record {
-        among = among_of w.edges.items (length w.excess.items) (length (spends net.parties ++ 0 ∷ [])) (omega (arith, nodes, parties, long)) (network_law.among (obligations_of_net net) (network_of (spends net.parties) w.edges.items) network (among_parties net is));
+        among = among_of w.edges.items (length w.excess.items) (length (spends parties ++ 0 ∷ [])) (omega (arith, nodes, long, node_each)) (network_law.among (obligations_of_edges parties claims) (network_of (spends parties) w.edges.items) network among);
         flow = rw flows flow;
         slack = rw flows facts;
         price_each = omega (arith, nodes, prices);
-        few = omega (arith, prices, is.few_parties);
-        near = λ f lt. let z = zero f in omega (arith, ints, z);
+        few = omega (arith, prices, few_parties);
+        near = λ f lt. let z = zeros f in omega (arith, ints, z);
         small = λ v lt.
-            let d = difference_small (length w.excess.items) (length net.arcs) net.arcs w.excess.items v (in_range net (length w.excess.items) is nodes) (omega arith) is.few_arcs lt differ in
+            let d = difference_small (length w.excess.items) (length claims) claims w.excess.items v (in_range parties claims are (length w.excess.items) nodes) (omega arith) few_claims lt differ in
             omega (arith, d);
       };
       network = network;
-      among = among_parties net is;
-      node_each = omega (arith, nodes, parties);
+      counts = λ c lt. ap (λ (es : List Edge). slice_index (rewards es) c) edges ∙ counts_kept parties claims are windows c lt;
+      among = among;
+      node_each = omega (arith, nodes, long);
       balanced = λ v lt.
-          let e = full_excess (obligations_of_net net) (network_of (spends net.parties) w.edges.items) network v (omega (arith, lt, nodes, parties, long)) in
+          let e = full_excess (obligations_of_edges parties claims) (network_of (spends parties) w.edges.items) network v (omega (arith, lt, nodes, long, node_each)) in
           let d = differ v lt in
-          let c = ap (λ k. flow_at k (arc_creditors net.arcs) (arc_amounts net.arcs) v) arcs in
-          let t = ap (λ k. flow_at k (arc_debtors net.arcs) (arc_amounts net.arcs) v) arcs in
-          let x = ap (λ (ys : List ℕ). excess_at (network_of (spends net.parties) w.edges.items) ys v) flows in
+          let c = ap (λ k. flow_at k (heads claims) (capacities claims) v) caps in
+          let t = ap (λ k. flow_at k (tails claims) (capacities claims) v) caps in
+          let x = ap (λ (ys : List ℕ). excess_at (network_of (spends parties) w.edges.items) ys v) flows in
           omega (arith, ints, e, d, c, t, x);
     }

@@ -5,13 +5,13 @@ use Rattle.std.proofs.lemmas.Bool.{cases_eq, true≢false}
 use Rattle.std.proofs.lemmas.Int.{ints}
 use Rattle.std.proofs.lemmas.List.{length-map}
 use Rattle.setoff_model.specs.Sums.{sum_below, above_zero}
-use Rattle.setoff_model.specs.Setoff.{Obligations, price_at}
+use Rattle.setoff_model.specs.Setoff.{price_at}
 use Rattle.residual_network.specs.Network.{Arcs, arc_gain, brought, IsFlow, IsMoved, excess_at}
 use Rattle.residual_network.proofs.Pushes.{push_law, surplus_law}
 use Rattle.residual_network.specs.declared.edge.Edge.{Edge}
 use Rattle.residual_state.specs.declared.state.State.{State}
 use Rattle.residual_state.specs.Edges.{network_of, graph, capacities}
-use Rattle.residual_state.specs.States.{IsStateOf}
+use Rattle.residual_state.specs.States.{StaysOn}
 use Rattle.residual_network.specs.declared.push.Push.{Push}
 use Rattle.residual_state.specs.declared.carrying.Step.{Step}
 use Rattle.residual_state.proofs.Settling.{both_moved}
@@ -77,14 +77,14 @@ module _ (w v : State) (a d : ℕ) (along : Bool) (step : Step) (few : d < 2 ^ 6
   caps : length (capacities w.edges.items) ≡ length w.edges.items
   caps = length-map w.edges.items (λ (e : Edge). e.capacity)
 
-  kept : (o : Obligations) → IsStateOf o w → IsStateOf o v
-  kept o state =
+  kept : StaysOn w v
+  kept g state =
       let sound = state.sound in
       let in' : a < length (graph w.edges.items).capacities = omega (arith, caps, within) in
       let flow = push_law.flow (graph w.edges.items) w.flows.items a step.flow sound.flow (fits_arc (graph w.edges.items) w.flows.items a d along step sound.flow in' is) in
       let slack = push_law.slack (graph w.edges.items) w.flows.items w.prices.items a step.flow sound.slack even in
       let moved_flow = moves (graph w.edges.items) w.flows.items a d along step sound.flow in' (sound.among.apart a within) is in
-      let there = push_law.excess (network_of o.spends w.edges.items) w.flows.items (set w.flows.items a step.flow) step.from step.to d moved_flow in
+      let there = push_law.excess (network_of g.obligations.spends w.edges.items) w.flows.items (set w.flows.items a step.flow) step.from step.to d moved_flow in
       record {
         sound = record {
           among = rw (each, edges) sound.among;
@@ -96,11 +96,12 @@ module _ (w v : State) (a d : ℕ) (along : Bool) (step : Step) (few : d < 2 ^ 6
           small = λ u lt. small_after w.excess.items v.excess.items step d u few fit moved sound.small (omega (arith, each));
         };
         network = rw edges state.network;
+        counts = rw edges state.counts;
         among = state.among;
         node_each = each ∙ state.node_each;
         balanced = λ u lt.
             let was = state.balanced u (omega (arith, each)) in
-            rw (edges, flows) (both_moved (price_at w.excess.items) (price_at v.excess.items) (excess_at (network_of o.spends w.edges.items) w.flows.items) (excess_at (network_of o.spends w.edges.items) (set w.flows.items a step.flow)) step.from step.to d u moved there was);
+            rw (edges, flows) (both_moved (price_at w.excess.items) (price_at v.excess.items) (excess_at (network_of g.obligations.spends w.edges.items) w.flows.items) (excess_at (network_of g.obligations.spends w.edges.items) (set w.flows.items a step.flow)) step.from step.to d u moved there was);
       }
 
   pub stepped : IsNoWorse w v
@@ -113,11 +114,11 @@ module _ (w v : State) (a d : ℕ) (along : Bool) (step : Step) (few : d < 2 ^ 6
   }
 
 pub none_worse : (w : State) → IsNoWorse w w
-none_worse w = record { state = λ o is. is; surplus = omega arith }
+none_worse w = record { state = λ g is. is; surplus = omega arith }
 
 pub worse_never : (u v w : State) → IsNoWorse u v → IsNoWorse v w → IsNoWorse u w
 worse_never u v w one two = record {
-  state = λ o is. two.state o (one.state o is);
+  state = λ g is. two.state g (one.state g is);
   surplus = let a = one.surplus in let b = two.surplus in omega (arith, a, b);
 }
 

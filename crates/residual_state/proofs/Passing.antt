@@ -5,7 +5,8 @@ use Rattle.std.proofs.lemmas.Bool.{cases_lt}
 use Rattle.std.proofs.lemmas.Int.{ints}
 use Rattle.std.proofs.lemmas.List.{length-map}
 use Rattle.setoff_model.specs.Setoff.{Obligations, price_at}
-use Rattle.setoff_model.specs.Squeezing.{IsSqueezed, IsNear}
+use Rattle.setoff_model.specs.Limits.{most_weight, most_price}
+use Rattle.setoff_model.specs.Squeezing.{IsSqueezedTo, IsNear}
 use Rattle.setoff_model.proofs.Circulation.{price_past}
 use Rattle.residual_network.specs.Network.{arc_gain}
 use Rattle.residual_network.specs.Labels.{mark, NoCandidate, IsRaised, IsBelowRaises}
@@ -18,7 +19,7 @@ use Rattle.residual_state.specs.declared.state.State.{State}
 use Rattle.residual_state.specs.Crossings.{IsNext}
 use Rattle.residual_state.specs.Edges.{AreAmong, tails, heads, capacities, network_of, graph}
 use Rattle.residual_state.specs.Labels.{columns, nodes, arcs, backs, AreSearched, IsUnmet}
-use Rattle.residual_state.specs.States.{IsSound, IsStateOf, IsSearchOf, IsRepriced}
+use Rattle.residual_state.specs.States.{IsSound, Weighed, IsStateOf, IsSearchOf, IsRepriced}
 use Rattle.residual_state.proofs.Working.{gain_low, gain_high, even_kept, even_out}
 
 -- the same facts, where their lists are named otherwise
@@ -28,21 +29,19 @@ next_of es es' xs xs' ps ps' ls ls' next ee ex ep el is = rw (← ee, ← ex, �
 pub none_of : (es es' : List Edge) (xs xs' : List ℕ) (ls ls' : List Bool) → es ≡ es' → xs ≡ xs' → ls ≡ ls' → ((a : ℕ) → a < length es → LeadsOut (graph es) xs ls a → ⊥) → (a : ℕ) → a < length es' → LeadsOut (graph es') xs' ls' a → ⊥
 none_of es es' xs xs' ls ls' ee ex el is = rw (← ee, ← ex, ← el) is
 
-price_small : (p : List ℤ) (f : ℕ) → IsNear 16384 p → unsigned_abs (price_at p f) ≤ 16384
+price_small : (p : List ℤ) (f : ℕ) → IsNear most_price p → unsigned_abs (price_at p f) ≤ most_price
 price_small p f near =
-    elim (cases_lt f (length p)) as (λ _. unsigned_abs (price_at p f) ≤ 16384) [
+    elim (cases_lt f (length p)) as (λ _. unsigned_abs (price_at p f) ≤ most_price) [
       | inl lt ↦ near f lt
       | inr past ↦ let z = price_past p f past in omega (arith, ints, z)
     ]
 
-gain_small : (edges : List Edge) (p : List ℤ) (n a : ℕ) → AreAmong n edges → IsNear 16384 p → a < length edges → unsigned_abs (arc_gain (graph edges) p a) ≤ 32769
+gain_small : (edges : List Edge) (p : List ℤ) (n a : ℕ) → AreAmong n edges → IsNear most_price p → a < length edges → unsigned_abs (arc_gain (graph edges) p a) ≤ 294921
 gain_small edges p n a among near lt =
     let t = price_small p (slice_index (tails edges) a) near in
     let h = price_small p (slice_index (heads edges) a) near in
-    elim (among.reward a lt) as (λ _. unsigned_abs (arc_gain (graph edges) p a) ≤ 32769) [
-      | inl r ↦ omega (arith, ints, t, h, r)
-      | inr r ↦ omega (arith, ints, t, h, r)
-    ]
+    let r = among.reward a lt in
+    omega (arith, ints, t, h, r)
 
 module _ (w : State) (labelled : List Bool) (next : Next) (sound : IsSound w) (is : IsNext (graph w.edges.items) w.flows.items w.prices.items labelled (length w.edges.items) next) where
   pub raise_small : next.raise ≤ 2 ^ 32
@@ -66,7 +65,7 @@ module _ (w : State) (labelled : List Bool) (next : Next) (sound : IsSound w) (i
   }
 
 -- a search stays one at raised and squeezed prices
-module _ (w v : State) (labels : Labels) (q : List ℤ) (d : ℕ) (sound : IsSound w) (is : IsSearchOf w labels) (raised : IsRaised w.prices.items q labels.labelled.items d) (squeezed : IsSqueezed q v.prices.items) (kept : IsRepriced w v) where
+module _ (w v : State) (labels : Labels) (q : List ℤ) (d : ℕ) (sound : IsSound w) (is : IsSearchOf w labels) (raised : IsRaised w.prices.items q labels.labelled.items d) (squeezed : IsSqueezedTo most_weight q v.prices.items) (kept : IsRepriced w v) where
   link_even : (k : ℕ) → k < length labels.found.items → IsLink (graph w.edges.items) w.flows.items (columns labels.found.items) k → arc_gain (graph w.edges.items) w.prices.items (slice_index (arcs labels.found.items) k) ≡ pos 0 → arc_gain (graph w.edges.items) v.prices.items (slice_index (arcs labels.found.items) k) ≡ pos 0
   link_even k lt link even =
       let a = slice_index (arcs labels.found.items) k in
@@ -98,8 +97,9 @@ module _ (w v : State) (labels : Labels) (q : List ℤ) (d : ℕ) (sound : IsSou
       rw kept.edges (even_out w q v.prices.items labels.labelled.items d sound is.agree.mark_each raised squeezed next.arc step.within step.leads (e ∙ step.asked))
 
 -- some arc leads out of the labelled nodes
-pub leads_somewhere : (o : Obligations) (w : State) (labels : Labels) → IsStateOf o w → IsSearchOf w labels → IsUnmet w.excess.items labels → 0 < length labels.found.items → ((a : ℕ) → a < length w.edges.items → LeadsOut (graph w.edges.items) w.flows.items labels.labelled.items a → ⊥) → ⊥
-leads_somewhere o w labels state is unmet some none =
+pub leads_somewhere : (g : Weighed) (w : State) (labels : Labels) → IsStateOf g w → IsSearchOf w labels → IsUnmet w.excess.items labels → 0 < length labels.found.items → ((a : ℕ) → a < length w.edges.items → LeadsOut (graph w.edges.items) w.flows.items labels.labelled.items a → ⊥) → ⊥
+leads_somewhere g w labels state is unmet some none =
+    let o : Obligations = g.obligations in
     let first = slice_index (nodes labels.found.items) 0 in
     let own : slice_index (backs labels.found.items) 0 ≡ 0 = elim (is.forest.each 0 some) as (λ _. slice_index (backs labels.found.items) 0 ≡ 0) [ inl e ↦ e | inr l ↦ absurd (omega (arith, l.earlier)) ] in
     let room = is.roots.some 0 some in

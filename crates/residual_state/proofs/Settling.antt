@@ -4,7 +4,7 @@ use Rattle.std.proofs.Common.{◌≡◌, ◌≢◌, ℕ, ◌<◌, ◌≤◌, ◌
 use Rattle.std.proofs.lemmas.Bool.{cases_eq}
 use Rattle.std.proofs.lemmas.Int.{ints}
 use Rattle.setoff_model.specs.Sums.{sum_below, above_zero}
-use Rattle.setoff_model.specs.Setoff.{Obligations, price_at}
+use Rattle.setoff_model.specs.Setoff.{price_at}
 use Rattle.residual_network.specs.Network.{arc_gain, IsFlow, ArcSlack, IsMoved, excess_at}
 use Rattle.residual_network.proofs.Pushes.{push_law, surplus_law}
 use Rattle.residual_network.specs.declared.edge.Edge.{Edge}
@@ -13,7 +13,7 @@ use Rattle.residual_state.specs.declared.state.State.{State}
 use Rattle.residual_state.specs.Edges.{AreAmong, network_of, graph}
 use Rattle.residual_state.specs.Labels.{nodes, backs, rooms, AreEven, HasRoots}
 use Rattle.residual_state.specs.Pushes.{IsPushed}
-use Rattle.residual_state.specs.States.{IsSound, IsStateOf, surplus}
+use Rattle.residual_state.specs.States.{IsSound, StaysOn, surplus}
 use Rattle.residual_state.proofs.Pushing.{move_of_shift}
 
 -- flow that changed only on arcs with gain 0 keeps the facts
@@ -82,16 +82,17 @@ module _ (w v : State) (found : List Label) (place amount k : ℕ) (sound : IsSo
     small = λ u lt. moved_small w.excess.items v.excess.items _ _ amount u moved held wanted sound.small (omega (arith, each));
   }
 
-  pub settled : (o : Obligations) → IsStateOf o w → IsStateOf o v
-  settled o state =
-      let flows = push_law.excess (network_of o.spends w.edges.items) w.flows.items v.flows.items _ _ amount (move_of_shift _ _ _ _ amount apart pushed.shifted) in
+  pub settled : StaysOn w v
+  settled g state =
+      let flows = push_law.excess (network_of g.obligations.spends w.edges.items) w.flows.items v.flows.items _ _ amount (move_of_shift _ _ _ _ amount apart pushed.shifted) in
       record {
         sound = sound_settled;
         network = rw edges state.network;
+        counts = rw edges state.counts;
         among = state.among;
         node_each = each ∙ state.node_each;
-        balanced = λ u lt. subst (λ (es : List Edge). price_at v.excess.items u ≡ excess_at (network_of o.spends es) v.flows.items u) (sym edges)
-            (both_moved (price_at w.excess.items) (price_at v.excess.items) (excess_at (network_of o.spends w.edges.items) w.flows.items) (excess_at (network_of o.spends w.edges.items) v.flows.items) _ _ amount u moved flows (state.balanced u (omega (arith, each))));
+        balanced = λ u lt. subst (λ (es : List Edge). price_at v.excess.items u ≡ excess_at (network_of g.obligations.spends es) v.flows.items u) (sym edges)
+            (both_moved (price_at w.excess.items) (price_at v.excess.items) (excess_at (network_of g.obligations.spends w.edges.items) w.flows.items) (excess_at (network_of g.obligations.spends w.edges.items) v.flows.items) _ _ amount u moved flows (state.balanced u (omega (arith, each))));
       }
 
 -- the surplus falls

@@ -5,7 +5,8 @@ use Rattle.std.proofs.lemmas.Bool.{cases_eq}
 use Rattle.std.proofs.lemmas.Int.{ints}
 use Rattle.std.proofs.lemmas.List.{length-map, get_or-set_other}
 use Rattle.setoff_model.specs.Setoff.{price_at}
-use Rattle.setoff_model.specs.Squeezing.{IsSqueezed}
+use Rattle.setoff_model.specs.Limits.{most_weight}
+use Rattle.setoff_model.specs.Squeezing.{IsSqueezedTo}
 use Rattle.residual_network.specs.Network.{arc_gain, ArcSlack, AreArcsAmong}
 use Rattle.residual_network.specs.Labels.{mark, one_if, IsRaised, IsBelowRaises}
 use Rattle.residual_network.specs.Steps.{LeadsOut}
@@ -18,7 +19,7 @@ use Rattle.residual_state.specs.declared.state.State.{State}
 use Rattle.residual_state.specs.Crossings.{IsCrossing}
 use Rattle.residual_state.specs.Edges.{AreAmong, tails, heads, capacities, graph}
 use Rattle.residual_state.specs.Labels.{nodes, IsLabelled, IsUnmet, IsWanting, unlabelled}
-use Rattle.residual_state.specs.States.{IsSound, IsSearchOf, IsGrown}
+use Rattle.residual_state.specs.States.{IsSound, StaysOn, IsSearchOf, IsRepriced, IsGrown}
 use Rattle.residual_state.proofs.Pushed.{pushed_last}
 use Rattle.residual_state.proofs.Growing.{grown, grown_fewer}
 
@@ -81,7 +82,7 @@ arcs_among edges n among =
       reward = λ a lt. among.reward a (omega (arith, caps));
     }
 
-module _ (w : State) (q r : List ℤ) (labelled : List Bool) (d : ℕ) (sound : IsSound w) (each : length labelled ≡ length w.excess.items) (raised : IsRaised w.prices.items q labelled d) (squeezed : IsSqueezed q r) where
+module _ (w : State) (q r : List ℤ) (labelled : List Bool) (d : ℕ) (sound : IsSound w) (each : length labelled ≡ length w.excess.items) (raised : IsRaised w.prices.items q labelled d) (squeezed : IsSqueezedTo most_weight q r) where
   marked : AreArcsAmong (length labelled) (graph w.edges.items)
   marked = rw each (arcs_among w.edges.items (length w.excess.items) sound.among)
 
@@ -117,3 +118,14 @@ module _ (w : State) (q r : List ℤ) (labelled : List Bool) (d : ℕ) (sound : 
 
       not_empty : (a : ℕ) → a < length (capacities w.edges.items) → 0 < slice_index w.flows.items a → pos 0 ≤ℤ arc_gain (graph w.edges.items) w.prices.items a
       not_empty a in' lt = gain_high (arc_gain (graph w.edges.items) w.prices.items a) (λ h. let e = sound.slack.empty a in' h in omega (arith, e, lt))
+
+-- where nothing but prices is changed, and the state is sound, it stays on its networks
+pub stays_repriced : (w v : State) → IsRepriced w v → IsSound v → StaysOn w v
+stays_repriced w v repriced sound g state = record {
+  sound = sound;
+  network = rw repriced.edges state.network;
+  counts = rw repriced.edges state.counts;
+  among = state.among;
+  node_each = rw repriced.excess state.node_each;
+  balanced = rw (repriced.edges, repriced.flows, repriced.excess) state.balanced;
+}

@@ -1,20 +1,11 @@
 use Rattle.std.proofs.Common.{◌∙◌, arith}
+use Rattle.residual_state.proofs.Working.{stays_repriced}
 use Rattle.residual_state.proofs.augmenting.search.Goals as goal
 
 pub raise_and_label-requires-clause-state : goal.raise_and_label-requires-clause-state
 raise_and_label-requires-clause-state c =
-    let sound = c.loop-place.invariant.sound in
-    let repriced = c.loop-place.invariant.repriced in
-    let state = c.requires.state.1 in (
-      c.requires.state.0,
-      record {
-        sound = sound;
-        network = rw repriced.edges state.network;
-        among = state.among;
-        node_each = rw repriced.excess state.node_each;
-        balanced = rw (repriced.edges, repriced.flows, repriced.excess) state.balanced;
-      },
-    )
+    let is = c.requires.state in
+    (is.0, stays_repriced _ _ c.loop-place.invariant.repriced c.loop-place.invariant.sound is.0 is.1)
 
 pub returns-in-Some-clause-wanting : goal.returns-in-Some-clause-wanting
 returns-in-Some-clause-wanting c = rw c.in-Some.is at c.in_ok-place.ensures.met
