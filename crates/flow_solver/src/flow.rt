@@ -1,12 +1,12 @@
 //! What a solver finds of a net.
 ghost use Rattle.std.specs.Prelude.{◌≡◌, ◌<◌, ℕ, length, pos, ◌≤ℤ◌};
-ghost use Rattle.netting_graph.specs.NetView.{obligations_of_net};
 ghost use Rattle.residual_state.specs.Excesses.{excess_of};
 ghost use Rattle.residual_state.specs.States.{IsStateOf};
 ghost use Rattle.flow_solver.specs.Solution.{IsSolution};
+ghost use Rattle.flow_solver.specs.Starts.{unweighed};
 
 use netting_graph::Net;
-use residual_state::State;
+use residual_state::{State, found_at_rest};
 use std::marker::Model;
 
 /// What a solver found: one flow for each arc of a net, in cents, and one price for each party.
@@ -61,11 +61,10 @@ impl Flow {
 ///
 /// It is how a solver ends that takes steps until no node has an excess above 0. It takes no memory.
 pub fn flow_at_rest(net: &Net, state: State) -> Flow
-    requires state { IsStateOf (obligations_of_net net.now) state }
+    requires state { IsStateOf (unweighed net.now) state }
     requires rest { (v : ℕ) → v < length state.excess.items → excess_of state.excess.items v ≤ℤ pos 0 }
     ensures { IsSolution net.now result }
 {
-    let mut state = state;
-    state.flows.truncate(net.arcs().len());
-    Flow::new(state.flows, state.prices)
+    let (flows, prices) = found_at_rest(state, net.arcs().len());
+    Flow::new(flows, prices)
 }

@@ -1,13 +1,14 @@
 //! The plain solver.
 ghost use Rattle.std.specs.Prelude.{◌<◌, ℕ, IfOk, length, pos, ◌≤ℤ◌};
-ghost use Rattle.netting_graph.specs.NetView.{obligations_of_net};
 ghost use Rattle.residual_state.specs.Excesses.{excess_of};
 ghost use Rattle.residual_state.specs.States.{IsStateOf};
+ghost use Rattle.flow_solver.specs.Starts.{unweighed};
 
 use crate::flow::{Flow, flow_at_rest};
 use crate::solver::Solver;
+use crate::start::state_of_net;
 use netting_graph::Net;
-use residual_state::{State, augment, state_at_start};
+use residual_state::{State, augment};
 use std::alloc::{AllocError, Global};
 
 /// Moves excess along labelled paths, and raises prices where no label passes.
@@ -40,10 +41,10 @@ impl Solver for PlainSolver {
 
 // The state when no node has an excess above 0.
 fn solved(alloc: Global, net: &Net) -> Result<State, AllocError>
-    ensures state { IfOk result (IsStateOf (obligations_of_net net.now)) }
+    ensures state { IfOk result (IsStateOf (unweighed net.now)) }
     ensures rest { IfOk result (λ state. (v : ℕ) → v < length state.excess.items → excess_of state.excess.items v ≤ℤ pos 0) }
 {
-    let mut state = state_at_start(alloc, net)?;
+    let mut state = state_of_net(alloc, net)?;
     loop {
         if !augment(alloc, &mut state)? {
             return Ok(state);
