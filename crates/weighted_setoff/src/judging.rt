@@ -1,0 +1,62 @@
+//! The sums of a weighted set-off.
+ghost use Rattle.std.specs.Prelude.{◌≡◌, ◌+◌, ◌*◌, ◌<◌, ◌≤◌, ◌^◌, ℕ, List, pos, ◌+ℤ◌, ◌-ℤ◌, length, slice_index, unsigned_abs, All};
+ghost use Rattle.setoff_model.specs.Limits.{most_claims, most_amount, most_weight, most_price};
+ghost use Rattle.setoff_model.specs.Sums.{above_zero};
+ghost use Rattle.setoff_model.specs.Setoff.{price_at};
+ghost use Rattle.setoff_model.specs.CutView.{obligations_of};
+ghost use Rattle.setoff_model.specs.declared.cut.Party.{Party};
+ghost use Rattle.setoff_model.specs.Weighted.{weighted_total_of, weighted_claims_bound};
+
+use setoff_model::CutClaim;
+
+// The sum of weight * discharge.
+pub(crate) fn total_of(weights: &[u32], discharges: &[u64]) -> u64
+    requires one_each { length weights.now ≡ length discharges.now }
+    requires few { length discharges.now ≤ most_claims }
+    requires weights { (c : ℕ) → c < length discharges.now → slice_index weights.now c ≤ most_weight }
+    requires discharges { (c : ℕ) → c < length discharges.now → slice_index discharges.now c ≤ most_amount }
+    ensures { result ≡ weighted_total_of weights.now discharges.now }
+{
+    let mut total: u64 = 0;
+    for place in 0..discharges.len() {
+        total += weights[place] as u64 * discharges[place];
+    }
+    total
+}
+
+// The part of the bound that the claims add.
+pub(crate) fn bound_of_claims(claims: &[CutClaim], weights: &[u32], prices: &[i64]) -> u128
+    requires one_each { length weights.now ≡ length claims.now }
+    requires few { length claims.now ≤ most_claims }
+    requires amounts { All (λ c. c.amount ≤ most_amount) claims.now }
+    requires creditors { All (λ c. c.creditor < length prices.now) claims.now }
+    requires debtors { All (λ c. c.debtor < length prices.now) claims.now }
+    requires weights { (c : ℕ) → c < length claims.now → slice_index weights.now c ≤ most_weight }
+    requires prices { (f : ℕ) → f < length prices.now → unsigned_abs (price_at prices.now f) ≤ most_price }
+    ensures value { (parties : List Party) →
+        result ≡ weighted_claims_bound (length claims.now) (obligations_of parties claims.now) weights.now prices.now }
+    ensures limit { result < 2 ^ 77 }
+{
+    let mut bound = 0;
+    for (place, claim) in claims.iter().enumerate() {
+        let factor = factor_of(
+            weights[place],
+            prices[claim.debtor as usize],
+            prices[claim.creditor as usize],
+        );
+        bound += claim.amount as u128 * factor as u128;
+    }
+    bound
+}
+
+// weight + the debtor's price - the creditor's, or 0 where that is negative.
+fn factor_of(weight: u32, debtor: i64, creditor: i64) -> u64
+    requires weight { weight ≤ most_weight }
+    requires debtor { unsigned_abs debtor ≤ most_price }
+    requires creditor { unsigned_abs creditor ≤ most_price }
+    ensures value { result ≡ above_zero ((pos weight +ℤ debtor) -ℤ creditor) }
+    ensures limit { result ≤ 294921 }
+{
+    let factor = weight as i64 + debtor - creditor;
+    if factor > 0 { factor as u64 } else { 0 }
+}
