@@ -4,6 +4,7 @@ ghost use Rattle.setoff_model.specs.CutView.{obligations};
 ghost use Rattle.chain_explain.specs.Chains.{chain_view};
 ghost use Rattle.chain_explain.specs.Explained.{IsStart, IsDone, HasGiven};
 
+use crate::advice::Advice;
 use crate::chain::Chain;
 use crate::giving::{begin, give};
 use crate::left::Left;
@@ -25,6 +26,7 @@ pub struct Explainer {
     left: Left,
     listed: Listed,
     walk: Walk,
+    advice: Advice,
 }
 
 // Contracts see the cut, the three lists of numbers and the claims of the last chain.
@@ -57,6 +59,7 @@ impl Explainer {
         let listed = claims_listed(alloc, &cut)?;
         let path = vec![in alloc; 0u32; parties]?;
         let marks = vec![in alloc; 0usize; parties]?;
+        let advice = Advice::new(alloc, &cut)?;
         Ok(Explainer {
             cut,
             left,
@@ -69,6 +72,7 @@ impl Explainer {
                 walked: 0,
                 end: 0,
             },
+            advice,
         })
     }
 
@@ -82,7 +86,13 @@ impl Explainer {
         ensures none { IsNone result ↔ IsDone (obligations self.old.cut) self.old }
     {
         if begin(&self.cut, &mut self.left, &mut self.walk) {
-            Some(give(&self.cut, &mut self.left, &mut self.listed, &mut self.walk))
+            Some(give(
+                &self.cut,
+                &mut self.left,
+                &mut self.listed,
+                &mut self.walk,
+                &mut self.advice,
+            ))
         } else {
             None
         }

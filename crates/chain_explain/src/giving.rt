@@ -5,6 +5,7 @@ ghost use Rattle.chain_explain.specs.Chains.{IsChainOf, chain_view};
 ghost use Rattle.chain_explain.specs.Walks.{IsLeft, IsListed, IsWalk, IsOrigin, IsBackAt, IsThrough, IsBetween};
 ghost use Rattle.chain_explain.specs.Walks.{IsTaken, HasWay, last_chain};
 
+use crate::advice::Advice;
 use crate::chain::Chain;
 use crate::left::{Left, origin};
 use crate::listed::Listed;
@@ -44,7 +45,13 @@ pub(crate) fn begin(cut: &Cut, left: &mut Left, walk: &mut Walk) -> bool
 }
 
 // Walks on to the end of a chain, and takes it off what is left.
-pub(crate) fn give(cut: &Cut, left: &mut Left, listed: &mut Listed, walk: &mut Walk) -> Chain
+pub(crate) fn give(
+    cut: &Cut,
+    left: &mut Left,
+    listed: &mut Listed,
+    walk: &mut Walk,
+    advice: &mut Advice,
+) -> Chain
     requires cut { WellFormed cut.now }
     requires left { IsLeft (obligations cut.now) left.old }
     requires listed { IsListed (obligations cut.now) left.old.rests.items listed.old }
@@ -56,7 +63,8 @@ pub(crate) fn give(cut: &Cut, left: &mut Left, listed: &mut Listed, walk: &mut W
     ensures chain { IsChainOf (obligations cut.now) (chain_view result (last_chain walk.new)) }
     ensures taken { IsTaken (obligations cut.now) left.old (chain_view result (last_chain walk.new)) left.new }
 {
-    match walk_on(cut, left, listed, walk) {
+    advice.seek(&left.rests, &left.ends, walk.at);
+    match walk_on(cut, left, listed, walk, advice) {
         Some(place) => give_closed(cut, left, walk, place),
         None => give_open(cut, left, walk),
     }
