@@ -32,7 +32,8 @@ impl<'a, R> Model for FileDisk<'a, R> {
 
 impl<'a, R: Files<File = File>> FileDisk<'a, R> {
     /// The file of this path. It is opened at the first call. Where it is missing it has no bytes, and the first write
-    /// makes it; that another has made it by then is a fault.
+    /// makes it; that another has made it by then is a fault. What has this path and is no regular file, as a folder or a
+    /// pipe, is never opened: each call is a fault.
     pub fn new(rt: &'a R, path: String) -> FileDisk<'a, R>
         ensures { result ≡ 0 }
     {
@@ -82,7 +83,7 @@ impl<R: Files<File = File>> Disk for FileDisk<'_, R> {
     }
 
     /// Brings the bytes of the file and its length to the medium, and, once, its name in the folder. An error of the
-    /// system is a fault.
+    /// system is a fault, but for one that says of the folder that it knows no such sync.
     fn sync(&mut self) -> Result<(), DiskFailed> {
         let answer = self.file.sync();
         self.counted(answer)

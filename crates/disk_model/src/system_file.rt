@@ -3,7 +3,7 @@ ghost use Rattle.std.specs.Prelude.{◌+◌, ◌^◌, ◌<◌, length};
 ghost use Rattle.std.specs.Io.{ReadsAtMost, WritesAtMost};
 
 use fault_count::MOST_CALLS;
-use std::fs::{File, OpenOptions};
+use std::fs::{self, File, OpenOptions};
 use std::io::{self, ErrorKind};
 use std::os::unix::fs::FileExt;
 use std::path::Path;
@@ -144,9 +144,23 @@ impl Held {
 
 // Opens a file that is there, for reading or for writing, too, and locks it. A lock that another holds is an error.
 fn opened<R: Files<File = File>>(rt: &R, path: &str, writes: bool) -> io::Result<Held> {
+    if !is_there(rt, path)? {
+        return Ok(Held::Missing);
+    }
     match options(writes).open(rt, path) {
         Ok(file) => locked(file, writes),
         Err(error) if error.kind() == ErrorKind::NotFound => Ok(Held::Missing),
+        Err(error) => Err(error),
+    }
+}
+
+// Whether a file has this path. What is there and is no regular file is an error, before it is opened: the system would wait at a
+// pipe for one that writes.
+fn is_there<R: Files>(rt: &R, path: &str) -> io::Result<bool> {
+    match fs::metadata(rt, path) {
+        Ok(found) if found.is_file() => Ok(true),
+        Ok(_) => Err(ErrorKind::InvalidInput.into()),
+        Err(error) if error.kind() == ErrorKind::NotFound => Ok(false),
         Err(error) => Err(error),
     }
 }
@@ -206,9 +220,18 @@ fn write_whole(file: &File, at: u64, piece: &[u8]) -> io::Result<()>
     Ok(())
 }
 
-// Brings the name of a file in its folder to the medium.
+// Brings the name of a file in its folder to the medium. A system that knows no sync of a folder says so by one of two errors, and
+// then there is nothing to do.
 fn sync_folder<R: Files<File = File>>(rt: &R, path: &str) -> io::Result<()> {
-    File::open(rt, folder_of(path))?.sync_all()
+    match File::open(rt, folder_of(path))?.sync_all() {
+        Err(error) if is_unknown(error.kind()) => Ok(()),
+        answer => answer,
+    }
+}
+
+// Whether a sync that failed so is one that the system does not know.
+fn is_unknown(kind: ErrorKind) -> bool {
+    matches!(kind, ErrorKind::InvalidInput | ErrorKind::Unsupported)
 }
 
 // The folder that holds a file.
