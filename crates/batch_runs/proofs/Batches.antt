@@ -1,7 +1,7 @@
 -- Batches that are served in turn.
 use Rattle.std.specs.Prelude.{Option, Some, None, MatchOption, drop, take}
 use Rattle.std.specs.List.{list_any}
-use Rattle.std.proofs.Common.{◌≡◌, ◌∙◌, inl, inr, ℕ, Bool, true, false, ◌||◌, List, [], ◌∷◌, ◌++◌, length, map, refl, sym, ap, ap₂, subst, append_assoc, arith, suc}
+use Rattle.std.proofs.Common.{◌-◌, zero, ◌≡◌, ◌∙◌, inl, inr, ℕ, Bool, true, false, ◌||◌, List, [], ◌∷◌, ◌++◌, length, map, refl, sym, ap, ap₂, subst, append_assoc, arith, suc, length-append}
 use Rattle.std.proofs.lemmas.List.{append-nil, map-append}
 use Rattle.std.proofs.lemmas.List.Folds.{list_any-append}
 use Rattle.std.proofs.lemmas.List.Concat.{flat_map-append}
@@ -13,34 +13,34 @@ use Rattle.disk_model.specs.Calls.{Seen}
 use Rattle.claim_history.specs.declared.entry.Entry.{Entry}
 use Rattle.claim_history.specs.Needs.{is_of_device}
 use Rattle.request_text.specs.declared.request.Request.{Request}
-use Rattle.bureau_desk.specs.Desks.{DeskBase, DeskView, base_of}
+use Rattle.bureau_desk.specs.declared.base.DeskBase.{DeskBase}
+use Rattle.bureau_desk.specs.Desks.{DeskView, base_cleared, base_of}
 use Rattle.served_lines.specs.declared.answer.Answer.{Answer}
 use Rattle.served_lines.specs.declared.line_end.LineEnd.{LineEnd}
 use Rattle.served_lines.specs.Ends.{is_memory_end, is_full_end, has_line_end}
 use Rattle.served_lines.specs.Served.{IsServed}
-use Rattle.lane_runner.specs.Batches.{HasRunBatch, base_cleared}
+use Rattle.lane_runner.specs.Batches.{HasRunBatch}
 use Rattle.printed_text.specs.Printing.{printed_of, unanswered}
 use Rattle.printed_text.specs.Writing.{IsWritten, broken, whole}
 use Rattle.batch_runs.specs.declared.tally.Tally.{Tally}
-use Rattle.batch_runs.specs.Runs.{Done, AreServed, all_added, end_status, run_status, some_device, some_end, text_of}
+use Rattle.batch_runs.specs.Runs.{Done, AreServed, all_added, but_last, end_status, run_status, some_device, some_end, text_of}
 use Rattle.batch_runs.specs.Serving.{HasRunBatches, HasSameOpening, IsTally, answers_of}
 use Rattle.batch_runs.proofs.Unasked.{unanswered_served}
 
 -- ---- the opening
 
-pub same_opening : {D : Type 0} (seen : D → Seen) (d : DeskView D) → HasSameOpening seen d d
-same_opening seen d = record { moment = refl; faults = refl; opened_with = refl; tells = refl }
+pub same_opening : {D : Type 0} (d : DeskView D) → HasSameOpening d d
+same_opening d = record { at_first_sync = refl; at_opening_end = refl; opened_with = refl }
 
-opening_then : {D : Type 0} (seen : D → Seen) (a b c : DeskView D) → HasSameOpening seen a b → HasSameOpening seen b c → HasSameOpening seen a c
-opening_then seen a b c p q = record { moment = q.moment ∙ p.moment; faults = q.faults ∙ p.faults; opened_with = q.opened_with ∙ p.opened_with; tells = q.tells ∙ p.tells }
+opening_then : {D : Type 0} (a b c : DeskView D) → HasSameOpening a b → HasSameOpening b c → HasSameOpening a c
+opening_then a b c p q = record { at_first_sync = q.at_first_sync ∙ p.at_first_sync; at_opening_end = q.at_opening_end ∙ p.at_opening_end; opened_with = q.opened_with ∙ p.opened_with }
 
--- a batch leaves the numbers of the opening
-opening_of : {D : Type 0} (seen : D → Seen) (old new : DeskView D) → base_of seen new ≡ base_cleared seen old → HasSameOpening seen old new
-opening_of seen old new is = record {
-  moment = ap (λ (b : DeskBase). b.moment_of_first_sync) is;
-  faults = ap (λ (b : DeskBase). b.faults_at_opening_end) is;
-  opened_with = ap (λ (b : DeskBase). b.opened_with) is;
-  tells = ap (λ (b : DeskBase). b.tells) is;
+-- a batch leaves the opening
+opening_of : {D : Type 0} (old new : DeskView D) → base_of new ≡ base_cleared old → HasSameOpening old new
+opening_of {D} old new is = record {
+  at_first_sync = ap (λ (b : DeskBase D). b.at_first_sync) is;
+  at_opening_end = ap (λ (b : DeskBase D). b.at_opening_end) is;
+  opened_with = ap (λ (b : DeskBase D). b.opened_with) is;
 }
 
 -- ---- one batch
@@ -92,6 +92,20 @@ text_more before (x ∷ bs) b =
     ∙ sym (append_assoc here (text_of (before ++ x.added) bs) (printed_of ((before ++ x.added) ++ all_added bs) b.added b.answers))
     ∙ ap (λ (h : List Entry). (here ++ text_of (before ++ x.added) bs) ++ printed_of h b.added b.answers) (append_assoc before x.added (all_added bs))
 
+-- the text of the first of some batches, and then the rest
+text_first : (before : List Entry) (n : ℕ) (bs : List Done) → (more : List ℕ) × (text_of before bs ≡ text_of before (take n bs) ++ more)
+text_first before zero bs = (text_of before bs, refl)
+text_first before (suc n) [] = ([], refl)
+text_first before (suc n) (b ∷ bs) =
+    let rest = text_first (before ++ b.added) n bs in
+    let here = printed_of before b.added b.answers in
+    (rest.0, ap (λ (t : List ℕ). here ++ t) rest.1 ∙ sym (append_assoc here (text_of (before ++ b.added) (take n bs)) rest.0))
+
+last_off : (bs : List Done) (b : Done) → but_last (bs ++ b ∷ []) ≡ bs
+last_off bs b =
+    let n : length (bs ++ b ∷ []) - 1 ≡ length bs = omega (arith, length-append bs (b ∷ [])) in
+    ap (λ (k : ℕ). take k (bs ++ b ∷ [])) n ∙ take-append_seam bs (b ∷ [])
+
 -- ---- the first batches
 
 -- The first batches were served in turn on a desk, and the text of each was taken.
@@ -100,7 +114,7 @@ pub record SoFar {D : Type 0} (seen : D → Seen) (first : DeskView D) (x : Opti
   pub all : batches ≡ map (λ b. b.requests) done
   pub history : now.history ≡ first.history ++ all_added done
   pub served : AreServed first.history done
-  pub opening : HasSameOpening seen first now
+  pub opening : HasSameOpening first now
   pub none : done ≡ [] → now ≡ first
   pub taken : Appends x y (text_of first.history done)
   pub told : IsTally tally done
@@ -112,7 +126,7 @@ module _ {D : Type 0} (seen : D → Seen) (first : DeskView D) (x : Option (List
     all = refl;
     history = sym (append-nil first.history);
     served = tt;
-    opening = same_opening seen first;
+    opening = same_opening first;
     none = λ e. refl;
     taken = Appends-none x;
     told = told;
@@ -149,8 +163,8 @@ module _ {D : Type 0} (seen : D → Seen) (first : DeskView D) (x : Option (List
     served : AreServed first.history done
     served = served_more first.history so.done one so.served (subst (λ (h : List Entry). IsServed batch (answers_of batch answers) h ran.added) so.history (served_by batch answers now.history ran.added ran.served))
 
-    opening : HasSameOpening seen first new
-    opening = opening_then seen first now new so.opening (opening_of seen now new ran.base)
+    opening : HasSameOpening first new
+    opening = opening_then first now new so.opening (opening_of now new ran.base)
 
     -- it was written
     pub more : (tally' : Tally) → tally'.memory ≡ (tally.memory || has_line_end is_memory_end (answers_of batch answers)) → tally'.device ≡ (tally.device || list_any (λ e. is_of_device e.reply) (drop (length now.history) new.history))
@@ -181,6 +195,7 @@ module _ {D : Type 0} (seen : D → Seen) (first : DeskView D) (x : Option (List
       opening = opening;
       none = λ e. absurd (not_none so.done one e);
       written = broken (subst (AppendsPart x z) text_is (AppendsPart-after x y z (text_of first.history so.done) text so.taken part));
+      told = (part.0, subst (λ (bs : List Done). Appends x z (text_of first.history bs ++ part.0)) (sym (last_off so.done one)) (Appends-then x y z (text_of first.history so.done) part.0 so.taken part.3));
     }
 
   -- all were served and written
@@ -190,6 +205,7 @@ module _ {D : Type 0} (seen : D → Seen) (first : DeskView D) (x : Option (List
       let due : status ≡ end_status so.done =
       is ∙ ap (λ (b : Bool). run_status b tally.device tally.full) so.told.memory ∙ ap (λ (b : Bool). run_status (some_end is_memory_end so.done) b tally.full) so.told.device
       ∙ ap (λ (b : Bool). run_status (some_end is_memory_end so.done) (some_device so.done) b) so.told.full in
+      let rest = text_first first.history (length so.done - 1) so.done in
       record {
         done = so.done;
         due = end_status so.done;
@@ -199,4 +215,5 @@ module _ {D : Type 0} (seen : D → Seen) (first : DeskView D) (x : Option (List
         opening = so.opening;
         none = so.none;
         written = subst (λ (n : ℕ). IsWritten x y (end_status so.done) (text_of first.history so.done) n) (sym due) (whole so.taken);
+        told = (rest.0, subst (Appends x y) rest.1 so.taken);
       }

@@ -7,21 +7,20 @@ use Rattle.claim_history.specs.declared.entry.Entry.{Entry}
 use Rattle.bureau_edge.specs.Streams.{AppendsPart}
 use Rattle.claim_history.specs.Needs.{is_of_device}
 use Rattle.request_text.specs.declared.request.Request.{Request}
-use Rattle.bureau_desk.specs.Desks.{DeskView, base_of}
+use Rattle.bureau_desk.specs.Desks.{DeskView}
 use Rattle.lane_runner.specs.Batches.{HasRunBatch}
 use Rattle.served_lines.specs.declared.answer.Answer.{Answer}
 use Rattle.served_lines.specs.Ends.{is_memory_end, is_full_end, has_line_end}
 use Rattle.printed_text.specs.Printing.{printed_of, unanswered}
 use Rattle.printed_text.specs.Writing.{IsWritten}
 use Rattle.batch_runs.specs.declared.tally.Tally.{Tally}
-use Rattle.batch_runs.specs.Runs.{Done, AreOf, AreServed, all_added, text_of, some_device, some_end}
+use Rattle.batch_runs.specs.Runs.{Done, AreOf, AreServed, HasTaken, all_added, but_last, text_of, some_device, some_end}
 
--- of the six numbers of a desk, those of its opening are as they were
-pub record HasSameOpening {D : Type 0} (seen : D → Seen) (old new : DeskView D) : Type 0 where
-  pub moment : (base_of seen new).moment_of_first_sync ≡ (base_of seen old).moment_of_first_sync
-  pub faults : (base_of seen new).faults_at_opening_end ≡ (base_of seen old).faults_at_opening_end
-  pub opened_with : (base_of seen new).opened_with ≡ (base_of seen old).opened_with
-  pub tells : (base_of seen new).tells ≡ (base_of seen old).tells
+-- of the base of a desk, what is of its opening is as it was
+pub record HasSameOpening {D : Type 0} (old new : DeskView D) : Type 0 where
+  pub at_first_sync : new.at_first_sync ≡ old.at_first_sync
+  pub at_opening_end : new.at_opening_end ≡ old.at_opening_end
+  pub opened_with : new.opened_with ≡ old.opened_with
 
 -- what came of the lines of a batch: where no line was asked, there was no memory for each
 abbrev pub answers_of : List Request → Option (List Answer) → List Answer
@@ -48,13 +47,15 @@ pub record HasToldBatch {D T E : Type 0} (seen : D → Seen) (old new : DeskView
   pub ok : OnOk written (Appends held_old held_new (text_between old.history new.history batch answers))
   pub part : OnErr written (AppendsPart held_old held_new (text_between old.history new.history batch answers))
 
--- Batches were served in turn, and what each added was written after it was served. They are all, unless a write failed.
+-- Batches were served in turn, and what each added was written after it was served. They are all, unless a write failed, which ends
+-- the run: the sink took the texts of all of them but the last.
 pub record HasRunBatches {D : Type 0} (seen : D → Seen) (old new : DeskView D) (batches : List (List Request)) (held_old held_new : Option (List ℕ)) (status : ℕ) : Type 0 where
   pub done : List Done
   pub due : ℕ
   pub all : AreOf batches due done
   pub history : new.history ≡ old.history ++ all_added done
   pub served : AreServed old.history done
-  pub opening : HasSameOpening seen old new
+  pub opening : HasSameOpening old new
   pub none : done ≡ [] → new ≡ old
   pub written : IsWritten held_old held_new due (text_of old.history done) status
+  pub told : HasTaken held_old held_new (text_of old.history (but_last done))

@@ -1,18 +1,18 @@
 -- A run over a desk.
-use Rattle.std.specs.Prelude.{Option, IsTrue, drop, take, if◌then◌else◌}
-use Rattle.std.proofs.Common.{◌≡◌, ◌∙◌, ⊎_elim, inr, ℕ, ◌≤◌, Bool, true, false, List, [], ◌∷◌, ◌++◌, length, refl, sym, ap, subst, arith, length-append}
+use Rattle.std.specs.Prelude.{Option, IsTrue, drop, take}
+use Rattle.std.proofs.Common.{◌≡◌, ◌∙◌, ⊎_elim, inr, ℕ, ◌≤◌, Bool, true, false, List, [], ◌∷◌, ◌++◌, length, refl, sym, ap, subst, arith, append_assoc, length-append}
 use Rattle.std.proofs.lemmas.List.{append-nil}
 use Rattle.std.proofs.lemmas.List.Elements.{All-weaker}
 use Rattle.std.proofs.Math.Seq.{take-append_seam}
 use Rattle.std.specs.Io.KnownBytes.{Appends}
 use Rattle.bureau_edge.specs.Streams.{AppendsPart}
-use Rattle.bureau_edge.proofs.Known.{AppendsPart-front}
+use Rattle.bureau_edge.proofs.Known.{Appends-then, AppendsPart-front}
 use Rattle.fault_count.specs.Counts.{HasRisen}
-use Rattle.disk_model.specs.Calls.{Seen}
+use Rattle.disk_model.specs.Calls.{Seen, GoesOn}
 use Rattle.claim_history.specs.declared.act.Act.TheVariants as act
 use Rattle.claim_history.specs.declared.entry.Entry.{Entry}
 use Rattle.claim_history.specs.declared.entry.Reply.TheVariants as reply
-use Rattle.claim_history.specs.History.{IsLegal}
+use Rattle.claim_history.specs.History.{AreValid, IsLegal}
 use Rattle.claim_history.specs.Rounds.{cuts_after}
 use Rattle.claim_history.proofs.Greatest.{greatest_law}
 use Rattle.claim_history.proofs.Published.{cuts_more, cuts_none}
@@ -23,13 +23,18 @@ use Rattle.recorded_book.specs.Devices.{AreBetween, IsBetween}
 use Rattle.recorded_book.specs.Moments.{HasMoments}
 use Rattle.bureau_desk.specs.Desks.{DeskView, KeepsDesk}
 use Rattle.bureau_desk.specs.Opening.{IsDeskOpen}
+use Rattle.bureau_desk.proofs.Left.{left_law}
+use Rattle.round_journal.specs.Opened.{AreFound}
+use Rattle.served_lines.specs.Bound.{AreRequests}
+use Rattle.bureau_commands.proofs.Bound.{none_full_of}
 use Rattle.served_lines.specs.Ends.{is_memory_end, is_full_end}
 use Rattle.printed_text.specs.Printing.{added_text, printed_of}
-use Rattle.printed_text.specs.Writing.{Wrote, broken}
-use Rattle.batch_runs.specs.Runs.{Done, AreOf, AreServed, all_added, some_device, some_end}
-use Rattle.bureau_commands.specs.Headline.{IsHeadline, LeavesDisk, SurvivesCrashes, run_text}
+use Rattle.printed_text.specs.Writing.{broken}
+use Rattle.batch_runs.specs.Runs.{Done, AreOf, AreServed, HasTaken, all_added, but_last, requests_of, some_device, some_end, text_of}
+use Rattle.bureau_commands.specs.Journals.{HoldsSound}
+use Rattle.bureau_commands.specs.Headline.{IsHeadline, LeavesDisk, SurvivesCrashes, run_text, sure_text}
 use Rattle.batch_runs.specs.Serving.{HasRunBatches, HasSameOpening}
-use Rattle.bureau_commands.specs.Due.{IsBatchesDue}
+use Rattle.bureau_commands.specs.Due.{IsBatchesDue, WroteTaking}
 use Rattle.bureau_commands.specs.Due.{served as served_due}
 use Rattle.batch_runs.proofs.Printed.{five_by, no_three_by}
 use Rattle.batch_runs.proofs.Rising.{device_rose}
@@ -58,21 +63,10 @@ pub none_begun : {D : Type 0} (seen : D → Seen) (old : D) (d : DeskView D) →
 none_begun seen old d opening =
     opening.rounds ∙ sym (ap (λ (n : ℕ). cuts_after n d.history) opening.opened_with ∙ (begun_parts (history_of opening.records) d.history opening.history).2)
 
--- what the last of the six numbers tells
-abbrev bit : Bool → ℕ
-bit b = if b then 1 else 0
+taken_after : (x y z : Option (List ℕ)) (first text : List ℕ) → Appends x y first → HasTaken y z text → HasTaken x z (first ++ text)
+taken_after x y z first text before taken = (taken.0, subst (Appends x z) (sym (append_assoc first text taken.0)) (Appends-then x y z first (text ++ taken.0) before taken.1))
 
-same_bit : (a b : Bool) → bit a ≡ bit b → a ≡ b
-same_bit true true is = refl
-same_bit true false is = let n : 1 ≡ 0 = is in absurd (omega (arith, n))
-same_bit false true is = let n : 0 ≡ 1 = is in absurd (omega (arith, n))
-same_bit false false is = refl
-
--- what the first of them tells, where the disk tells its bytes
-same_moment : (a b : Bool) (m n : ℕ) → a ≡ true → b ≡ true → (if a then m else 0) ≡ (if b then n else 0) → m ≡ n
-same_moment a b m n one two is = sym (ap (λ (t : Bool). if t then m else 0) one) ∙ is ∙ ap (λ (t : Bool). if t then n else 0) two
-
-module _ {D : Type 0} (seen : D → Seen) (old : D) (first last : DeskView D) (opening : IsDeskOpen seen old first) (keeps : KeepsDesk seen last) (base : HasSameOpening seen first last) where
+module _ {D : Type 0} (seen : D → Seen) (old : D) (first last : DeskView D) (opening : IsDeskOpen seen old first) (keeps : KeepsDesk seen last) (base : HasSameOpening first last) where
   abbrev opened : List Entry
   opened = history_of opening.records
 
@@ -94,28 +88,30 @@ module _ {D : Type 0} (seen : D → Seen) (old : D) (first last : DeskView D) (o
   first_tells = ap (λ (d : D). (seen d).tells) opening.at_opening_end ∙ opening.same
 
   last_tells : (seen last.at_opening_end).tells ≡ (seen old).tells
-  last_tells = same_bit (seen last.at_opening_end).tells (seen first.at_opening_end).tells base.tells ∙ first_tells
+  last_tells = ap (λ (d : D). (seen d).tells) base.at_opening_end ∙ first_tells
 
   tells_so : IsTrue (seen old).tells → IsTrue (seen last.disk).tells
   tells_so told = keeps.same ∙ last_tells ∙ told
 
+  -- the disk that the opening left
+  begun_at : last.at_opening_end ≡ first.disk
+  begun_at = base.at_opening_end ∙ opening.at_opening_end
+
   later_so : (seen old).count ≤ (seen last.at_opening_end).count
-  later_so = subst (λ (n : ℕ). (seen old).count ≤ n) (sym (base.faults ∙ ap (λ (d : D). (seen d).count) opening.at_opening_end)) opening.later
+  later_so = subst (λ (d : D). (seen old).count ≤ (seen d).count) (sym begun_at) opening.later
 
   between : AreBetween (seen old).count (seen last.disk).count last.history
   between = All-weaker (IsBetween (seen last.at_opening_end).count (seen last.disk).count) (IsBetween (seen old).count (seen last.disk).count)
       (λ e is before counted told. let b = is before counted told in (omega (arith, later_so, b.0), b.1, b.2)) last.history keeps.between
-
-  moment_so : IsTrue (seen old).tells → (seen last.at_first_sync).moment ≡ (seen first.at_first_sync).moment
-  moment_so told = same_moment (seen last.at_opening_end).tells (seen first.at_opening_end).tells (seen last.at_first_sync).moment (seen first.at_first_sync).moment (last_tells ∙ told) (first_tells ∙ told) base.moment
 
   survives : IsTrue (seen old).tells → SurvivesCrashes seen old last.disk (length opened) last.history
   survives told = record {
     first = (seen first.at_first_sync).moment;
     begun = first.disk;
     turned = opening.turned told;
+    stays = subst (λ (d : D). GoesOn (seen d) (seen last.disk)) begun_at (keeps.stays (tells_so told));
     moments = subst (λ (n : ℕ). HasMoments (seen last.disk) (seen first.at_first_sync).moment n last.history) (base.opened_with ∙ opening.opened_with)
-        (subst (λ (m : ℕ). HasMoments (seen last.disk) m last.opened_with last.history) (moment_so told) (keeps.moments (tells_so told)));
+        (subst (λ (d : D). HasMoments (seen last.disk) (seen d).moment last.opened_with last.history) base.at_first_sync (keeps.moments (tells_so told)));
     at_exit = keeps.present (tells_so told);
   }
 
@@ -123,9 +119,16 @@ module _ {D : Type 0} (seen : D → Seen) (old : D) (first last : DeskView D) (o
   leaves done none empty told =
       subst (λ (d : DeskView D). LeavesDisk (seen old) (seen d.disk)) (sym (none empty)) (record { opened = inr ((seen first.at_first_sync).moment, opening.turned told); spared = opening.spared told })
 
-  headline : (batches : List (List Request)) (done : List Done) (status : ℕ) → AreOf batches status done → last.history ≡ first.history ++ all_added done → AreServed first.history done → (done ≡ [] → last ≡ first)
-      → IsHeadline seen old last.disk batches status (run_text opened first.history done)
-  headline batches done status all parts served none = record {
+  -- the journal is sound at the end
+  sound_at_end : IsTrue (seen old).tells → HoldsSound (seen last.disk)
+  sound_at_end told =
+      let tells = tells_so told in
+      let found = left_law last.history (seen last.disk).reads keeps.legal keeps.within keeps.keepable (keeps.reads_left tells) in
+      record { tells = tells; records = found.0; found = subst (λ (b : Bool). AreFound b (seen last.disk).reads found.0) (sym tells) found.1; sound = found.2 }
+
+  headline : (Taken : List ℕ → Type 0) (batches : List (List Request)) (done : List Done) (status : ℕ) → AreRequests (requests_of batches) → AreOf batches status done → last.history ≡ first.history ++ all_added done → AreServed first.history done
+      → (done ≡ [] → last ≡ first) → Taken (sure_text opened first.history done) → IsHeadline seen Taken old last.disk batches status (run_text opened first.history done)
+  headline Taken batches done status asked all parts served none taken = record {
     opened = opened;
     begun = first.history;
     done = done;
@@ -133,32 +136,44 @@ module _ {D : Type 0} (seen : D → Seen) (old : D) (first last : DeskView D) (o
     is_history = record { records = opening.records; found = opening.found; sound = opening.sound; opened_is = refl; begins = opening.history; parts = parts };
     all = all;
     text_is = refl;
+    taken = taken;
     on_disk = λ told. keeps.reads_left (tells_so told);
+    sound = sound_at_end;
     legal = keeps.legal;
+    within = keeps.within;
     valid = keeps.valid;
     between = between;
     served = served;
+    none_full = none_full_of opening.records first.history batches status done all opening.sound opening.history served (subst IsLegal parts keeps.legal) (subst AreValid parts keeps.valid) asked;
     greatest = λ before later e total is published. greatest_law before later e total (subst IsLegal is keeps.legal) published;
     survives = survives;
     early = leaves done none;
   }
 
+  sure_taken : (x y : Option (List ℕ)) (done : List Done) → HasTaken x y (run_text opened first.history (but_last done)) → HasTaken x y (sure_text opened first.history done)
+  sure_taken x y [] taken = (run_text opened first.history (but_last []) ++ taken.0, taken.1)
+  sure_taken x y (b ∷ done) taken = taken
+
   -- the batches were served
-  pub wrote_all : (x y z : Option (List ℕ)) (batches : List (List Request)) (status : ℕ) → Appends x y (printed_of (take first.opened_with first.history) (drop first.opened_with first.history) []) → HasRunBatches seen first last batches y z status
-      → Wrote (IsBatchesDue seen old last.disk batches) x z status
-  wrote_all x y z batches status before ran =
+  pub wrote_all : (x y z : Option (List ℕ)) (batches : List (List Request)) (status : ℕ) → AreRequests (requests_of batches) → Appends x y (printed_of (take first.opened_with first.history) (drop first.opened_with first.history) [])
+      → HasRunBatches seen first last batches y z status → WroteTaking (λ Taken. IsBatchesDue seen Taken old last.disk batches) x z status
+  wrote_all x y z batches status asked before ran =
       let text = run_text opened first.history ran.done in
-      wrote_line (IsBatchesDue seen old last.disk batches) x z ran.due text status (served_due ran.due text (headline batches ran.done ran.due ran.all ran.history ran.served ran.none))
-      (written_after x y z (added_text opened (drop (length opened) first.history)) _ ran.due status (subst (Appends x y) begun_text before) ran.written)
+      let Taken : List ℕ → Type 0 = HasTaken x z in
+      let line : Appends x y (added_text opened (drop (length opened) first.history)) = subst (Appends x y) begun_text before in
+      let taken = sure_taken x z ran.done (taken_after x y z (added_text opened (drop (length opened) first.history)) (text_of first.history (but_last ran.done)) line ran.told) in
+      wrote_line (IsBatchesDue seen Taken old last.disk batches) x z ran.due text status (served_due ran.due text (headline Taken batches ran.done ran.due asked ran.all ran.history ran.served ran.none taken))
+      (written_after x y z (added_text opened (drop (length opened) first.history)) _ ran.due status line ran.written)
 
   -- the sink failed at the abandonment's line
-  pub wrote_begun : (x y : Option (List ℕ)) (batches : List (List Request)) → last ≡ first → AppendsPart x y (printed_of (take first.opened_with first.history) (drop first.opened_with first.history) [])
-      → Wrote (IsBatchesDue seen old last.disk batches) x y 4
-  wrote_begun x y batches same part =
+  pub wrote_begun : (x y : Option (List ℕ)) (batches : List (List Request)) → AreRequests (requests_of batches) → last ≡ first → AppendsPart x y (printed_of (take first.opened_with first.history) (drop first.opened_with first.history) [])
+      → WroteTaking (λ Taken. IsBatchesDue seen Taken old last.disk batches) x y 4
+  wrote_begun x y batches asked same part =
       let none : List Done = [] in
-      wrote_line (IsBatchesDue seen old last.disk batches) x y 4 (run_text opened first.history none) 4
+      let Taken : List ℕ → Type 0 = HasTaken x y in
+      wrote_line (IsBatchesDue seen Taken old last.disk batches) x y 4 (run_text opened first.history none) 4
       (served_due 4 (run_text opened first.history none)
-      (headline batches none 4 (record { rest = batches; in_order = refl; ended = inr refl }) (ap (λ (d : DeskView D). d.history) same ∙ sym (append-nil first.history)) tt (λ e. same)))
+      (headline Taken batches none 4 asked (record { rest = batches; in_order = refl; ended = inr refl }) (ap (λ (d : DeskView D). d.history) same ∙ sym (append-nil first.history)) tt (λ e. same) (part.0, part.3)))
       (broken (AppendsPart-front x y (added_text opened (drop (length opened) first.history)) [] (subst (AppendsPart x y) begun_text part)))
 
   -- where the status tells of a device, the disk's count rose

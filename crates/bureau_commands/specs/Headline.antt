@@ -1,11 +1,12 @@
 -- What a run of batches is.
-use Rattle.std.specs.Prelude.{◌≡◌, ℕ, Bool, List, [], ◌∷◌, ◌++◌, length, drop, IsTrue}
-use Rattle.disk_model.specs.Calls.{Seen, IsPresent}
+use Rattle.std.specs.Prelude.{◌≡◌, ℕ, Bool, false, List, [], ◌∷◌, ◌++◌, length, drop, IsTrue}
+use Rattle.disk_model.specs.Calls.{Seen, GoesOn, IsPresent}
 use Rattle.claim_history.specs.declared.entry.Entry.{Entry}
 use Rattle.claim_history.specs.declared.entry.Reply.TheVariants as reply
 use Rattle.claim_history.specs.History.{AreValid, IsLegal}
 use Rattle.claim_history.specs.Callers.{accepted_calls}
 use Rattle.claim_history.specs.Laws.{IsGreatestPublication}
+use Rattle.claim_history.specs.Needs.{IsWithinLimits}
 use Rattle.request_text.specs.declared.request.Request.{Request}
 use Rattle.round_journal.specs.declared.record.Record.{Record}
 use Rattle.round_journal.specs.Opened.{AreFound}
@@ -16,7 +17,9 @@ use Rattle.bureau_desk.specs.Opening.{HasDeskOpened, HasDeskTurned, SparesUnsoun
 use Rattle.recorded_book.specs.Devices.{AreBetween}
 use Rattle.recorded_book.specs.Moments.{HasMoments}
 use Rattle.printed_text.specs.Printing.{added_text}
-use Rattle.batch_runs.specs.Runs.{Done, AreOf, AreServed, all_added, text_of}
+use Rattle.served_lines.specs.Ends.{is_full_end}
+use Rattle.batch_runs.specs.Runs.{Done, AreOf, AreServed, all_added, but_last, requests_of, some_end, text_of}
+use Rattle.bureau_commands.specs.Journals.{HasRoomForAll, HoldsSound}
 
 -- The history: that of the records that the disk held, with the abandonment where they leave a round open, and then what the
 -- batches added.
@@ -32,6 +35,11 @@ pub record IsRunHistory (tells : Bool) (bytes : List ℕ) (opened begun : List E
 abbrev pub run_text : List Entry → List Entry → List Done → List ℕ
 run_text opened begun done = added_text opened (drop (length opened) begun) ++ text_of begun done
 
+-- The text that the sink has, whatever the status: that of all batches but the last, where any was served.
+abbrev pub sure_text : List Entry → List Entry → List Done → List ℕ
+sure_text opened begun [] = []
+sure_text opened begun (b ∷ done) = run_text opened begun (but_last (b ∷ done))
+
 -- Each published entry is the publication of its own round, whose prices prove that no lawful set-off of the round's cut
 -- discharges more.
 abbrev pub RoundsAreGreatest : List Entry → Type 0
@@ -46,19 +54,22 @@ pub record LeavesDisk (old new : Seen) : Type 0 where
   pub spared : SparesUnsound old.reads new.reads
 
 -- A crash at any moment since that of the opening's first sync, which is the first of the moments: of the disk that the opening
--- left, each image since that sync holds the records of the start, and no earlier one is new.
+-- left, each image since that sync holds the records of the start, and no earlier one is new. The images of the moments up to the
+-- end of the opening stay.
 pub record SurvivesCrashes {D : Type 0} (seen : D → Seen) (old new : D) (opened : ℕ) (history : List Entry) : Type 0 where
   pub first : ℕ
   pub begun : D
   pub turned : HasDeskTurned (seen old) first (seen begun)
+  pub stays : GoesOn (seen begun) (seen new)
   pub moments : HasMoments (seen new) first opened history
   pub at_exit : (c : List ℕ) → IsPresent (seen new) c → HoldsFirst (accepted_calls history) c
 
--- A run that served batches, and the status and the text that are due. Its parts: the history; what is written; what the disk
--- reads at the end, which stands for the accepted calls, perhaps followed by one whose write failed; that the history is legal,
--- its acts are valid, and the counts of its devices lie between those of the disk; the calls of each lane; the rounds; crashes;
--- and what a run leaves that failed to write the abandonment's line.
-pub record IsHeadline {D : Type 0} (seen : D → Seen) (old new : D) (batches : List (List Request)) (status : ℕ) (text : List ℕ) : Type 0 where
+-- A run that served batches, and the status and the text that are due. Its parts: the history; what is written, and what the sink
+-- took of it at least; what the disk reads at the end, which stands for the accepted calls, perhaps followed by one whose write
+-- failed, and so for sound records; that the history is legal and within the limits, its acts are valid, and the counts of its
+-- devices lie between those of the disk; the calls of each lane; that within the bound no line is full; the rounds; crashes; and
+-- what a run leaves that failed to write the abandonment's line.
+pub record IsHeadline {D : Type 0} (seen : D → Seen) (Taken : List ℕ → Type 0) (old new : D) (batches : List (List Request)) (status : ℕ) (text : List ℕ) : Type 0 where
   pub opened : List Entry
   pub begun : List Entry
   pub done : List Done
@@ -66,11 +77,15 @@ pub record IsHeadline {D : Type 0} (seen : D → Seen) (old new : D) (batches : 
   pub is_history : IsRunHistory (seen old).tells (seen old).reads opened begun done history
   pub all : AreOf batches status done
   pub text_is : text ≡ run_text opened begun done
+  pub taken : Taken (sure_text opened begun done)
   pub on_disk : IsTrue (seen old).tells → StandsForLeft history (seen new).reads
+  pub sound : IsTrue (seen old).tells → HoldsSound (seen new)
   pub legal : IsLegal history
+  pub within : IsWithinLimits history
   pub valid : AreValid history
   pub between : AreBetween (seen old).count (seen new).count history
   pub served : AreServed begun done
+  pub none_full : HasRoomForAll is_history.records (requests_of batches) → some_end is_full_end done ≡ false
   pub greatest : RoundsAreGreatest history
   pub survives : IsTrue (seen old).tells → SurvivesCrashes seen old new (length opened) history
   pub early : done ≡ [] → IsTrue (seen old).tells → LeavesDisk (seen old) (seen new)

@@ -8,10 +8,11 @@ use Rattle.claim_history.specs.declared.entry.Reply.TheVariants as reply
 use Rattle.bureau_desk.specs.declared.publish_reply.PublishReply.{PublishReply}
 use Rattle.bureau_desk.specs.declared.publish_reply.PublishReply.TheVariants.{Published, Device}
 use Rattle.claim_history.specs.declared.entry.Entry.{Entry}
+use Rattle.bureau_desk.specs.declared.base.DeskBase.{DeskBase}
 use Rattle.claim_history.specs.States.{OpenRound, state_of}
 use Rattle.claim_history.specs.History.{answer_of, IsLegal, AreValid}
 use Rattle.claim_history.specs.Needs.{IsWithinLimits}
-use Rattle.disk_model.specs.Calls.{Seen, IsPresent}
+use Rattle.disk_model.specs.Calls.{Seen, GoesOn, IsPresent}
 use Rattle.claim_history.specs.Callers.{accepted_calls, has_closed}
 use Rattle.recorded_book.specs.Calls.{CanBeKept, HoldsFirst, StandsForLeft}
 use Rattle.recorded_book.specs.Moments.{HasMoments, HeldSince}
@@ -33,34 +34,31 @@ pub record DeskView (D : Type 0) : Type 0 where
   pub at_clearing : D
   pub cleared_with : ℕ
 
--- The six numbers of a desk that its calls leave as they are. But a clearing sets the fourth and the fifth.
-pub record DeskBase : Type 0 where
-  -- the moment of the opening's first sync that succeeded; 0 where the disk does not tell its bytes
-  pub moment_of_first_sync : ℕ
-  -- the disk's count of faults at the end of the opening
-  pub faults_at_opening_end : ℕ
-  -- how many entries were opened, without an abandonment
-  pub opened_with : ℕ
-  -- how many entries stood at the last clearing
-  pub cleared_with : ℕ
-  -- the moment of the last clearing; 0 where the disk does not tell its bytes
-  pub moment_of_clearing : ℕ
-  -- 1 where the disk tells its bytes, else 0
-  pub tells : ℕ
-
-abbrev pub base_of : {D : Type 0} → (D → Seen) → DeskView D → DeskBase
-base_of seen d = record {
-  moment_of_first_sync = if (seen d.at_opening_end).tells then (seen d.at_first_sync).moment else 0;
-  faults_at_opening_end = (seen d.at_opening_end).count;
+-- the base of a desk
+abbrev pub base_of : {D : Type 0} → DeskView D → DeskBase D
+base_of d = record {
+  at_first_sync = d.at_first_sync;
+  at_opening_end = d.at_opening_end;
   opened_with = d.opened_with;
+  at_clearing = d.at_clearing;
   cleared_with = d.cleared_with;
-  moment_of_clearing = if (seen d.at_opening_end).tells then (seen d.at_clearing).moment else 0;
-  tells = if (seen d.at_opening_end).tells then 1 else 0;
 }
 
--- the base as the list that a turn lock wants
-abbrev pub numbers_of : DeskBase → List ℕ
-numbers_of base = base.moment_of_first_sync ∷ base.faults_at_opening_end ∷ base.opened_with ∷ base.cleared_with ∷ base.moment_of_clearing ∷ base.tells ∷ []
+-- the base of a desk whose rounds are cleared now
+abbrev pub base_cleared : {D : Type 0} → DeskView D → DeskBase D
+base_cleared d = record (base_of d) { at_clearing = d.disk; cleared_with = length d.history }
+
+-- the moment of a disk, where the other one tells its bytes, else 0
+abbrev pub told_moment : {D : Type 0} → (D → Seen) → D → D → ℕ
+told_moment seen one disk = if (seen one).tells then (seen disk).moment else 0
+
+-- The six numbers that are read off a base: the moment of the first sync that succeeded; the count of faults at the end of the
+-- opening; how many entries were opened, without an abandonment; how many stood at the last clearing; the moment of it; and 1 where
+-- the disk tells its bytes, else 0. Where it does not, the moments are 0.
+abbrev pub numbers_of : {D : Type 0} → (D → Seen) → DeskBase D → List ℕ
+numbers_of seen b =
+    told_moment seen b.at_opening_end b.at_first_sync ∷ (seen b.at_opening_end).count ∷ b.opened_with
+    ∷ b.cleared_with ∷ told_moment seen b.at_opening_end b.at_clearing ∷ (if (seen b.at_opening_end).tells then 1 else 0) ∷ []
 
 abbrev pub desk_view : {D : Type 0} → RecordedView D → List CutView → DeskView D
 desk_view kept rounds = record {
@@ -112,6 +110,8 @@ pub record KeepsDesk {D : Type 0} (seen : D → Seen) (d : DeskView D) : Type 0 
   pub between : AreBetween (seen d.at_opening_end).count (seen d.disk).count d.history
   -- the cuts of the rounds that were published since the last clearing
   pub rounds_are : d.rounds ≡ cuts_after d.cleared_with d.history
+  -- the images of the opening stay
+  pub stays : IsTrue (seen d.disk).tells → GoesOn (seen d.at_opening_end) (seen d.disk)
   -- the moments of the accepted calls, from the first sync of the opening on
   pub moments : IsTrue (seen d.disk).tells → HasMoments (seen d.disk) (seen d.at_first_sync).moment d.opened_with d.history
   -- a crash now leaves bytes that stand for the accepted calls, alone or with one that the disk failed for after them; and so the

@@ -2,8 +2,8 @@
 use Rattle.std.proofs.Common.{◌≡◌, inl, inr, ⊎_elim, ℕ, ◌+◌, ◌≤◌, max, Bool, true, false, if◌then◌else◌, List, [], ◌∷◌, ◌++◌, length, reverse, Option, Some, None, IsTrue, refl, sym, ◌∙◌, ap, subst, arith, length-append}
 use Rattle.std.proofs.lemmas.List.{reverse-append}
 use Rattle.std.proofs.lemmas.List.Elements.{All-push}
-use Rattle.disk_model.specs.Calls.{Seen, Passes}
-use Rattle.disk_model.proofs.Moments.{passes_still, passes_wide}
+use Rattle.disk_model.specs.Calls.{Seen, GoesOn, Passes}
+use Rattle.disk_model.proofs.Moments.{passes_still, passes_on, passes_wide}
 use Rattle.claim_history.specs.declared.act.Act.{Act}
 use Rattle.claim_history.specs.declared.entry.Entry.{Entry}
 use Rattle.claim_history.specs.declared.entry.Reply.{Reply}
@@ -115,6 +115,7 @@ module _ {D : Type 0} (seen : D → Seen) where
               kept = (was.kept.0, subst (λ (calls : List Call). IsKept seen r.journal (bodies_of_calls calls) was.kept.0) (sym (accepted_same history e refused)) was.kept.1, tried_noted history e was.kept.0 refused was.kept.2);
               moments = moments_kept (seen r.journal.disk) (seen r.journal.disk) (seen r.journal.at_first_sync).moment r.opened_with history e empty was.moments stays (λ c no. absurd no) refused;
               since = held_on (seen r.journal.disk) (seen r.journal.disk) (seen r.at_clearing).moment r.cleared_with history e empty has.cleared_few was.since stays (λ c no. absurd no);
+              stays = was.stays;
             };
       }
 
@@ -130,7 +131,7 @@ module _ {D : Type 0} (seen : D → Seen) where
         same = has.same;
         later = has.later;
         between = has.between;
-        recorded = λ told. let was = has.recorded told in record { kept = was.kept; moments = was.moments; since = held_now (seen r.journal.disk) (seen r.journal.at_first_sync).moment r.opened_with history was.moments };
+        recorded = λ told. let was = has.recorded told in record { kept = was.kept; moments = was.moments; since = held_now (seen r.journal.disk) (seen r.journal.at_first_sync).moment r.opened_with history was.moments; stays = was.stays };
       } in
       let is : view_at r.journal r'.spare r.at_opening_end r.opened_with r.journal.disk (length history) ≡ r' =
       ap (λ (j : JournalView D). view_at j r'.spare r.at_opening_end r.opened_with r.journal.disk (length history)) (sym journal)
@@ -155,6 +156,10 @@ module _ {D : Type 0} (seen : D → Seen) where
         let kept = (has.recorded told).kept in
         passes_wide (seen j.disk) (seen j'.disk) (HoldsOne (bodies_of_calls (accepted_calls history)) kept.0 body) (HoldsDuring history (call_of e)) (tried.crash (bodies_of_calls (accepted_calls history)) kept.0 kept.1)
         (λ c one. during_of_one history kept.0 (call_of e) c kept.2 (subst (λ (b : List ℕ). HoldsOne (bodies_of_calls (accepted_calls history)) kept.0 b c) body_is one))
+
+    -- the images of the opening stay
+    stays_on : GoesOn (seen opened) (seen j.disk) → Passes (seen j.disk) (seen j'.disk) (HoldsDuring history (call_of e)) → GoesOn (seen opened) (seen j'.disk)
+    stays_on was goes = passes_on (seen opened) (seen j.disk) (seen j'.disk) (λ c. Unit {0}) was (passes_wide (seen j.disk) (seen j'.disk) (HoldsDuring history (call_of e)) (λ c. Unit {0}) goes (λ c one. tt))
 
     pub records_accepted : is_accepted e ≡ true → length body ≡ body_length_of e.act → HasAppended seen j j' body
         → Records seen (view_at j' spare' opened opened_with cleared cleared_with) (history ++ e ∷ [])
@@ -185,6 +190,7 @@ module _ {D : Type 0} (seen : D → Seen) where
                     (moments_grow (seen j.disk) (seen j'.disk) (seen j.at_first_sync).moment opened_with history e (HoldsDuring history (call_of e)) was.moments goes holds accepted
                     (λ c now. all_holds (history ++ e ∷ []) c (inl (record { short = kept.short; ends = kept.images c now }))));
                 since = held_on (seen j.disk) (seen j'.disk) (seen cleared).moment cleared_with history e (HoldsDuring history (call_of e)) has.cleared_few was.since goes holds;
+                stays = stays_on was.stays goes;
               };
         }
 
@@ -215,5 +221,6 @@ module _ {D : Type 0} (seen : D → Seen) where
                 moments = subst (λ (d : D). HasMoments (seen j'.disk) (seen d).moment opened_with (history ++ e ∷ [])) (sym tried.opened)
                     (moments_kept (seen j.disk) (seen j'.disk) (seen j.at_first_sync).moment opened_with history e (HoldsDuring history (call_of e)) was.moments goes holds refused);
                 since = held_on (seen j.disk) (seen j'.disk) (seen cleared).moment cleared_with history e (HoldsDuring history (call_of e)) has.cleared_few was.since goes holds;
+                stays = stays_on was.stays goes;
               };
         }

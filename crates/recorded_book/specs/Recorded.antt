@@ -1,6 +1,6 @@
 -- What the record of a desk's calls on its disk keeps of a history.
 use Rattle.std.specs.Prelude.{◌≡◌, ◌≤◌, ◌+◌, ℕ, List, length, reverse, Option, Some, None, IsTrue}
-use Rattle.disk_model.specs.Calls.{Seen}
+use Rattle.disk_model.specs.Calls.{Seen, GoesOn}
 use Rattle.claim_history.specs.declared.entry.Entry.{Entry}
 use Rattle.claim_history.specs.History.{Call, last_count}
 use Rattle.claim_history.specs.Needs.{used_bytes_of}
@@ -31,11 +31,13 @@ abbrev pub KeepsAccepted : {D : Type 0} → (D → Seen) → JournalView D → L
 KeepsAccepted seen journal history =
     (last : Option (List ℕ)) × IsKept seen journal (bodies_of_calls (accepted_calls history)) last × IsTried history last
 
--- What holds of its bytes: they are kept, and each image of each moment since the opening holds what was accepted by then.
+-- What holds of its bytes: they are kept, and each image of each moment since the opening holds what was accepted by then. The
+-- images of the opening stay.
 pub record IsRecorded {D : Type 0} (seen : D → Seen) (r : RecorderView D) (history : List Entry) : Type 0 where
   pub kept : KeepsAccepted seen r.journal history
   pub moments : HasMoments (seen r.journal.disk) (seen r.journal.at_first_sync).moment r.opened_with history
   pub since : HeldSince (seen r.at_clearing).moment r.cleared_with (seen r.journal.disk) history
+  pub stays : GoesOn (seen r.at_opening_end) (seen r.journal.disk)
 
 -- What a recorder keeps of a history, of whose bytes it speaks where the disk tells them.
 pub record Records {D : Type 0} (seen : D → Seen) (r : RecorderView D) (history : List Entry) : Type 0 where

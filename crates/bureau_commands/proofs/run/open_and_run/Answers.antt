@@ -7,8 +7,8 @@ use Rattle.fault_count.proofs.Rising.{risen_within}
 use Rattle.claim_history.specs.Rounds.{cuts_after}
 use Rattle.desk_text.specs.Texts.{opening_status, opening_text}
 use Rattle.printed_text.specs.Printing.{printed_of}
-use Rattle.printed_text.specs.Writing.{Wrote}
-use Rattle.bureau_commands.specs.Due.{IsBatchesDue, no_output_memory, not_opened}
+use Rattle.batch_runs.specs.Runs.{HasTaken}
+use Rattle.bureau_commands.specs.Due.{IsBatchesDue, WroteTaking, no_output_memory, not_opened}
 use Rattle.bureau_reports.proofs.Viewed.{no_three, tellable}
 use Rattle.batch_runs.proofs.Batches.{same_opening}
 use Rattle.batch_runs.proofs.Printed.{at_err, at_ok, printed_same}
@@ -24,7 +24,7 @@ end_with-requires g c = λ four. omega (arith, four)
 
 pub returns-in_default-clause-wrote : goal.returns-in_default-clause-wrote
 returns-in_default-clause-wrote g c =
-    wrote_line (IsBatchesDue g.D.Disk.seen c.args.disk c.args.disk c.args.batches.now) _ _ 9 (codes "fault memory\n") _ (no_output_memory refl) c.end_with.ensures.written
+    wrote_line (IsBatchesDue g.D.Disk.seen (HasTaken (g.K.Sink.held c.args.sink.now) (g.K.Sink.held c.end_with.new.sink)) c.args.disk c.args.disk c.args.batches.now) _ _ 9 (codes "fault memory\n") _ (no_output_memory refl) c.end_with.ensures.written
 
 pub returns-in_default-clause-write_fault : goal.returns-in_default-clause-write_fault
 returns-in_default-clause-write_fault g c = c.end_with.ensures.failed
@@ -48,7 +48,7 @@ tell_refused-requires-clause-spare g c = omega (arith, c.in-Ok.ensures.room)
 
 pub returns-in-Err-clause-wrote : goal.returns-in-Err-clause-wrote
 returns-in-Err-clause-wrote g c =
-    wrote_line (IsBatchesDue g.D.Disk.seen c.args.disk c.in-Err.field-0.disk c.args.batches.now) _ _ (opening_status c.in-Err.field-0.cause) (opening_text c.in-Err.field-0.cause) _
+    wrote_line (IsBatchesDue g.D.Disk.seen (HasTaken (g.K.Sink.held c.args.sink.now) (g.K.Sink.held c.tell_refused.new.sink)) c.args.disk c.in-Err.field-0.disk c.args.batches.now) _ _ (opening_status c.in-Err.field-0.cause) (opening_text c.in-Err.field-0.cause) _
     (not_opened c.in-Err.field-0.cause c.in-Err.ensures.err) c.tell_refused.ensures.written
 
 pub returns-in-Err-clause-write_fault : goal.returns-in-Err-clause-write_fault
@@ -86,8 +86,8 @@ returns-then-is_err-clause-wrote g c =
     let part : AppendsPart (g.K.Sink.held c.args.sink.now) (g.K.Sink.held c.print_added.new.sink) line =
     at_err c.print_added.result (AppendsPart (g.K.Sink.held c.args.sink.now) (g.K.Sink.held c.print_added.new.sink) line) (sym c.is_err.ensures.value ∙ c.if-is_err.true)
     (subst (λ (t : List ℕ). OnErr c.print_added.result (AppendsPart (g.K.Sink.held c.args.sink.now) (g.K.Sink.held c.print_added.new.sink) t)) same c.print_added.ensures.part) in
-    subst (λ (d : g.row.D.Denot). Wrote (IsBatchesDue g.D.Disk.seen c.args.disk d c.args.batches.now) (g.K.Sink.held c.args.sink.now) (g.K.Sink.held c.print_added.new.sink) 4) (sym c.close.ensures.disk)
-    (wrote_begun g.D.Disk.seen c.args.disk first first c.in-Ok-open.ensures.ok c.close.ensures.keeps (same_opening g.D.Disk.seen first) _ _ c.args.batches.now refl part)
+    subst (λ (d : g.row.D.Denot). WroteTaking (λ Taken. IsBatchesDue g.D.Disk.seen Taken c.args.disk d c.args.batches.now) (g.K.Sink.held c.args.sink.now) (g.K.Sink.held c.print_added.new.sink) 4) (sym c.close.ensures.disk)
+    (wrote_begun g.D.Disk.seen c.args.disk first first c.in-Ok-open.ensures.ok c.close.ensures.keeps (same_opening first) _ _ c.args.batches.now c.requires.asked refl part)
 
 pub returns-then-is_err-clause-write_fault : goal.returns-then-is_err-clause-write_fault
 returns-then-is_err-clause-write_fault g c = λ four. c.print_added.ensures.cause.cause (sym c.is_err.ensures.value ∙ c.if-is_err.true)
@@ -115,8 +115,8 @@ returns-clause-wrote g c =
     let begun : Appends (g.K.Sink.held c.args.sink.now) (g.K.Sink.held c.print_added.new.sink) line =
     at_ok c.print_added.result (Appends (g.K.Sink.held c.args.sink.now) (g.K.Sink.held c.print_added.new.sink) line) (sym c.is_err.ensures.value ∙ c.if-is_err.false)
     (subst (λ (t : List ℕ). OnOk c.print_added.result (Appends (g.K.Sink.held c.args.sink.now) (g.K.Sink.held c.print_added.new.sink) t)) same c.print_added.ensures.ok) in
-    subst (λ (d : g.row.D.Denot). Wrote (IsBatchesDue g.D.Disk.seen c.args.disk d c.args.batches.now) (g.K.Sink.held c.args.sink.now) (g.K.Sink.held c.run_batches-status.new.sink) c.run_batches-status.result.0) (sym c.close-2.ensures.disk)
-    (wrote_all g.D.Disk.seen c.args.disk first last c.in-Ok-open.ensures.ok c.close-2.ensures.keeps c.run_batches-status.ensures.ran.opening _ _ _ c.args.batches.now c.run_batches-status.result.0 begun c.run_batches-status.ensures.ran)
+    subst (λ (d : g.row.D.Denot). WroteTaking (λ Taken. IsBatchesDue g.D.Disk.seen Taken c.args.disk d c.args.batches.now) (g.K.Sink.held c.args.sink.now) (g.K.Sink.held c.run_batches-status.new.sink) c.run_batches-status.result.0) (sym c.close-2.ensures.disk)
+    (wrote_all g.D.Disk.seen c.args.disk first last c.in-Ok-open.ensures.ok c.close-2.ensures.keeps c.run_batches-status.ensures.ran.opening _ _ _ c.args.batches.now c.run_batches-status.result.0 c.requires.asked begun c.run_batches-status.ensures.ran)
 
 pub returns-clause-write_fault : goal.returns-clause-write_fault
 returns-clause-write_fault g c =

@@ -1,0 +1,49 @@
+-- What a journal holds, and the room behind it.
+use Rattle.std.specs.Prelude.{◌≡◌, ◌⊎◌, ℕ, ◌+◌, ◌*◌, ◌≤◌, List, length, count_by, IsTrue}
+use Rattle.std.specs.List.{sum_by}
+use Rattle.setoff_model.specs.Limits.{most_entries, most_journal_bytes}
+use Rattle.disk_model.specs.Calls.{Seen}
+use Rattle.claim_history.specs.Acts.{is_filing, is_registration}
+use Rattle.claim_history.specs.Needs.{record_length_of}
+use Rattle.request_text.specs.declared.request.Request.{Request}
+use Rattle.round_journal.specs.declared.record.Record.{Record}
+use Rattle.round_journal.specs.Opened.{AreFound}
+use Rattle.journal_replay.specs.Replays.{AreSound}
+use Rattle.served_lines.specs.Bound.{closes, endings_with}
+use Rattle.bureau_desk.specs.declared.desk_refused.DeskCause.{DeskCause}
+use Rattle.bureau_desk.specs.Laws.{IsFault}
+use Rattle.desk_text.specs.Texts.{unsound_status}
+
+-- the disk tells its bytes, and they stand for sound records
+pub record HoldsSound (disk : Seen) : Type 0 where
+  pub tells : IsTrue disk.tells
+  pub records : List Record
+  pub found : AreFound disk.tells disk.reads records
+  pub sound : AreSound records
+
+-- the bytes have a fault that an audit tells with this status: 1 where an act is refused or full, else 8
+pub record HasAuditFault (bytes : List ℕ) (status : ℕ) : Type 0 where
+  pub cause : DeskCause
+  pub fault : IsFault bytes cause
+  pub status_is : status ≡ unsound_status cause
+
+-- ---- the bound under which no line is full
+
+-- the bytes of a journal of these records: 8 at its head, and theirs
+abbrev pub journal_bytes : List Record → ℕ
+journal_bytes records = 8 + sum_by (λ r. record_length_of r.act) records
+
+-- how many records and requests file a claim
+abbrev pub claims_asked : List Record → List Request → ℕ
+claims_asked records requests = count_by (λ r. is_filing r.act) records + count_by (λ request. is_filing request.act) requests
+
+-- how many register a firm
+abbrev pub firms_asked : List Record → List Request → ℕ
+firms_asked records requests = count_by (λ r. is_registration r.act) records + count_by (λ request. is_registration request.act) requests
+
+-- Behind the records there is room for all of the requests. Of entries: one for each, one for the publication of each Close, one
+-- for the abandonment at the opening, and two for both endings of a round. Of bytes: 10 for that abandonment, 80 for each
+-- request, and both endings of a round of all claims and firms for each Close and once more.
+pub record HasRoomForAll (records : List Record) (requests : List Request) : Type 0 where
+  pub entries : length records + length requests + closes requests + 3 ≤ most_entries
+  pub bytes : journal_bytes records + 10 + 80 * length requests + endings_with (claims_asked records requests) (firms_asked records requests) * (closes requests + 1) ≤ most_journal_bytes
