@@ -1,0 +1,11 @@
+//! What a board shows of a firm.
+use claim_history::{AccountFact, Position};
+
+/// The account and the position of a registered firm, in cents.
+#[derive(Clone, Copy, PartialEq, Eq)]
+pub struct Row {
+    /// Balance, limits and offer.
+    pub account: AccountFact,
+    /// What is owed to it and by it on confirmed claims.
+    pub position: Position,
+}
