@@ -136,12 +136,12 @@ facts_are l is limited =
 
 -- ---- the cut of a ledger
 
-map-map : {X Y Z : Type 0} (g : Y → Z) (f : X → Y) (xs : List X) → map g (map f xs) ≡ map (λ x. g (f x)) xs
+pub map-map : {X Y Z : Type 0} (g : Y → Z) (f : X → Y) (xs : List X) → map g (map f xs) ≡ map (λ x. g (f x)) xs
 map-map g f [] = refl
 map-map g f (x ∷ xs) = ap (λ zs. g (f x) ∷ zs) (map-map g f xs)
 
 -- the claims that take part are the facts of those that are due
-due_is : (l : Ledger) (horizon : ℕ) → claims_due horizon (claim_facts l) ≡ map (claim_fact l) (due_claims l horizon)
+pub due_is : (l : Ledger) (horizon : ℕ) → claims_due horizon (claim_facts l) ≡ map (claim_fact l) (due_claims l horizon)
 due_is l horizon = filter-map (takes_part horizon) (claim_fact l) (reverse (filings l))
 
 firms_are : (l : Ledger) (fs : List Filing) → firms_in (map (claim_fact l) fs) ≡ firms_of fs

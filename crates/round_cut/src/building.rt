@@ -48,8 +48,9 @@ pub fn build_cut(
     Ok(Cut::new(round, kind, parties, due))
 }
 
-// Whether the claim is confirmed, has an open amount, and is due on or before the horizon.
-fn is_due(claim: &ClaimFact, horizon: Day) -> bool
+/// Whether the claim takes part in a round of this horizon: it is confirmed, has an open amount, and is due on or before that day.
+/// Takes no memory.
+pub fn is_due(claim: &ClaimFact, horizon: Day) -> bool
     ensures { result ≡ takes_part horizon claim.now }
 {
     matches!(claim.status, Status::Confirmed)

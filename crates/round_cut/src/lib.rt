@@ -12,6 +12,6 @@ mod laws;
 mod parties;
 mod windows;
 
-pub use building::build_cut;
+pub use building::{build_cut, is_due};
 pub use laws::{cut_of_a_history_is_of_its_facts, open_cut_is_well_formed};
 pub use windows::window;
