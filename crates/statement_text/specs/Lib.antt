@@ -3,3 +3,4 @@ pub mod Statements
 pub mod Drafts
 pub mod Steps
 pub mod Causes
+pub mod Weighed

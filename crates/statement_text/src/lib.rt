@@ -8,6 +8,8 @@
 //! - A text that is no statement is refused with the number of a line: the first up to which no statement begins like
 //!   the text, or one past the last.
 //! - The cause that is told is the first in the order of `StatementCause` that applies to this line.
+//!
+//! A weighted set-off is written in the same lines, with a head of its own, the weight of each claim, and the total.
 #![tactic(auto)]
 
 ghost use Rattle.statement_text.specs.Statements.{OneReadingLaw, WrittenLaw};
@@ -18,10 +20,12 @@ mod fields;
 mod index;
 mod line;
 mod reading;
+mod weighed;
 mod writing;
 
 pub use error::{StatementCause, StatementError};
 pub use reading::read_statement;
+pub use weighed::{write_total, write_weighed_claim, write_weighed_head};
 pub use writing::{write_claim, write_end, write_head, write_party};
 
 /// What the writers write of a cut and an outcome, line by line, is a statement of them, and a statement has one cut

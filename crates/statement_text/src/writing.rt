@@ -61,9 +61,8 @@ pub fn write_claim(buffer: &mut Vec<u8>, cut: &Cut, place: u32, discharge: u64)
     ensures len { vec_len buffer.new ≤ vec_len buffer.old + line_bytes }
     ensures room { vec_capacity buffer.old ≤ vec_capacity buffer.new }
 {
-    let claim = cut.claims()[place as usize];
-    let debtor = cut.parties()[claim.debtor as usize].firm;
-    put_claim(buffer, &claim.key, &debtor, claim.amount, discharge);
+    put_claim_at(buffer, cut, place, discharge);
+    put(buffer, b"\n");
 }
 
 /// Writes the line `END`, with its line feed, into a buffer that has `LINE_BYTES` spare.
@@ -76,19 +75,33 @@ pub fn write_end(buffer: &mut Vec<u8>)
     put(buffer, b"END\n");
 }
 
+/// Writes the fields of the claim at a place of a cut, without an end of the line.
+pub(crate) fn put_claim_at(buffer: &mut Vec<u8>, cut: &Cut, place: u32, discharge: u64)
+    requires cut { WellFormed cut.now }
+    requires place { place < length cut.now.claims }
+    requires discharge { discharge < 10 ^ 18 }
+    requires spare { vec_len buffer.old + line_bytes ≤ vec_capacity buffer.old }
+    ensures text { (none : CutClaim) → let c = slice_index_or cut.now.claims place none in buffer.new.items ≡ buffer.old.items ++ line_of (claim_fields c.key (firm_at cut.now.parties c.debtor) c.amount discharge) }
+    ensures len { vec_len buffer.new ≤ vec_len buffer.old + 100 }
+    ensures room { vec_capacity buffer.old ≤ vec_capacity buffer.new }
+{
+    let claim = cut.claims()[place as usize];
+    let debtor = cut.parties()[claim.debtor as usize].firm;
+    put_claim(buffer, &claim.key, &debtor, claim.amount, discharge);
+}
+
 fn put_claim(buffer: &mut Vec<u8>, key: &Key, debtor: &Name, amount: u64, discharge: u64)
     requires amount { amount < 10 ^ 18 }
     requires discharge { discharge < 10 ^ 18 }
     requires spare { vec_len buffer.old + line_bytes ≤ vec_capacity buffer.old }
-    ensures text { buffer.new.items ≡ buffer.old.items ++ line_of (claim_fields key.now debtor.now amount discharge) ++ codes "\n" }
-    ensures len { vec_len buffer.new ≤ vec_len buffer.old + line_bytes }
+    ensures text { buffer.new.items ≡ buffer.old.items ++ line_of (claim_fields key.now debtor.now amount discharge) }
+    ensures len { vec_len buffer.new ≤ vec_len buffer.old + 100 }
     ensures room { vec_capacity buffer.old ≤ vec_capacity buffer.new }
 {
     put(buffer, b"CLAIM ");
     put_names(buffer, key, debtor);
     put(buffer, b" ");
     put_sums(buffer, amount, discharge);
-    put(buffer, b"\n");
 }
 
 // Creditor, invoice and debtor.
