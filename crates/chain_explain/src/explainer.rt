@@ -98,6 +98,13 @@ impl Explainer {
         }
     }
 
+    /// The cut whose round is explained. Takes no memory.
+    pub fn cut(&self) -> &Cut
+        ensures { result.now ≡ self.now.cut }
+    {
+        &self.cut
+    }
+
     /// The places of the claims of the last chain, in its order. It is empty before the first. Takes no memory.
     pub fn claims(&self) -> &[u32]
         ensures { result.now ≡ self.now.claims }
