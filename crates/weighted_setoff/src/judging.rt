@@ -9,8 +9,9 @@ ghost use Rattle.setoff_model.specs.Weighted.{weighted_total_of, weighted_claims
 
 use setoff_model::CutClaim;
 
-// The sum of weight * discharge.
-pub(crate) fn total_of(weights: &[u32], discharges: &[u64]) -> u64
+/// The sum of weight * discharge, in cents. There are at most 262,144 of each, weights are at most 9, and discharges at most
+/// 999,999,999,999 cents. Takes no memory.
+pub fn weighted_total(weights: &[u32], discharges: &[u64]) -> u64
     requires one_each { length weights.now ≡ length discharges.now }
     requires few { length discharges.now ≤ most_claims }
     requires weights { (c : ℕ) → c < length discharges.now → slice_index weights.now c ≤ most_weight }

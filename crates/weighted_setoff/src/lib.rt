@@ -17,6 +17,7 @@ mod verdict;
 mod weights;
 
 pub use checker::WeightedChecker;
+pub use judging::weighted_total;
 pub use solving::solve_weighted;
 pub use verdict::WeightedVerdict;
 pub use weights::are_weights;

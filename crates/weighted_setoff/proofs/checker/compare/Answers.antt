@@ -4,8 +4,8 @@ use Rattle.setoff_model.specs.Limits.{most_amount}
 use Rattle.setoff_model.proofs.Columns.{amount_small, claims_long}
 use Rattle.weighted_setoff.proofs.checker.compare.Goals as goal
 
-pub total_of-total-requires-clause-discharges : goal.total_of-total-requires-clause-discharges
-total_of-total-requires-clause-discharges c =
+pub weighted_total-total-requires-clause-discharges : goal.weighted_total-total-requires-clause-discharges
+weighted_total-total-requires-clause-discharges c =
     let small : (k : ℕ) → k < length c.args.outcome.now.discharges → slice_index c.args.outcome.now.discharges k ≤ most_amount =
     λ k lt.
     let in' : k < length c.args.cut.now.claims = omega (arith, lt, c.requires.faultless.lengths.discharges, claims_long c.args.cut.now) in
