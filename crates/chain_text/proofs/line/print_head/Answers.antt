@@ -1,0 +1,11 @@
+use Rattle.setoff_model.proofs.Lists.{on_err}
+use Rattle.printed_text.proofs.Passing.{part_more, pass_line}
+use Rattle.chain_text.specs.Texts.{chain_head}
+use Rattle.chain_text.proofs.line.print_head.Goals as goal
+
+pub returns-in_err-make_room-clause-part : goal.returns-in_err-make_room-clause-part
+returns-in_err-make_room-clause-part g c = on_err _ _ (part_more _ _ c.args.buffer.now.items _ c.in_err-make_room.ensures.part)
+
+pub returns-clause-ok : goal.returns-clause-ok
+returns-clause-ok g c =
+    pass_line (g.K.Sink.held c.args.sink.now) (g.K.Sink.held c.make_room.new.sink) c.args.buffer.now.items c.make_room.new.buffer.items c.write_head.new.buffer.items (chain_head c.args.chain.closed c.args.chain.amount) c.in_ok-make_room.ensures.ok c.write_head.ensures.text
