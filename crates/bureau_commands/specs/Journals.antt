@@ -1,5 +1,5 @@
 -- What a journal holds, and the room behind it.
-use Rattle.std.specs.Prelude.{◌≡◌, ◌⊎◌, ℕ, ◌+◌, ◌*◌, ◌≤◌, List, length, count_by, IsTrue}
+use Rattle.std.specs.Prelude.{◌≡◌, ℕ, ◌+◌, ◌*◌, ◌≤◌, List, length, count_by, IsTrue}
 use Rattle.std.specs.List.{sum_by}
 use Rattle.setoff_model.specs.Limits.{most_entries, most_journal_bytes}
 use Rattle.disk_model.specs.Calls.{Seen}

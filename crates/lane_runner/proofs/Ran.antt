@@ -1,6 +1,6 @@
 -- A desk before and after a batch.
 use Rattle.std.specs.Prelude.{IsTrue, Some, None}
-use Rattle.std.proofs.Common.{◌≡◌, ◌∙◌, ℕ, Bool, true, false, List, [], ◌∷◌, ◌++◌, length, refl, sym, ap, subst}
+use Rattle.std.proofs.Common.{◌≡◌, ◌∙◌, ℕ, List, [], ◌++◌, length, refl, sym, ap, subst}
 use Rattle.std.proofs.lemmas.List.{append-nil}
 use Rattle.disk_model.specs.Calls.{Seen}
 use Rattle.claim_history.specs.declared.entry.Entry.{Entry}
