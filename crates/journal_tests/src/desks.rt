@@ -8,7 +8,7 @@ use claim_history::{Act, Reply, Why};
 use disk_model::MemoryDisk;
 use round_journal::RecordWhy;
 use setoff_checker::Checker;
-use setoff_model::{Key, Kind, Name, Outcome};
+use setoff_model::{Cut, Key, Kind, Name, Outcome};
 use std::process::Abort;
 
 // A desk on a disk with these bytes, of whose calls one fails.
@@ -225,14 +225,23 @@ fn every_crash_opens(rt: HostRuntime) {
     drop(disk);
 }
 
-// Closes a round of caller 1 and publishes the outcome without discharges and with prices of 0, where it is greatest.
-fn publish_nothing(rt: &(impl Abort + AllocGlobal), desk: &mut Desk<MemoryDisk>) -> PublishReply {
+// The amounts of the claims of a cut.
+fn amounts(rt: &(impl Abort + AllocGlobal), cut: &Cut) -> Vec<u64> {
+    let mut amounts = Vec::new(rt.alloc());
+    for claim in cut.claims() {
+        amounts.push(claim.amount).expect(rt, "memory");
+    }
+    amounts
+}
+
+// Closes a round of caller 1 and publishes the outcome that discharges all claims, with prices of 0, where it is greatest.
+fn publish_all(rt: &(impl Abort + AllocGlobal), desk: &mut Desk<MemoryDisk>) -> PublishReply {
     let cut = match desk.cut(1, Kind::Plain, day(rt, 20_453)) {
         Ok(CutReply::Frozen(cut)) => cut,
         _ => panic!(rt; "a round"),
     };
     assert!(rt; cut.well_formed());
-    let discharges = vec![in rt.alloc(); 0; cut.claims().len()].expect(rt, "memory");
+    let discharges = amounts(rt, &cut);
     let prices = vec![in rt.alloc(); 0; cut.parties().len()].expect(rt, "memory");
     let checker = Checker::for_cut(rt.alloc(), &cut).expect(rt, "memory");
     a_frozen_cut_may_be_published();
@@ -247,7 +256,7 @@ fn publish_nothing(rt: &(impl Abort + AllocGlobal), desk: &mut Desk<MemoryDisk>)
 #[test]
 fn a_round_is_published(rt: HostRuntime) {
     let mut desk = desk_on(&rt, b"", 0);
-    let reply = publish_nothing(&rt, &mut desk);
+    let reply = publish_all(&rt, &mut desk);
     assert!(rt; reply == PublishReply::Published { total: 0 });
     assert!(rt; desk.rounds().len() == 1);
     assert!(rt; counts(&desk) == (0, 2));
@@ -256,6 +265,62 @@ fn a_round_is_published(rt: HostRuntime) {
     let desk = reopened(&rt, desk, 46);
     assert!(rt; counts(&desk) == (2, 2));
     assert!(rt; closed(desk) == 46);
+}
+
+// A claim of one cent, and its confirmation.
+fn one_cent(
+    rt: &(impl Abort + AllocGlobal),
+    creditor: Name,
+    invoice: Name,
+    debtor: Name,
+) -> Vec<Act> {
+    let due = day(rt, 20_119);
+    let acts = vec![in rt.alloc();
+        Act::File {
+            key: key_of(creditor, invoice),
+            debtor,
+            amount: 1,
+            due
+        },
+        Act::Confirm {
+            key: key_of(creditor, invoice),
+            debtor
+        },
+    ];
+    acts.expect(rt, "memory")
+}
+
+// Two firms, and so many claims of each of them against the other.
+fn owe_each_other(rt: &(impl Abort + AllocGlobal), desk: &mut Desk<MemoryDisk>, claims: u32) {
+    let (a, b) = (name(rt, b"A"), name(rt, b"B"));
+    let firms = vec![in rt.alloc(); Act::Firm { firm: a }, Act::Firm { firm: b }];
+    are_done(rt, desk, firms.expect(rt, "memory"));
+    for number in 0..claims {
+        let text = format!(in rt.alloc(); "I-{number}").expect(rt, "memory");
+        let invoice = name(rt, text.as_bytes());
+        are_done(rt, desk, one_cent(rt, a, invoice, b));
+        are_done(rt, desk, one_cent(rt, b, invoice, a));
+    }
+}
+
+// No claim of a desk has an open amount.
+fn are_settled(desk: &Desk<MemoryDisk>) -> bool {
+    desk.book().claims().iter().all(|claim| claim.left == 0)
+}
+
+// A round of 20,000 claims is published, and read again. Of each claim the journal has two records of 48 bytes, and two more for
+// each further digit of its number; of the publication it has 22 bytes, 8 for each discharge and 4 for each price.
+#[test]
+fn a_round_of_many_claims_is_read_again(rt: HostRuntime) {
+    let mut desk = desk_on(&rt, b"", 0);
+    owe_each_other(&rt, &mut desk, 10_000);
+    assert!(rt; !are_settled(&desk));
+    let reply = publish_all(&rt, &mut desk);
+    assert!(rt; reply == PublishReply::Published { total: 20_000 });
+    let desk = reopened(&rt, desk, 1_235_638);
+    assert!(rt; counts(&desk) == (40_004, 40_004));
+    assert!(rt; are_settled(&desk));
+    assert!(rt; closed(desk) == 1_235_638);
 }
 
 // The header, and the record of FIRM A by caller 1.

@@ -1,10 +1,9 @@
 //! Tests of disks.
 
-use crate::made::disk_of;
+use crate::made::{disk_of, file};
 use disk_model::{Disk, FileDisk, MemoryDisk, runs_compose, torn_writes};
-use std::fs::{self, File};
+use std::fs;
 use std::process::Abort;
-use std::rt::Files;
 
 // Whether a piece is written into a disk in memory, both of less than 100 bytes.
 fn wrote(rt: &impl Abort, disk: &mut MemoryDisk, at: u64, piece: &[u8]) -> bool {
@@ -188,12 +187,6 @@ fn a_place_above_63_never_stands(rt: HostRuntime) {
     drop(disk);
 }
 
-// The file of this path.
-fn file<'a, R: Abort + AllocGlobal + Files<File = File>>(rt: &'a R, path: &str) -> FileDisk<'a, R> {
-    let path = String::from_str(rt.alloc(), path).expect(rt, "memory");
-    FileDisk::new(rt, path)
-}
-
 // Whether all writes are brought to the file.
 fn syncs(disk: &mut FileDisk<'_, HostRuntime>) -> bool {
     disk.sync().is_ok()
@@ -221,6 +214,15 @@ fn is_homeless(rt: &impl Abort, disk: &mut FileDisk<'_, HostRuntime>) {
     assert!(rt; !syncs(disk));
     assert!(rt; !writes(rt, disk, 0, b"a"));
     assert!(rt; disk.faults() == 2);
+}
+
+// A folder is no file, and each call of it fails.
+fn is_no_file(rt: &impl Abort, disk: &mut FileDisk<'_, HostRuntime>) {
+    assert!(rt; length(disk).is_none());
+    assert!(rt; !reads(disk, 0));
+    assert!(rt; !syncs(disk));
+    assert!(rt; !writes(rt, disk, 0, b"a"));
+    assert!(rt; disk.faults() == 4);
 }
 
 // A sync of a missing file succeeds, and it has no bytes.
@@ -259,6 +261,9 @@ fn a_file_is_written_synced_and_opened_again(rt: HostRuntime) {
     is_homeless(&rt, &mut homeless);
     drop(homeless);
     fs::create_dir(&rt, name).ok().expect(&rt, "a folder");
+    let mut folder = file(&rt, name);
+    is_no_file(&rt, &mut folder);
+    drop(folder);
     let mut missing = file(&rt, path);
     is_missing(&rt, &mut missing);
     drop(missing);

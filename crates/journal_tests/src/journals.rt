@@ -1,11 +1,13 @@
 //! Tests of journals.
 
-use crate::made::disk_of;
+use crate::made::{disk_of, file};
 use claim_history::Act;
-use disk_model::MemoryDisk;
+use disk_model::{Disk, FileDisk, MemoryDisk};
 use round_journal::{Device, Journal, JournalCause, Record, RecordWhy, read_records};
 use std::alloc::Global;
+use std::fs::{self, File};
 use std::process::Abort;
+use std::rt::Files;
 
 // The body of caller 1 and FIRM A, and that of caller 0 and ABANDON.
 const FIRM_A: [u8; 7] = [0, 0, 0, 1, 1, 1, b'A'];
@@ -17,8 +19,8 @@ const ONE: [u8; 21] = [
     b'B', b'U', b'R', b'E', b'A', b'U', b'J', b'1', 1, 0, 0, 0, 7, 0, 0, 0, 1, 1, 1, b'A', 0,
 ];
 
-// Appends to a journal in memory.
-fn append(rt: &impl Abort, journal: &mut Journal<MemoryDisk>, body: &[u8]) -> Result<(), Device> {
+// Appends to a journal of less than 1,000 bytes.
+fn append<D: Disk>(rt: &impl Abort, journal: &mut Journal<D>, body: &[u8]) -> Result<(), Device> {
     assert!(rt; journal.gate() < 1000);
     assert!(rt; body.len() < 1000);
     journal.append(body)
@@ -204,4 +206,68 @@ fn a_failed_opening_hands_the_disk_back(rt: HostRuntime) {
         assert!(rt; refused.cause == device);
         assert!(rt; refused.disk.moment() == 2 * fails);
     }
+}
+
+// Writes another last byte over the gate of a journal with one record, by call 1 of the disk. No sync brings it to the medium.
+fn write_last(rt: &impl Abort, disk: &mut MemoryDisk) {
+    assert!(rt; disk.bytes().len() == 21);
+    let written = disk.write_at(20, &[2]);
+    assert!(rt; written.is_ok());
+}
+
+// Of an opening call 2 of the disk is the sync, and call 3 fails. So what was written before is on the medium, whatever was read.
+#[test]
+fn an_opening_syncs_before_it_reads(rt: HostRuntime) {
+    let mut disk = disk_of(&rt, &ONE, &[3]);
+    write_last(&rt, &mut disk);
+    let opened = Journal::open(rt.alloc(), disk);
+    let refused = opened.err().expect(&rt, "a fault");
+    let disk = refused.disk;
+    assert!(rt; disk.moment() == 6);
+    for pick in 0..2 {
+        let image = disk.image(rt.alloc(), 6, pick).expect(&rt, "memory");
+        assert!(rt; image.last() == Some(&2));
+    }
+    drop(disk);
+}
+
+// An opening of the file is a fault, since another has it open.
+fn is_refused<R: Abort + AllocGlobal + Files<File = File>>(rt: &R, path: &str) {
+    let opened = Journal::open(rt.alloc(), file(rt, path));
+    let refused = opened.err().expect(rt, "a fault");
+    let device = JournalCause::Device {
+        before: 0,
+        after: 1,
+    };
+    assert!(rt; refused.cause == device);
+}
+
+// Appends to a journal on a file.
+fn add(rt: &impl Abort, journal: &mut Journal<FileDisk<'_, HostRuntime>>, body: &[u8]) {
+    let kept = append(rt, journal, body);
+    assert!(rt; kept.is_ok());
+}
+
+// How many records the file has.
+fn count<R: Abort + AllocGlobal + Files<File = File>>(rt: &R, path: &str) -> usize {
+    let mut disk = file(rt, path);
+    let records = read_records(rt.alloc(), &mut disk).ok();
+    records.expect(rt, "no fault").len()
+}
+
+// While a journal is open on a file, each other opening of it is a fault, and no record of the first is lost.
+#[test]
+fn a_file_has_one_open_journal(rt: HostRuntime) {
+    let path = "round_journal_twice";
+    let _ = fs::remove_file(&rt, path);
+    let opened = Journal::open(rt.alloc(), file(&rt, path)).ok();
+    let (mut journal, records) = opened.expect(&rt, "a journal");
+    assert!(rt; records.is_empty());
+    is_refused(&rt, path);
+    add(&rt, &mut journal, &FIRM_A);
+    is_refused(&rt, path);
+    add(&rt, &mut journal, &ABANDON);
+    drop(journal.close());
+    assert!(rt; count(&rt, path) == 2);
+    fs::remove_file(&rt, path).ok().expect(&rt, "a removal");
 }

@@ -1,15 +1,26 @@
 //! What the tests of several crates are made of.
 
 use claim_history::Day;
-use disk_model::MemoryDisk;
+use disk_model::{FileDisk, MemoryDisk};
 use setoff_model::Name;
+use std::fs::File;
 use std::process::Abort;
+use std::rt::Files;
 
 /// A disk in memory with these bytes, of whose calls these fail.
 pub(crate) fn disk_of(rt: &(impl Abort + AllocGlobal), bytes: &[u8], fails: &[u64]) -> MemoryDisk {
     let bytes = Vec::from_slice(rt.alloc(), bytes).expect(rt, "memory");
     let fails = Vec::from_slice(rt.alloc(), fails).expect(rt, "memory");
     MemoryDisk::new(rt.alloc(), bytes, fails)
+}
+
+/// The file of this path.
+pub(crate) fn file<'a, R: Abort + AllocGlobal + Files<File = File>>(
+    rt: &'a R,
+    path: &str,
+) -> FileDisk<'a, R> {
+    let path = String::from_str(rt.alloc(), path).expect(rt, "memory");
+    FileDisk::new(rt, path)
 }
 
 pub(crate) fn name(rt: &impl Abort, text: &[u8]) -> Name {
