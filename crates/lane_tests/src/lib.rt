@@ -6,6 +6,8 @@
 #[cfg(test)]
 mod acts;
 #[cfg(test)]
+mod funded;
+#[cfg(test)]
 mod lanes;
 #[cfg(test)]
 mod many;

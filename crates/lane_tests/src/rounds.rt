@@ -21,8 +21,8 @@ use turn_lock::{Registrar, Seat};
 
 // ---- acts
 
-// The 31st of December 2025.
-fn horizon(rt: &impl Abort) -> Day {
+/// The 31st of December 2025.
+pub fn horizon(rt: &impl Abort) -> Day {
     Day::of_number(20_453).expect(rt, "a day")
 }
 
@@ -255,8 +255,8 @@ fn second_round<R: Wait + Abort>(
     (seat, total)
 }
 
-// A shared desk on an empty disk, with two seats, the first of which has filed and confirmed three claims.
-fn two_seats<R: Wait + Abort>(
+/// A shared desk on an empty disk, with two seats, the first of which has filed and confirmed three claims.
+pub fn two_seats<R: Wait + Abort>(
     rt: &R,
     alloc: Global,
 ) -> (
@@ -288,8 +288,8 @@ fn opened(rt: &impl Abort, alloc: Global) -> (Shared<MemoryDisk>, Registrar<Memo
     }
 }
 
-// The desk, when its two seats have asked all.
-fn finished(
+/// The desk, when its two seats have asked all.
+pub fn finished(
     rt: &impl Abort,
     alloc: Global,
     shared: Shared<MemoryDisk>,
