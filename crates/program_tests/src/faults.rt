@@ -108,6 +108,47 @@ fn a_source_and_a_sink_fail(rt: HostRuntime) {
     }
 }
 
+const TWO_BATCHES: &[u8] = b"1 FIRM A\n1 FIRM B\nFENCE\n1 FIRM C\n";
+
+// The call of the sink that fails; the status, the output, the calls of the disk, and what an audit tells then.
+type WriteFault = (u64, u8, &'static [u8], u64, &'static [u8]);
+
+const WRITE_FAULTS: [WriteFault; 3] = [
+    (1, 4, b"", 12, b"yes acts 2 rounds 0\n"),
+    (
+        2,
+        4,
+        b"1 FIRM A = ok\n1 FIRM B = ok\n",
+        16,
+        b"yes acts 3 rounds 0\n",
+    ),
+    (
+        3,
+        0,
+        b"1 FIRM A = ok\n1 FIRM B = ok\n1 FIRM C = ok\n",
+        16,
+        b"yes acts 3 rounds 0\n",
+    ),
+];
+
+// The sink is called once for each batch. Where it fails at the first, the second is not served: nothing of it is in the journal.
+#[test]
+fn no_batch_is_served_after_a_write_that_failed(rt: HostRuntime) {
+    for (write, status, output, calls, verdict) in WRITE_FAULTS {
+        let left = left_on(
+            &rt,
+            rt.alloc(),
+            &["run"],
+            source_of(&rt, rt.alloc(), TWO_BATCHES),
+            sink_of(&rt, rt.alloc(), write),
+            disk_of(&rt, rt.alloc(), b"", 0),
+        );
+        left.expect(&rt, status, output);
+        assert!(rt; left.calls == calls);
+        expect_audit(&rt, rt.alloc(), left.journal.as_slice(), verdict);
+    }
+}
+
 // So many lines of positions, then a Close and one more position.
 fn positions_and_close(rt: &impl Abort, alloc: Global, positions: usize) -> Vec<u8> {
     let mut input = text_with(rt, alloc, b"", b"1 POSITION Z\n", positions);

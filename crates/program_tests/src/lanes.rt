@@ -4,6 +4,7 @@ ghost use Rattle.fault_count.specs.Counts.{HasRisen, next_count};
 ghost use Rattle.disk_model.specs.Untold.{untold};
 
 use crate::runs::{disk_of, expect_end, is_like, program, sink_of, source_of, words_of};
+use batch_runs::Unhindered;
 use bureau_commands::bureau;
 use bureau_edge::{BytesSink, Failed, Sink};
 use disk_model::{Disk, DiskFailed, MemoryDisk};
@@ -58,12 +59,13 @@ const WITH_SECOND: &[u8] =
 const BETWEEN: &[u8] =
     b"1 FIRM A = ok\n1 FIRM B = ok\n1 FIRM C = ok\n1 FILE B I-1 A 10.00 2025-01-31 = ok\n1 FILE C I-2 B 7.00 2025-01-31 = ok\n1 FILE A I-3 C 12.00 2025-01-31 = ok\n1 CONFIRM B I-1 A = ok\n1 CONFIRM C I-2 B = ok\n1 CONFIRM A I-3 C = ok\n1 CLOSE PLAIN 2025-12-31 = opened 1\n2 FIRM D = ok\n1 PUBLISH 1 = published 21.00\nROUND 1 PLAIN\nPARTY A 0.00 0.00 ?\nPARTY B 0.00 0.00 ?\nPARTY C 0.00 0.00 ?\nCLAIM B I-1 A 10.00 7.00\nCLAIM C I-2 B 7.00 7.00\nCLAIM A I-3 C 12.00 7.00\nEND\n";
 
-// What the lanes of a test tell one another: 1 in each word once it is so.
+// What the lanes of a test tell one another: 1 in each of the first words once it is so, and the number of the round that is solved.
 #[derive(Drop)]
 struct Signs {
     paused: AtomicU64,
     answered: AtomicU64,
     given_up: AtomicU64,
+    round: AtomicU64,
 }
 
 impl Signs {
@@ -72,6 +74,7 @@ impl Signs {
             paused: AtomicU64::new(0),
             answered: AtomicU64::new(0),
             given_up: AtomicU64::new(0),
+            round: AtomicU64::new(0),
         }
     }
 
@@ -110,7 +113,8 @@ impl Gate for HoldsSecond<'_> {
 struct HoldsRound<'a>(&'a Signs);
 
 impl Pause for HoldsRound<'_> {
-    fn pause<R: Wait>(&self, _rt: &R, _round: u32) {
+    fn pause<R: Wait>(&self, _rt: &R, round: u32) {
+        self.0.round.store(u64::from(round), Ordering::SeqCst);
         self.0.paused.store(1, Ordering::SeqCst);
         self.0.wait_for(&self.0.answered);
     }
@@ -131,15 +135,20 @@ fn others_are_answered_while_a_round_is_solved(rt: HostRuntime) {
         HoldsRound(&signs),
     );
     assert!(rt; signs.given_up.load(Ordering::SeqCst) == 0);
+    assert!(rt; signs.round.load(Ordering::SeqCst) == 1);
     assert!(rt; ended.status == 0);
     assert!(rt; is_like(ended.sink.bytes(), BETWEEN));
 }
 
-// ---- the calls of a sink and of a disk, in order
+// ---- the calls of a sink, a disk and a gate, in order
 
 const DISK_CALL: u64 = 1;
 
 const WRITE: u64 = 2;
+
+const BEFORE: u64 = 3;
+
+const AFTER: u64 = 4;
 
 // The calls so far, each in its place.
 #[derive(Drop)]
@@ -316,4 +325,41 @@ fn a_batch_is_written_after_its_last_call_of_the_disk(rt: HostRuntime) {
     assert!(rt; calls.next.load(Ordering::SeqCst) <= 500);
     let kinds = calls.kinds(&rt, rt.alloc());
     assert!(rt; kinds.as_slice() == [DISK_CALL, WRITE, DISK_CALL, WRITE].as_slice());
+}
+
+// Notes its calls.
+#[derive(Drop)]
+struct NotingGate<'a>(&'a Calls);
+
+impl Gate for NotingGate<'_> {
+    fn before<R: Wait>(&self, _rt: &R, _line: u64) {
+        self.0.note(BEFORE);
+    }
+
+    fn after<R: Wait>(&self, _rt: &R, _line: u64) {
+        self.0.note(AFTER);
+    }
+}
+
+// All calls of the disk for a line come between those of the gate round it. The first calls are those of the opening.
+#[test]
+fn a_line_is_served_between_the_calls_of_the_gate(rt: HostRuntime) {
+    let alloc = rt.alloc();
+    let calls = Calls::new(&rt, alloc);
+    let disk = NotingDisk {
+        disk: disk_of(&rt, alloc, b"", 0),
+        faults: 0,
+        calls: &calls,
+    };
+    let words = words_of(&rt, alloc, &["run"]);
+    let source = source_of(&rt, alloc, b"1 FIRM A\n1 FIRM B\n");
+    let sink = sink_of(&rt, alloc, 0);
+    let gate = NotingGate(&calls);
+    let ended = bureau(&rt, alloc, words, source, sink, disk, gate, Unhindered);
+    assert!(rt; ended.status == 0);
+    let kinds = calls.kinds(&rt, alloc);
+    let due = [
+        DISK_CALL, BEFORE, DISK_CALL, AFTER, BEFORE, DISK_CALL, AFTER,
+    ];
+    assert!(rt; kinds.as_slice() == due.as_slice());
 }
