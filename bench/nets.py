@@ -3,6 +3,8 @@
 
 FORM is `statement`, the text that `check` reads, with nothing discharged and all prices 0, or `dimacs`, the net as a
 minimum cost flow problem: the ground is its last node, an arc costs -1 a cent, and a window is an arc to the ground and one back.
+With `weighted` each claim is an arc of its own, which costs its weight, from 1 to 9, times -1 a cent: the generator of bench/drawn.sh
+draws the weights from the seed 1, in the order of the claims.
 SIZE is a fraction of the full size, by default 1. `bench/nets.py` alone lists the families, and FAMILY-funded is one with windows.
 
 A log-uniform amount is from 1 to 999,999,999,999 cents, each order of magnitude as likely as another.
@@ -237,12 +239,22 @@ def dimacs(parties, claims, _):
     arcs = {}
     for debtor, creditor, cents in claims:
         arcs[debtor, creditor] = arcs.get((debtor, creditor), 0) + cents
+    return problem(parties, [(*pair, cents, 1) for pair, cents in arcs.items()])
+
+
+def weighted(parties, claims, _):
+    draw = random.Random()
+    draw.state = 1
+    return problem(parties, [(*claim, step(draw) % 9 + 1) for claim in claims])
+
+
+def problem(parties, arcs):
     ground = len(parties) + 1
     rooms = [(firm, ground, room) for firm, (_, room) in enumerate(parties, 1) if room]
     spends = [(ground, firm, spend) for firm, (spend, _) in enumerate(parties, 1) if spend]
     yield f"p min {ground} {len(arcs) + len(rooms) + len(spends)}"
-    for (debtor, creditor), cents in arcs.items():
-        yield f"a {debtor + 1} {creditor + 1} 0 {cents} -1"
+    for debtor, creditor, cents, weight in arcs:
+        yield f"a {debtor + 1} {creditor + 1} 0 {cents} -{weight}"
     for tail, head, cents in rooms + spends:
         yield f"a {tail} {head} 0 {cents} 0"
 
@@ -254,7 +266,7 @@ def main():
             print(f"{name:12} {meaning}")
         return
     drawn_net = net(sys.argv[1], int(sys.argv[2]), float(sys.argv[4]) if len(sys.argv) > 4 else 1.0)
-    form = {"statement": statement, "dimacs": dimacs}[sys.argv[3]]
+    form = {"statement": statement, "dimacs": dimacs, "weighted": weighted}[sys.argv[3]]
     sys.stdout.writelines(f"{line}\n" for line in form(*drawn_net))
 
 

@@ -1,7 +1,8 @@
 #!/usr/bin/env python3
-"""Times the level solver beside LEMON on drawn nets: bench/solver.py [FAMILY[:SEED[:SIZE]]]..
+"""Times the level solver beside LEMON on drawn nets: bench/solver.py [weighted] [FAMILY[:SEED[:SIZE]]]..
 
-The families are those of bench/nets.py; without one all are taken, at full size. Each net is solved by a program that is made of the
+The families are those of bench/nets.py; without one all are taken, at full size. With the word `weighted` the claims have drawn weights
+and are not merged, and the weighted set-off is timed. Each net is solved by a program that is made of the
 crates as they stand, in a copy of the repository under bench/out, and by LEMON's network simplex and its three cost scalings, which
 bench/lemon.cc compiles from the headers of the package liblemon-dev. For each net it prints a line of a table: the processor
 milliseconds of either side, with the building of its graph, the least of three; how many times as fast the solver is as the
@@ -22,12 +23,15 @@ import tempfile
 HERE = pathlib.Path(__file__).resolve().parent
 OUT = HERE / "out"
 COPY = OUT / "repository"
-PROGRAM = COPY / "crates/timed_solver/out/timed_solver"
 LEMON = OUT / "lemon"
 COUNTER = OUT / "allocations.so"
 SECONDS = int(os.environ.get("BENCH_SECONDS", "25"))
 METHODS = ("simplex", "scaling", "push", "augment")
-DEPENDENCIES = "bureau_edge flow_solver level_solver netting_graph setoff_model statement_text"
+WEIGHTED = sys.argv[1:2] == ["weighted"]
+NAME = "timed_weighted" if WEIGHTED else "timed_solver"
+PROGRAM = COPY / "crates" / NAME / "out" / NAME
+DEPENDENCIES = "bureau_edge setoff_model statement_text " + ("weighted_setoff" if WEIGHTED else "flow_solver level_solver netting_graph")
+FORM = "weighted" if WEIGHTED else "dimacs"
 RUNS = 3
 # The program solves so often that this takes about so many seconds, and so many times at most.
 ENOUGH, MOST_SOLVES = 1.5, 100
@@ -70,14 +74,15 @@ def build():
     shutil.copy(HERE.parent / "HANDLES", COPY)
     for name in wanted:
         copy(HERE.parent / "crates" / name, COPY / "crates" / name)
-    source = COPY / "crates/timed_solver/src/main.rt"
-    if not source.exists() or source.read_bytes() != (HERE / "timed_solver.txt").read_bytes():
+    source = COPY / "crates" / NAME / "src/main.rt"
+    text = HERE / f"{NAME}.txt"
+    if not source.exists() or source.read_bytes() != text.read_bytes():
         source.parent.mkdir(parents=True, exist_ok=True)
-        shutil.copyfile(HERE / "timed_solver.txt", source)
+        shutil.copyfile(text, source)
     for folder in ("specs", "proofs"):
         (source.parent.parent / folder).mkdir(exist_ok=True)
         (source.parent.parent / folder / "Lib.antt").touch()
-    (COPY / "crates.txt").write_text("\n".join([*wanted.values(), f"timed_solver: {DEPENDENCIES}"]) + "\n")
+    (COPY / "crates.txt").write_text("\n".join([*wanted.values(), f"{NAME}: {DEPENDENCIES}"]) + "\n")
     print("bench: proving and linking the solver", file=sys.stderr)
     with open(OUT / "build.log", "w") as log:
         subprocess.run(["rt", "run", "--", "0"], cwd=source.parent.parent, stdin=subprocess.DEVNULL, stdout=log, stderr=log)
@@ -127,11 +132,11 @@ def lemon(problem):
 
 def row(word, folder):
     family, seed, size = (word.split(":") + ["1", "1"][word.count(":"):])
-    for form in ("statement", "dimacs"):
+    for form in ("statement", FORM):
         with open(folder / form, "w") as text:
             subprocess.run([sys.executable, HERE / "nets.py", family, seed, form, size], stdout=text, check=True)
     total, arcs, milliseconds, share = solver(folder / "statement")
-    others = lemon(folder / "dimacs")
+    others = lemon(folder / FORM)
     best = min((value[0] for value in others.values() if value), default=None)
     simplex = others["simplex"]
     scaling = min((others[name][0] for name in METHODS[1:] if others[name]), default=None)
@@ -147,7 +152,7 @@ def row(word, folder):
 
 
 def main():
-    words = sys.argv[1:] or families()
+    words = sys.argv[2 if WEIGHTED else 1 :] or families()
     build()
     print("| net | seed | arcs | total | solver, ms | simplex, ms | scaling, ms | times as fast | bytes an arc | load |")
     print("|---|---|---|---|---|---|---|---|---|---|")
