@@ -7,3 +7,5 @@
 mod acts;
 #[cfg(test)]
 mod boards;
+#[cfg(test)]
+mod threads;
