@@ -4,7 +4,6 @@ pub mod Commands
 pub mod Served
 pub mod Bound
 pub mod Completeness
-pub mod Statuses
 pub mod Inputs
 pub mod InputCauses
 pub mod JournalCauses

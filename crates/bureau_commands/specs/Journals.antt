@@ -12,7 +12,7 @@ use Rattle.journal_replay.specs.Replays.{AreSound}
 use Rattle.served_lines.specs.Bound.{closes, endings_with}
 use Rattle.bureau_desk.specs.declared.desk_refused.DeskCause.{DeskCause}
 use Rattle.bureau_desk.specs.Laws.{IsFault}
-use Rattle.desk_text.specs.Texts.{unsound_status}
+use Rattle.bureau_reports.specs.DiskTexts.{unsound_status}
 
 -- the disk tells its bytes, and they stand for sound records
 pub record HoldsSound (disk : Seen) : Type 0 where

@@ -1,18 +1,19 @@
 -- What is told of a disk that was read.
-use Rattle.std.proofs.Common.{◌≡◌, ℕ, ◌≤◌, Bool, false, List, subst, true≢false, arith}
+use Rattle.std.proofs.Common.{◌≡◌, ◌⊎◌, ⊎_elim, inl, inr, ℕ, ◌≤◌, Bool, false, List, [], ◌∷◌, refl, subst, true≢false, arith}
 use Rattle.fault_count.specs.Counts.{HasRisen}
 use Rattle.claim_history.specs.declared.entry.Entry.{Entry}
 use Rattle.claim_history.specs.declared.entry.Reply.{Reply}
 use Rattle.claim_history.specs.declared.entry.Reply.TheVariants as reply
-use Rattle.claim_history.specs.Facts.{Ledger}
 use Rattle.claim_history.specs.History.{is_no_refusal}
 use Rattle.claim_history.specs.Laws.{IsReplyInRange}
-use Rattle.claim_book.specs.Book.{ledger_of}
 use Rattle.bureau_desk.specs.declared.desk_refused.DeskCause.{DeskCause}
 use Rattle.bureau_desk.specs.declared.desk_refused.DeskCause.TheVariants.{Memory, Device, BadHeader, BadRecord, BadAct, Overfull}
 use Rattle.bureau_desk.specs.Opening.{HasDeskCause, HasViewCause, HasViewed}
-use Rattle.desk_text.specs.Texts.{IsTellable, opening_status, unsound_status}
-use Rattle.bureau_reports.specs.Reports.{IsTableDue, IsTextDue, made, no_table_memory, no_text_memory, table}
+use Rattle.bureau_reports.specs.DiskTexts.{IsTellable, opening_status, unsound_status}
+use Rattle.command_words.specs.declared.journal_report.JournalReport.{JournalReport}
+use Rattle.command_words.specs.declared.journal_report.JournalReport.TheVariants as journals
+use Rattle.bureau_reports.specs.Statuses.{IsOneOf}
+use Rattle.bureau_reports.specs.Journals.{IsBookDue, IsJournalDue, made, no_text_memory, no_view_memory, unviewed_status, viewed}
 
 -- a refusal has no amount
 refusal_fits : (got : Reply) → is_no_refusal got ≡ false → IsReplyInRange got
@@ -34,74 +35,61 @@ tellable tells bytes low high (BadAct offset got) h = refusal_fits got h.2.tells
 tellable tells bytes low high (Overfull offset) h = tt
 
 -- a reading has a cause as an opening has
-pub viewed : (tells : Bool) (bytes : List ℕ) (low high : ℕ) (cause : DeskCause) → HasViewCause tells bytes low high cause → HasDeskCause tells bytes low high cause
-viewed tells bytes low high Memory h = h
-viewed tells bytes low high (Device before after) h = (subst (λ (n : ℕ). n ≤ before) h.0 (omega arith), h.1, h.2)
-viewed tells bytes low high BadHeader h = h
-viewed tells bytes low high (BadRecord offset why) h = h
-viewed tells bytes low high (BadAct offset got) h = h
-viewed tells bytes low high (Overfull offset) h = h
+pub as_opening : (tells : Bool) (bytes : List ℕ) (low high : ℕ) (cause : DeskCause) → HasViewCause tells bytes low high cause → HasDeskCause tells bytes low high cause
+as_opening tells bytes low high Memory h = h
+as_opening tells bytes low high (Device before after) h = (subst (λ (n : ℕ). n ≤ before) h.0 (omega arith), h.1, h.2)
+as_opening tells bytes low high BadHeader h = h
+as_opening tells bytes low high (BadRecord offset why) h = h
+as_opening tells bytes low high (BadAct offset got) h = h
+as_opening tells bytes low high (Overfull offset) h = h
 
 -- ---- statuses
+
+pub opening_among : (cause : DeskCause) → IsOneOf (5 ∷ 8 ∷ 9 ∷ []) (opening_status cause)
+opening_among Memory = inr (inr (inl refl))
+opening_among (Device before after) = inl refl
+opening_among BadHeader = inr (inl refl)
+opening_among (BadRecord offset why) = inr (inl refl)
+opening_among (BadAct offset got) = inr (inl refl)
+opening_among (Overfull offset) = inr (inl refl)
+
+unsound_among : (cause : DeskCause) → IsOneOf (1 ∷ 5 ∷ 8 ∷ 9 ∷ []) (unsound_status cause)
+unsound_among Memory = inr (inr (inr (inl refl)))
+unsound_among (Device before after) = inr (inl refl)
+unsound_among BadHeader = inr (inr (inl refl))
+unsound_among (BadRecord offset why) = inr (inr (inl refl))
+unsound_among (BadAct offset got) = inl refl
+unsound_among (Overfull offset) = inl refl
+
+pub unviewed_among : (report : JournalReport) (cause : DeskCause) → IsOneOf (1 ∷ 5 ∷ 8 ∷ 9 ∷ []) (unviewed_status report cause)
+unviewed_among journals.Audit cause = unsound_among cause
+unviewed_among journals.Positions cause = inr (opening_among cause)
+unviewed_among (journals.Notices today) cause = inr (opening_among cause)
+unviewed_among (journals.Weigh kind today) cause = inr (opening_among cause)
 
 -- where one tells of a device, the disk's count rose
 device_rose : (low high before after : ℕ) → (before ≡ low) × (after ≡ high) × HasRisen before after → HasRisen low high
 device_rose low high before after counts =
     subst (λ (n : ℕ). HasRisen n high) counts.0 (subst (λ (n : ℕ). HasRisen before n) counts.1 counts.2)
 
-pub view_rose : (tells : Bool) (bytes : List ℕ) (low high : ℕ) (cause : DeskCause) → HasViewCause tells bytes low high cause → opening_status cause ≡ 5 → HasRisen low high
-view_rose tells bytes low high Memory h five = absurd (omega (arith, five))
+view_rose : (tells : Bool) (bytes : List ℕ) (low high : ℕ) (cause : DeskCause) → HasViewCause tells bytes low high cause → (opening_status cause ≡ 5) ⊎ (unsound_status cause ≡ 5) → HasRisen low high
+view_rose tells bytes low high Memory h five = absurd (⊎_elim (λ e. omega (arith, e)) (λ e. omega (arith, e)) five)
 view_rose tells bytes low high (Device before after) h five = device_rose low high before after h
-view_rose tells bytes low high BadHeader h five = absurd (omega (arith, five))
-view_rose tells bytes low high (BadRecord offset why) h five = absurd (omega (arith, five))
-view_rose tells bytes low high (BadAct offset got) h five = absurd (omega (arith, five))
-view_rose tells bytes low high (Overfull offset) h five = absurd (omega (arith, five))
+view_rose tells bytes low high BadHeader h five = absurd (⊎_elim (λ e. omega (arith, e)) (λ e. omega (arith, e)) five)
+view_rose tells bytes low high (BadRecord offset why) h five = absurd (⊎_elim (λ e. omega (arith, e)) (λ e. omega (arith, e)) five)
+view_rose tells bytes low high (BadAct offset got) h five = absurd (⊎_elim (λ e. omega (arith, e)) (λ e. omega (arith, e)) five)
+view_rose tells bytes low high (Overfull offset) h five = absurd (⊎_elim (λ e. omega (arith, e)) (λ e. omega (arith, e)) five)
 
-pub unsound_rose : (tells : Bool) (bytes : List ℕ) (low high : ℕ) (cause : DeskCause) → HasViewCause tells bytes low high cause → unsound_status cause ≡ 5 → HasRisen low high
-unsound_rose tells bytes low high Memory h five = absurd (omega (arith, five))
-unsound_rose tells bytes low high (Device before after) h five = device_rose low high before after h
-unsound_rose tells bytes low high BadHeader h five = absurd (omega (arith, five))
-unsound_rose tells bytes low high (BadRecord offset why) h five = absurd (omega (arith, five))
-unsound_rose tells bytes low high (BadAct offset got) h five = absurd (omega (arith, five))
-unsound_rose tells bytes low high (Overfull offset) h five = absurd (omega (arith, five))
+pub unviewed_rose : (report : JournalReport) (tells : Bool) (bytes : List ℕ) (low high : ℕ) (cause : DeskCause) → HasViewCause tells bytes low high cause → unviewed_status report cause ≡ 5 → HasRisen low high
+unviewed_rose journals.Audit tells bytes low high cause h five = view_rose tells bytes low high cause h (inr five)
+unviewed_rose journals.Positions tells bytes low high cause h five = view_rose tells bytes low high cause h (inl five)
+unviewed_rose (journals.Notices today) tells bytes low high cause h five = view_rose tells bytes low high cause h (inl five)
+unviewed_rose (journals.Weigh kind today) tells bytes low high cause h five = view_rose tells bytes low high cause h (inl five)
 
--- none tells of the sink or of a source
-pub no_four : (cause : DeskCause) → opening_status cause ≡ 4 → ⊥
-no_four Memory four = omega (arith, four)
-no_four (Device before after) four = omega (arith, four)
-no_four BadHeader four = omega (arith, four)
-no_four (BadRecord offset why) four = omega (arith, four)
-no_four (BadAct offset got) four = omega (arith, four)
-no_four (Overfull offset) four = omega (arith, four)
+-- ---- books
 
-pub no_unsound_four : (cause : DeskCause) → unsound_status cause ≡ 4 → ⊥
-no_unsound_four Memory four = omega (arith, four)
-no_unsound_four (Device before after) four = omega (arith, four)
-no_unsound_four BadHeader four = omega (arith, four)
-no_unsound_four (BadRecord offset why) four = omega (arith, four)
-no_unsound_four (BadAct offset got) four = omega (arith, four)
-no_unsound_four (Overfull offset) four = omega (arith, four)
-
-pub no_three : (cause : DeskCause) → opening_status cause ≡ 3 → ⊥
-no_three Memory three = omega (arith, three)
-no_three (Device before after) three = omega (arith, three)
-no_three BadHeader three = omega (arith, three)
-no_three (BadRecord offset why) three = omega (arith, three)
-no_three (BadAct offset got) three = omega (arith, three)
-no_three (Overfull offset) three = omega (arith, three)
-
-pub no_unsound_three : (cause : DeskCause) → unsound_status cause ≡ 3 → ⊥
-no_unsound_three Memory three = omega (arith, three)
-no_unsound_three (Device before after) three = omega (arith, three)
-no_unsound_three BadHeader three = omega (arith, three)
-no_unsound_three (BadRecord offset why) three = omega (arith, three)
-no_unsound_three (BadAct offset got) three = omega (arith, three)
-no_unsound_three (Overfull offset) three = omega (arith, three)
-
--- ---- tables
-
--- the text of a book's table is due for the disk that has the book
-pub table_due : (text_of : Ledger → List ℕ) (tells : Bool) (bytes : List ℕ) (low high : ℕ) (history : List Entry) → HasViewed tells bytes history → (status : ℕ) (text : List ℕ)
-    → IsTextDue (text_of (ledger_of history)) status text → IsTableDue text_of tells bytes low high status text
-table_due text_of tells bytes low high history has status text no_text_memory = no_table_memory
-table_due text_of tells bytes low high history has status text made = table history has
+-- what is due for a book is due for the disk that has it
+pub book_due : (report : JournalReport) (tells : Bool) (bytes : List ℕ) (low high : ℕ) (history : List Entry) → HasViewed tells bytes history → (status : ℕ) (text : List ℕ)
+    → IsBookDue report history status text → IsJournalDue report tells bytes low high status text
+book_due report tells bytes low high history has status text no_text_memory = no_view_memory
+book_due report tells bytes low high history has status text (made t is) = viewed history has t is

@@ -1,2 +1,4 @@
-pub mod Tables
-pub mod Reports
+pub mod Statuses
+pub mod DiskTexts
+pub mod Inputs
+pub mod Journals

@@ -2,17 +2,18 @@
 ghost use Rattle.std.specs.Prelude.{◌≡◌, ◌≢◌};
 ghost use Rattle.std.specs.Str.Lines.{lines};
 ghost use Rattle.fault_count.specs.Counts.{HasRisen};
-ghost use Rattle.statement_text.specs.Causes.{HasCause};
-ghost use Rattle.statement_text.specs.Statements as statements;
+ghost use Rattle.command_words.specs.declared.input_report.InputReport.TheVariants as inputs;
+ghost use Rattle.statement_text.specs.Statements.{IsStatement};
 ghost use Rattle.printed_text.specs.Writing.{Wrote};
-ghost use Rattle.bureau_reports.specs.Reports.{IsCheckDue};
+ghost use Rattle.bureau_reports.specs.Inputs.{IsInputDue};
 
+use crate::statement::tell_bad_statement;
 use bureau_edge::Sink;
-use printed_text::{end_with, status_of_verdict, write_bad_statement, write_verdict};
+use printed_text::{end_with, status_of_verdict, write_verdict};
 use setoff_checker::Checker;
 use setoff_model::limits::LINE_BYTES;
 use setoff_model::{Cut, Outcome};
-use statement_text::{StatementCause, StatementError, read_statement};
+use statement_text::{StatementError, read_statement};
 use std::alloc::Global;
 
 // Judges a statement that was read.
@@ -23,8 +24,8 @@ fn check_statement<K: Sink>(
     outcome: &Outcome,
     sink: &mut K,
 ) -> u8
-    requires { statements.IsStatement (lines input.now) cut.now outcome.now }
-    ensures wrote { Wrote (IsCheckDue input.now) (K.held sink.old) (K.held sink.new) result }
+    requires { IsStatement (lines input.now) cut.now outcome.now }
+    ensures wrote { Wrote (IsInputDue inputs.Check input.now) (K.held sink.old) (K.held sink.new) result }
     ensures write_fault { result ≡ 4 → HasRisen (K.faults sink.old) (K.faults sink.new) }
     ensures no_read_fault { result ≢ 3 }
     ensures no_disk_fault { result ≢ 5 }
@@ -41,33 +42,9 @@ fn check_statement<K: Sink>(
     end_with(sink, status_of_verdict(verdict), buffer.as_slice())
 }
 
-// Tells the first line that is not in the grammar of statements.
-fn tell_bad_statement<K: Sink>(
-    alloc: Global,
-    input: &[u8],
-    line: u64,
-    cause: StatementCause,
-    sink: &mut K,
-) -> u8
-    requires first { statements.IsFirstBadLine (lines input.now) line }
-    requires cause { HasCause (lines input.now) line cause }
-    requires none { statements.IsNoStatement (lines input.now) }
-    ensures wrote { Wrote (IsCheckDue input.now) (K.held sink.old) (K.held sink.new) result }
-    ensures write_fault { result ≡ 4 → HasRisen (K.faults sink.old) (K.faults sink.new) }
-    ensures no_read_fault { result ≢ 3 }
-    ensures no_disk_fault { result ≢ 5 }
-{
-    let Ok(mut buffer) = Vec::with_capacity(alloc, LINE_BYTES) else {
-        return end_with(sink, 9, b"fault memory\n");
-    };
-    write_bad_statement(&mut buffer, line, cause);
-    end_with(sink, 6, buffer.as_slice())
-}
-
-/// Reads a statement from an input, judges it, and prints the verdict. Gives the status: that of the verdict, 0 or 1; 6 where the
-/// input is no statement; 9 where memory was missing; 4 where the sink failed.
-pub fn check_input<K: Sink>(alloc: Global, input: &[u8], sink: &mut K) -> u8
-    ensures wrote { Wrote (IsCheckDue input.now) (K.held sink.old) (K.held sink.new) result }
+/// Reads a statement from an input, judges it, and prints the verdict.
+pub(crate) fn check_input<K: Sink>(alloc: Global, input: &[u8], sink: &mut K) -> u8
+    ensures wrote { Wrote (IsInputDue inputs.Check input.now) (K.held sink.old) (K.held sink.new) result }
     ensures write_fault { result ≡ 4 → HasRisen (K.faults sink.old) (K.faults sink.new) }
     ensures no_read_fault { result ≢ 3 }
     ensures no_disk_fault { result ≢ 5 }

@@ -1,10 +1,11 @@
 //! Invoices as requests: from the bytes of CSV to the lines that file them.
 ghost use Rattle.std.specs.Prelude.{◌≡◌, ◌≢◌};
 ghost use Rattle.fault_count.specs.Counts.{HasRisen};
+ghost use Rattle.command_words.specs.declared.input_report.InputReport.TheVariants as inputs;
 ghost use Rattle.request_text.specs.Lanes.{IsLane};
 ghost use Rattle.firm_notices.specs.Invoices.{IsFirstBadRow};
 ghost use Rattle.printed_text.specs.Writing.{Wrote};
-ghost use Rattle.bureau_reports.specs.Reports.{IsImportDue};
+ghost use Rattle.bureau_reports.specs.Inputs.{IsInputDue};
 
 use bureau_edge::Sink;
 use firm_notices::{ImportError, RowCause, import};
@@ -22,7 +23,7 @@ fn tell_bad_row<K: Sink>(
     sink: &mut K,
 ) -> u8
     requires { IsFirstBadRow input.now row cause }
-    ensures wrote { Wrote (IsImportDue lane input.now) (K.held sink.old) (K.held sink.new) result }
+    ensures wrote { Wrote (IsInputDue (inputs.Import lane) input.now) (K.held sink.old) (K.held sink.new) result }
     ensures write_fault { result ≡ 4 → HasRisen (K.faults sink.old) (K.faults sink.new) }
     ensures no_read_fault { result ≢ 3 }
     ensures no_disk_fault { result ≢ 5 }
@@ -34,11 +35,10 @@ fn tell_bad_row<K: Sink>(
     end_with(sink, 6, buffer.as_slice())
 }
 
-/// Reads invoices from an input, and prints the lines of a lane that file them. The lane is 1 to 16. Gives the status: 0; 6 where the
-/// input is no invoices; 9 where memory was missing; 4 where the sink failed.
-pub fn import_input<K: Sink>(alloc: Global, input: &[u8], lane: u32, sink: &mut K) -> u8
+/// Reads invoices from an input, and prints the lines of a lane that file them.
+pub(crate) fn import_input<K: Sink>(alloc: Global, input: &[u8], lane: u32, sink: &mut K) -> u8
     requires { IsLane lane }
-    ensures wrote { Wrote (IsImportDue lane input.now) (K.held sink.old) (K.held sink.new) result }
+    ensures wrote { Wrote (IsInputDue (inputs.Import lane) input.now) (K.held sink.old) (K.held sink.new) result }
     ensures write_fault { result ≡ 4 → HasRisen (K.faults sink.old) (K.faults sink.new) }
     ensures no_read_fault { result ≢ 3 }
     ensures no_disk_fault { result ≢ 5 }

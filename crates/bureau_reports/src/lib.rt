@@ -1,19 +1,21 @@
-//! Reports: what is told of an input or of a disk that stays as it is. Each is one text that is made whole and then printed.
+//! Reports: what is told of an input or of a journal that stays as it is.
 //!
-//! The report on a statement is its verdict, and that on a journal tells whether it is sound. The tables of a journal's book are its
-//! positions and its notices. Invoices become the lines of requests that file them. For each there is a word of `specs/` that says
-//! which status and which text are due; the sink takes that text, or some first bytes of it where it failed, and then the status
-//! is 4. No report writes to a disk.
+//! A report on an input is the verdict on a statement, the chains that explain it, or the lines that file invoices. A report on a
+//! journal tells whether it is sound, or prints a table of its book: the positions, the open claims, or a weighted set-off. For each
+//! there is a word of `specs/` that says which status and which text are due; the sink takes that text, or some first bytes of it
+//! where it failed, and then the status is 4. No report writes to a disk.
 #![tactic(auto)]
 
-mod audit;
 mod check;
+mod explain;
+mod fault_line;
 mod import;
+mod input;
+mod journal;
 mod refused;
-mod tables;
+mod sound_line;
+mod statement;
 
-pub use audit::audit_disk;
-pub use check::check_input;
-pub use import::import_input;
+pub use input::report_input;
+pub use journal::report_journal;
 pub use refused::tell_refused;
-pub use tables::{Table, print_table};

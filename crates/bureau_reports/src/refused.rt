@@ -2,12 +2,12 @@
 ghost use Rattle.std.specs.Prelude.{◌≡◌, ◌≤◌, [], vec_capacity};
 ghost use Rattle.setoff_model.specs.Limits.{line_bytes};
 ghost use Rattle.fault_count.specs.Counts.{HasRisen};
-ghost use Rattle.desk_text.specs.Texts.{opening_status, opening_text, IsTellable};
+ghost use Rattle.bureau_reports.specs.DiskTexts.{opening_status, opening_text, IsTellable};
 ghost use Rattle.printed_text.specs.Writing.{IsWritten};
 
+use crate::fault_line::{status_of_opening, write_opening_fault};
 use bureau_desk::DeskCause;
 use bureau_edge::Sink;
-use desk_text::{status_of_opening, write_opening_fault};
 use printed_text::end_with;
 
 /// Tells why no desk was opened on a disk, or no book made of it, and says the status. The buffer is empty and has room for

@@ -6,13 +6,18 @@ use Rattle.std.proofs.lemmas.Fmt.{decimal-digits_of, decimal_digit, decimal_inje
 use Rattle.clap.specs.Walk.{Row, Text, first_of}
 use Rattle.clap.specs.Simple.{Shape, subcommand_of}
 use Rattle.clap.specs.Faults.{fault_of}
+use Rattle.setoff_model.specs.declared.kind.Kind.{Kind}
+use Rattle.setoff_model.specs.declared.kind.Kind.TheVariants.{Plain, Funded}
+use Rattle.setoff_model.specs.Texts.{kind_text}
 use Rattle.claim_history.specs.Days.{DayTextsLaw, day_text}
 use Rattle.command_words.specs.declared.command.Command.{Command}
 use Rattle.command_words.specs.declared.command.Command.TheVariants as commands
+use Rattle.command_words.specs.declared.input_report.InputReport.TheVariants as inputs
+use Rattle.command_words.specs.declared.journal_report.JournalReport.TheVariants as journals
 use Rattle.command_words.specs.Program.{program}
 use Rattle.command_words.specs.Words.{AreNoWords, AreWordsOf, IsCommand, OneCommandLaw, name_of, values_of, words_of}
 use Rattle.command_words.specs.Reading.{IsFoundIn, IsGiven, is_option}
-use Rattle.command_words.proofs.Walks.{IsEntered, IsPlain, audit_entered, check_entered, first_is, found_is, import_entered, import_rest, import_taken, import_values, known_name, name_and, name_and_three, no_words, notices_entered, notices_rest, notices_taken, notices_values, or_false, plain_of, plain_rest, plain_taken, positions_entered, run_entered, sub_is, trial_entered, trial_rest, trial_taken, trial_values}
+use Rattle.command_words.proofs.Walks.{IsEntered, IsPlain, audit_entered, check_entered, explain_entered, first_is, found_is, import_entered, import_rest, import_taken, import_values, known_name, name_and, name_and_three, name_and_two, no_words, notices_entered, notices_rest, notices_taken, notices_values, or_false, plain_of, plain_rest, plain_taken, positions_entered, run_entered, sub_is, trial_entered, trial_rest, trial_taken, trial_values, weigh_entered, weigh_rest, weigh_taken, weigh_values}
 
 -- ---- texts of values
 
@@ -26,6 +31,10 @@ digits_plain (d ∷ ds) = digit_plain d
 decimal_plain : (n : ℕ) → n < 2 ^ 64 → is_option (decimal n) ≡ false
 decimal_plain zero small = ap is_option (decimal_digit 0 (omega arith))
 decimal_plain (suc n) small = ap is_option (decimal-digits_of (suc n) (omega arith) small) ∙ digits_plain (digits_of 10 (suc n))
+
+kind_plain : (k : Kind) → is_option (kind_text k) ≡ false
+kind_plain Plain = refl
+kind_plain Funded = refl
 
 day_plain : (d : ℕ) → is_option (day_text d) ≡ false
 day_plain d = digit_plain _
@@ -48,16 +57,28 @@ same_value c d place e = ap (λ (ws : List Text). get_or ws place []) e
 same_number : (a b : ℕ) → a < 2 ^ 64 → b < 2 ^ 64 → decimal a ≡ decimal b → a ≡ b
 same_number a b la lb e = decimal_injective a b la lb e
 
+kind_is : (j k : Kind) → kind_text j ≡ kind_text k → j ≡ k
+kind_is Plain Plain e = refl
+kind_is Plain Funded e = absurd (cc e)
+kind_is Funded Plain e = absurd (cc e)
+kind_is Funded Funded e = refl
+
 -- a command with the words of another
 of_words : DayTextsLaw → (c d : Command) → IsCommand c → IsCommand d → words_of c ≡ words_of d → c ≡ d
 of_words days commands.Run d p q e = grind (arith, same_name commands.Run d e)
-of_words days commands.Check d p q e = grind (arith, same_name commands.Check d e)
-of_words days commands.Audit d p q e = grind (arith, same_name commands.Audit d e)
-of_words days commands.Positions d p q e = grind (arith, same_name commands.Positions d e)
-of_words days (commands.Notices x) (commands.Notices y) p q e = ap commands.Notices (days x y p q (same_value (commands.Notices x) (commands.Notices y) 1 e))
-of_words days (commands.Notices x) d p q e = grind (arith, same_name (commands.Notices x) d e)
-of_words days (commands.Import x) (commands.Import y) p q e = ap commands.Import (same_number x y (omega (arith, p.1)) (omega (arith, q.1)) (same_value (commands.Import x) (commands.Import y) 1 e))
-of_words days (commands.Import x) d p q e = grind (arith, same_name (commands.Import x) d e)
+of_words days (commands.OnInput inputs.Check) d p q e = grind (arith, same_name (commands.OnInput inputs.Check) d e)
+of_words days (commands.OnInput inputs.Explain) d p q e = grind (arith, same_name (commands.OnInput inputs.Explain) d e)
+of_words days (commands.OnJournal journals.Audit) d p q e = grind (arith, same_name (commands.OnJournal journals.Audit) d e)
+of_words days (commands.OnJournal journals.Positions) d p q e = grind (arith, same_name (commands.OnJournal journals.Positions) d e)
+of_words days (commands.OnJournal (journals.Notices x)) (commands.OnJournal (journals.Notices y)) p q e = ap (λ (n : ℕ). commands.OnJournal (journals.Notices n)) (days x y p q (same_value (commands.OnJournal (journals.Notices x)) (commands.OnJournal (journals.Notices y)) 1 e))
+of_words days (commands.OnJournal (journals.Notices x)) d p q e = grind (arith, same_name (commands.OnJournal (journals.Notices x)) d e)
+of_words days (commands.OnInput (inputs.Import x)) (commands.OnInput (inputs.Import y)) p q e = ap (λ (n : ℕ). commands.OnInput (inputs.Import n)) (same_number x y (omega (arith, p.1)) (omega (arith, q.1)) (same_value (commands.OnInput (inputs.Import x)) (commands.OnInput (inputs.Import y)) 1 e))
+of_words days (commands.OnInput (inputs.Import x)) d p q e = grind (arith, same_name (commands.OnInput (inputs.Import x)) d e)
+of_words days (commands.OnJournal (journals.Weigh j x)) (commands.OnJournal (journals.Weigh k y)) p q e =
+    let a = kind_is j k (same_value (commands.OnJournal (journals.Weigh j x)) (commands.OnJournal (journals.Weigh k y)) 1 e) in
+    let b = days x y p q (same_value (commands.OnJournal (journals.Weigh j x)) (commands.OnJournal (journals.Weigh k y)) 2 e) in
+    rw (a, b) refl
+of_words days (commands.OnJournal (journals.Weigh j x)) d p q e = grind (arith, same_name (commands.OnJournal (journals.Weigh j x)) d e)
 of_words days (commands.Trial x y z) (commands.Trial u v w) p q e =
     let a = same_number x u (omega (arith, p.1)) (omega (arith, q.1)) (same_value (commands.Trial x y z) (commands.Trial u v w) 1 e) in
     let b = same_number y v (omega (arith, p.3)) (omega (arith, q.3)) (same_value (commands.Trial x y z) (commands.Trial u v w) 2 e) in
@@ -73,21 +94,25 @@ one_command days words c d p q = of_words days c d p.0 q.0 (sym p.1 ∙ q.1)
 -- no word of a command begins with a hyphen
 pub words_plain : (c : Command) → IsCommand c → list_any is_option (words_of c) ≡ false
 words_plain commands.Run p = refl
-words_plain commands.Check p = refl
-words_plain commands.Audit p = refl
-words_plain commands.Positions p = refl
-words_plain (commands.Notices d) p = rw (day_plain d) refl
-words_plain (commands.Import n) p = rw (decimal_plain n (omega (arith, p.1))) refl
+words_plain (commands.OnInput inputs.Check) p = refl
+words_plain (commands.OnInput inputs.Explain) p = refl
+words_plain (commands.OnJournal journals.Audit) p = refl
+words_plain (commands.OnJournal journals.Positions) p = refl
+words_plain (commands.OnJournal (journals.Notices d)) p = rw (day_plain d) refl
+words_plain (commands.OnInput (inputs.Import n)) p = rw (decimal_plain n (omega (arith, p.1))) refl
+words_plain (commands.OnJournal (journals.Weigh k d)) p = rw (kind_plain k, day_plain d) refl
 words_plain (commands.Trial x y z) p = rw (decimal_plain x (omega (arith, p.1)), decimal_plain y (omega (arith, p.3)), decimal_plain z (omega (arith, p.4))) refl
 
 -- `clap` takes the words of a command
 pub words_taken : (c : Command) → IsCommand c → fault_of program (words_of c) ≡ []
 words_taken commands.Run p = plain_taken _ run_entered
-words_taken commands.Check p = plain_taken _ check_entered
-words_taken commands.Audit p = plain_taken _ audit_entered
-words_taken commands.Positions p = plain_taken _ positions_entered
-words_taken (commands.Notices d) p = notices_taken _ (plain_of _ (day_plain d))
-words_taken (commands.Import n) p = import_taken _ (plain_of _ (decimal_plain n (omega (arith, p.1))))
+words_taken (commands.OnInput inputs.Check) p = plain_taken _ check_entered
+words_taken (commands.OnInput inputs.Explain) p = plain_taken _ explain_entered
+words_taken (commands.OnJournal journals.Audit) p = plain_taken _ audit_entered
+words_taken (commands.OnJournal journals.Positions) p = plain_taken _ positions_entered
+words_taken (commands.OnJournal (journals.Notices d)) p = notices_taken _ (plain_of _ (day_plain d))
+words_taken (commands.OnInput (inputs.Import n)) p = import_taken _ (plain_of _ (decimal_plain n (omega (arith, p.1))))
+words_taken (commands.OnJournal (journals.Weigh k d)) p = weigh_taken _ _ (plain_of _ (kind_plain k)) (plain_of _ (day_plain d))
 words_taken (commands.Trial x y z) p = trial_taken _ _ _ (plain_of _ (decimal_plain x (omega (arith, p.1)))) (plain_of _ (decimal_plain y (omega (arith, p.3)))) (plain_of _ (decimal_plain z (omega (arith, p.4))))
 
 -- ---- what is found of the words of a command
@@ -99,22 +124,26 @@ number_word : (n : ℕ) → n < 2 ^ 64 → IsPlain (decimal n)
 number_word n small = plain_of _ (decimal_plain n small)
 
 words_name : (c : Command) → IsCommand c → (found : Text) (rows : List Row) → subcommand_of program (words_of c) ≡ Some (found, rows) → IsGiven c found (λ id. first_of id rows)
-words_name commands.Run p found rows e = known_name _ _ run_entered refl [] found rows e
-words_name commands.Check p found rows e = known_name _ _ check_entered refl [] found rows e
-words_name commands.Audit p found rows e = known_name _ _ audit_entered refl [] found rows e
-words_name commands.Positions p found rows e = known_name _ _ positions_entered refl [] found rows e
-words_name (commands.Notices d) p found rows e =
-    let is = found_is (name_and (codes "DATE")) (words_of (commands.Notices d)) _ (notices_values (day_text d) (day_word d)) found rows e in
+words_name commands.Run p found rows e = (known_name _ _ run_entered refl [] found rows e, tt)
+words_name (commands.OnInput inputs.Check) p found rows e = (known_name _ _ check_entered refl [] found rows e, tt)
+words_name (commands.OnInput inputs.Explain) p found rows e = (known_name _ _ explain_entered refl [] found rows e, tt)
+words_name (commands.OnJournal journals.Audit) p found rows e = (known_name _ _ audit_entered refl [] found rows e, tt)
+words_name (commands.OnJournal journals.Positions) p found rows e = (known_name _ _ positions_entered refl [] found rows e, tt)
+words_name (commands.OnJournal (journals.Notices d)) p found rows e =
+    let is = found_is (name_and (codes "DATE")) (words_of (commands.OnJournal (journals.Notices d))) _ (notices_values (day_text d) (day_word d)) found rows e in
     (ap (λ (q : Text × Option Text). q.0) is, ap (λ (q : Text × Option Text). q.1) is)
-words_name (commands.Import n) p found rows e =
-    let is = found_is (name_and (codes "LANE")) (words_of (commands.Import n)) _ (import_values (decimal n) (number_word n (omega (arith, p.1)))) found rows e in
+words_name (commands.OnInput (inputs.Import n)) p found rows e =
+    let is = found_is (name_and (codes "LANE")) (words_of (commands.OnInput (inputs.Import n))) _ (import_values (decimal n) (number_word n (omega (arith, p.1)))) found rows e in
     (ap (λ (q : Text × Option Text). q.0) is, ap (λ (q : Text × Option Text). q.1) is)
+words_name (commands.OnJournal (journals.Weigh k d)) p found rows e =
+    let is = found_is name_and_two (words_of (commands.OnJournal (journals.Weigh k d))) _ (weigh_values (kind_text k) (day_text d) (plain_of _ (kind_plain k)) (day_word d)) found rows e in (
+      ap (λ (q : Text × Option Text × Option Text). q.0) is,
+      (ap (λ (q : Text × Option Text × Option Text). q.1) is, ap (λ (q : Text × Option Text × Option Text). q.2) is),
+    )
 words_name (commands.Trial x y z) p found rows e =
     let is = found_is name_and_three (words_of (commands.Trial x y z)) _ (trial_values (decimal x) (decimal y) (decimal z) (number_word x (omega (arith, p.1))) (number_word y (omega (arith, p.3))) (number_word z (omega (arith, p.4)))) found rows e in (
       ap (λ (q : Text × Option Text × Option Text × Option Text). q.0) is,
-      ap (λ (q : Text × Option Text × Option Text × Option Text). q.1) is,
-      ap (λ (q : Text × Option Text × Option Text × Option Text). q.2) is,
-      ap (λ (q : Text × Option Text × Option Text × Option Text). q.3) is,
+      (ap (λ (q : Text × Option Text × Option Text × Option Text). q.1) is, ap (λ (q : Text × Option Text × Option Text × Option Text). q.2) is, ap (λ (q : Text × Option Text × Option Text × Option Text). q.3) is),
     )
 
 not_found : (name : Text) (s : Shape) → IsEntered name s → (rest : List Text) → subcommand_of program (name ∷ rest) ≡ None → ⊥
@@ -122,11 +151,13 @@ not_found name s entered rest e = absurd (cc (sym (sub_is name s entered rest) �
 
 words_named : (c : Command) → subcommand_of program (words_of c) ≡ None → ⊥
 words_named commands.Run e = not_found _ _ run_entered [] e
-words_named commands.Check e = not_found _ _ check_entered [] e
-words_named commands.Audit e = not_found _ _ audit_entered [] e
-words_named commands.Positions e = not_found _ _ positions_entered [] e
-words_named (commands.Notices d) e = not_found _ _ notices_entered (day_text d ∷ []) e
-words_named (commands.Import n) e = not_found _ _ import_entered (decimal n ∷ []) e
+words_named (commands.OnInput inputs.Check) e = not_found _ _ check_entered [] e
+words_named (commands.OnInput inputs.Explain) e = not_found _ _ explain_entered [] e
+words_named (commands.OnJournal journals.Audit) e = not_found _ _ audit_entered [] e
+words_named (commands.OnJournal journals.Positions) e = not_found _ _ positions_entered [] e
+words_named (commands.OnJournal (journals.Notices d)) e = not_found _ _ notices_entered (day_text d ∷ []) e
+words_named (commands.OnInput (inputs.Import n)) e = not_found _ _ import_entered (decimal n ∷ []) e
+words_named (commands.OnJournal (journals.Weigh k d)) e = not_found _ _ weigh_entered (kind_text k ∷ day_text d ∷ []) e
 words_named (commands.Trial x y z) e = not_found _ _ trial_entered (decimal x ∷ decimal y ∷ decimal z ∷ []) e
 
 -- the name and the values that are found of the words of a command are the command's
@@ -143,28 +174,21 @@ words_found c p = go (subcommand_of program (words_of c)) refl
 after_name : (c : Command) (found : Text) (rows : List Row) → IsGiven c found (λ id. first_of id rows) → (rest : List Text) → list_any is_option rest ≡ false
     → fault_of program (name_of c ∷ rest) ≡ [] → subcommand_of program (name_of c ∷ rest) ≡ Some (found, rows) → rest ≡ values_of c
 after_name commands.Run found rows given rest plain none is = plain_rest _ run_entered rest plain none
-after_name commands.Check found rows given rest plain none is = plain_rest _ check_entered rest plain none
-after_name commands.Audit found rows given rest plain none is = plain_rest _ audit_entered rest plain none
-after_name commands.Positions found rows given rest plain none is = plain_rest _ positions_entered rest plain none
-after_name (commands.Notices d) found rows given rest plain none is = notices_rest rest plain none found rows is _ given.1
-after_name (commands.Import n) found rows given rest plain none is = import_rest rest plain none found rows is _ given.1
-after_name (commands.Trial x y z) found rows given rest plain none is = trial_rest rest plain none found rows is _ _ _ given.1 given.2 given.3
-
-given_name : (c : Command) (found : Text) (value : Text → Option Text) → IsGiven c found value → found ≡ name_of c
-given_name commands.Run found value given = given
-given_name commands.Check found value given = given
-given_name commands.Audit found value given = given
-given_name commands.Positions found value given = given
-given_name (commands.Notices d) found value given = given.0
-given_name (commands.Import n) found value given = given.0
-given_name (commands.Trial x y z) found value given = given.0
+after_name (commands.OnInput inputs.Check) found rows given rest plain none is = plain_rest _ check_entered rest plain none
+after_name (commands.OnInput inputs.Explain) found rows given rest plain none is = plain_rest _ explain_entered rest plain none
+after_name (commands.OnJournal journals.Audit) found rows given rest plain none is = plain_rest _ audit_entered rest plain none
+after_name (commands.OnJournal journals.Positions) found rows given rest plain none is = plain_rest _ positions_entered rest plain none
+after_name (commands.OnJournal (journals.Notices d)) found rows given rest plain none is = notices_rest rest plain none found rows is _ given.1
+after_name (commands.OnInput (inputs.Import n)) found rows given rest plain none is = import_rest rest plain none found rows is _ given.1
+after_name (commands.OnJournal (journals.Weigh k d)) found rows given rest plain none is = weigh_rest rest plain none found rows is _ _ given.1.0 given.1.1
+after_name (commands.Trial x y z) found rows given rest plain none is = trial_rest rest plain none found rows is _ _ _ given.1.0 given.1.1 given.1.2
 
 from_name : (words : List Text) → list_any is_option words ≡ false → fault_of program words ≡ [] → (found : Text) (rows : List Row) → subcommand_of program words ≡ Some (found, rows)
     → (c : Command) → IsGiven c found (λ id. first_of id rows) → words ≡ words_of c
 from_name [] plain none found rows is c given = no_words none
 from_name (w ∷ rest) plain none found rows is c given =
     let parts = or_false (is_option w) (list_any is_option rest) plain in
-    let same : w ≡ name_of c = sym (first_is w parts.0 rest none found rows is) ∙ given_name c found _ given in
+    let same : w ≡ name_of c = sym (first_is w parts.0 rest none found rows is) ∙ given.0 in
     let taken : fault_of program (name_of c ∷ rest) ≡ [] = subst (λ (word : Text). fault_of program (word ∷ rest) ≡ []) same none in
     let at : subcommand_of program (name_of c ∷ rest) ≡ Some (found, rows) = subst (λ (word : Text). subcommand_of program (word ∷ rest) ≡ Some (found, rows)) same is in
     ap₂ (λ (word : Text) (ws : List Text). word ∷ ws) same (after_name c found rows given rest parts.1 taken at)

@@ -109,6 +109,26 @@ one_value name id (x ∷ y ∷ xs) plain e =
     let q = plain_of y (or_false (is_option y) (list_any is_option xs) first.1).0 in
     some_kind _ _ (rw (p.dashes, p.long, p.short, q.dashes, q.long, q.short) at e)
 
+-- the values of a weighing
+abbrev weigh_leaf : Shape
+weigh_leaf = leaf (codes "weigh") (value (codes "KIND") ∷ value (codes "DATE") ∷ [])
+
+two_values : (rest : List Text) → list_any is_option rest ≡ false → level_fault weigh_leaf [] nothing_held rest false [] ≡ []
+    → (x y : Text) × (rest ≡ x ∷ y ∷ [])
+unfolding clap_on_literals
+two_values [] plain e = some_kind _ _ e
+two_values (x ∷ []) plain e =
+    let p = plain_of x (or_false (is_option x) false plain).0 in
+    some_kind _ _ (rw (p.dashes, p.long, p.short) at e)
+two_values (x ∷ y ∷ []) plain e = (x, y, refl)
+two_values (x ∷ y ∷ other ∷ xs) plain e =
+    let first = or_false (is_option x) (list_any is_option (y ∷ other ∷ xs)) plain in
+    let second = or_false (is_option y) (list_any is_option (other ∷ xs)) first.1 in
+    let p = plain_of x first.0 in
+    let q = plain_of y second.0 in
+    let r = plain_of other (or_false (is_option other) (list_any is_option xs) second.1).0 in
+    some_kind _ _ (rw (p.dashes, p.long, p.short, q.dashes, q.long, q.short, r.dashes, r.long, r.short) at e)
+
 -- the values of a trial
 abbrev trial_leaf : Shape
 trial_leaf = leaf (codes "trial") (value (codes "FIRMS") ∷ value (codes "CLAIMS") ∷ value (codes "SEED") ∷ [])
@@ -146,6 +166,10 @@ pub check_entered : IsEntered (codes "check") (leaf (codes "check") [])
 unfolding clap_on_literals
 check_entered = record { walked_to = refl; no_fault = refl; found = refl }
 
+pub explain_entered : IsEntered (codes "explain") (leaf (codes "explain") [])
+unfolding clap_on_literals
+explain_entered = record { walked_to = refl; no_fault = refl; found = refl }
+
 pub audit_entered : IsEntered (codes "audit") (leaf (codes "audit") [])
 unfolding clap_on_literals
 audit_entered = record { walked_to = refl; no_fault = refl; found = refl }
@@ -162,6 +186,10 @@ pub import_entered : IsEntered (codes "import") (leaf (codes "import") (value (c
 unfolding clap_on_literals
 import_entered = record { walked_to = refl; no_fault = refl; found = refl }
 
+pub weigh_entered : IsEntered (codes "weigh") weigh_leaf
+unfolding clap_on_literals
+weigh_entered = record { walked_to = refl; no_fault = refl; found = refl }
+
 pub trial_entered : IsEntered (codes "trial") trial_leaf
 unfolding clap_on_literals
 trial_entered = record { walked_to = refl; no_fault = refl; found = refl }
@@ -170,15 +198,17 @@ trial_entered = record { walked_to = refl; no_fault = refl; found = refl }
 record IsUnknown (w : Text) : Type 0 where
   pub run : bytes_eq (codes "run") w ≡ false
   pub check : bytes_eq (codes "check") w ≡ false
+  pub explain : bytes_eq (codes "explain") w ≡ false
   pub audit : bytes_eq (codes "audit") w ≡ false
   pub positions : bytes_eq (codes "positions") w ≡ false
   pub notices : bytes_eq (codes "notices") w ≡ false
   pub import_ : bytes_eq (codes "import") w ≡ false
+  pub weigh : bytes_eq (codes "weigh") w ≡ false
   pub trial : bytes_eq (codes "trial") w ≡ false
 
 unknown_refused : {P : Type 0} (w : Text) (rest : List Text) → IsPlain w → IsUnknown w → fault_of program (w ∷ rest) ≡ [] → P
 unfolding clap_on_literals
-unknown_refused w rest p u e = some_kind _ _ (rw (u.run, u.check, u.audit, u.positions, u.notices, u.import_, u.trial, p.dashes, p.long, p.short) at e)
+unknown_refused w rest p u e = some_kind _ _ (rw (u.run, u.check, u.explain, u.audit, u.positions, u.notices, u.import_, u.weigh, u.trial, p.dashes, p.long, p.short) at e)
 
 pub sub_is : (name : Text) (s : Shape) → IsEntered name s → (rest : List Text) → subcommand_of program (name ∷ rest) ≡ Some (rows_at s rest)
 sub_is name s e rest = ap (λ (w : Walk). entered whole w.stopped) (walk_is name s e rest) ∙ rw e.found refl
@@ -204,12 +234,14 @@ first_is w plain rest none found rows =
     let P : Text → Type 0 = λ word. fault_of program (word ∷ rest) ≡ [] → subcommand_of program (word ∷ rest) ≡ Some (found, rows) → found ≡ word in
     decided P (codes "run") w (λ _. known_name _ _ run_entered refl rest found rows)
     (λ run. decided P (codes "check") w (λ _. known_name _ _ check_entered refl rest found rows)
-    (λ check. decided P (codes "audit") w (λ _. known_name _ _ audit_entered refl rest found rows)
+    (λ check. decided P (codes "explain") w (λ _. known_name _ _ explain_entered refl rest found rows)
+    (λ explain. decided P (codes "audit") w (λ _. known_name _ _ audit_entered refl rest found rows)
     (λ audit. decided P (codes "positions") w (λ _. known_name _ _ positions_entered refl rest found rows)
     (λ positions. decided P (codes "notices") w (λ _. known_name _ _ notices_entered refl rest found rows)
     (λ notices. decided P (codes "import") w (λ _. known_name _ _ import_entered refl rest found rows)
-    (λ import_. decided P (codes "trial") w (λ _. known_name _ _ trial_entered refl rest found rows)
-    (λ trial. λ e _. unknown_refused w rest (plain_of w plain) (record { run = run; check = check; audit = audit; positions = positions; notices = notices; import_ = import_; trial = trial }) e))))))) none
+    (λ import_. decided P (codes "weigh") w (λ _. known_name _ _ weigh_entered refl rest found rows)
+    (λ weigh. decided P (codes "trial") w (λ _. known_name _ _ trial_entered refl rest found rows)
+    (λ trial. λ e _. unknown_refused w rest (plain_of w plain) (record { run = run; check = check; explain = explain; audit = audit; positions = positions; notices = notices; import_ = import_; weigh = weigh; trial = trial }) e))))))))) none
 
 -- a first word is asked for
 pub no_words : {P : Type 0} → fault_of program [] ≡ [] → P
@@ -233,6 +265,13 @@ notices_values x p = rw (p.dashes, p.long, p.short) refl
 pub import_values : (x : Text) → IsPlain x → option_map (name_and (codes "LANE")) (subcommand_of program (codes "import" ∷ x ∷ [])) ≡ Some (codes "import", Some x)
 unfolding clap_on_literals
 import_values x p = rw (p.dashes, p.long, p.short) refl
+
+abbrev pub name_and_two : Text × List Row → Text × Option Text × Option Text
+name_and_two p = (p.0, first_of (codes "KIND") p.1, first_of (codes "DATE") p.1)
+
+pub weigh_values : (x y : Text) → IsPlain x → IsPlain y → option_map name_and_two (subcommand_of program (codes "weigh" ∷ x ∷ y ∷ [])) ≡ Some (codes "weigh", Some x, Some y)
+unfolding clap_on_literals
+weigh_values x y p q = rw (p.dashes, p.long, p.short, q.dashes, q.long, q.short) refl
 
 abbrev pub name_and_three : Text × List Row → Text × Option Text × Option Text × Option Text
 name_and_three p = (p.0, first_of (codes "FIRMS") p.1, first_of (codes "CLAIMS") p.1, first_of (codes "SEED") p.1)
@@ -269,6 +308,21 @@ pub import_rest : (rest : List Text) → list_any is_option rest ≡ false → f
     → subcommand_of program (codes "import" ∷ rest) ≡ Some (found, rows) → (text : Text) → first_of (codes "LANE") rows ≡ Some text → rest ≡ text ∷ []
 import_rest = one_rest (codes "import") (codes "LANE") import_entered import_values
 
+pub weigh_rest : (rest : List Text) → list_any is_option rest ≡ false → fault_of program (codes "weigh" ∷ rest) ≡ [] → (found : Text) (rows : List Row)
+    → subcommand_of program (codes "weigh" ∷ rest) ≡ Some (found, rows) → (x y : Text) → first_of (codes "KIND") rows ≡ Some x → first_of (codes "DATE") rows ≡ Some y
+    → rest ≡ x ∷ y ∷ []
+weigh_rest rest plain none found rows is x y ex ey =
+    let two = two_values rest plain (taken_below (codes "weigh") _ weigh_entered rest none) in
+    let u = two.0 in
+    let v = two.1 in
+    let first = or_false (is_option u) (list_any is_option (v ∷ [])) (ap (list_any is_option) (sym two.2) ∙ plain) in
+    let at : subcommand_of program (codes "weigh" ∷ u ∷ v ∷ []) ≡ Some (found, rows) = ap (λ (r : List Text). subcommand_of program (codes "weigh" ∷ r)) (sym two.2) ∙ is in
+    let values = found_is name_and_two (codes "weigh" ∷ u ∷ v ∷ []) (codes "weigh", Some u, Some v)
+    (weigh_values u v (plain_of u first.0) (plain_of v (or_false (is_option v) false first.1).0)) found rows at in
+    let a : u ≡ x = some_text (sym (ap (λ (q : Text × Option Text × Option Text). q.1) values) ∙ ex) in
+    let b : v ≡ y = some_text (sym (ap (λ (q : Text × Option Text × Option Text). q.2) values) ∙ ey) in
+    two.2 ∙ rw (a, b) refl
+
 pub trial_rest : (rest : List Text) → list_any is_option rest ≡ false → fault_of program (codes "trial" ∷ rest) ≡ [] → (found : Text) (rows : List Row)
     → subcommand_of program (codes "trial" ∷ rest) ≡ Some (found, rows) → (x y z : Text) → first_of (codes "FIRMS") rows ≡ Some x → first_of (codes "CLAIMS") rows ≡ Some y
     → first_of (codes "SEED") rows ≡ Some z → rest ≡ x ∷ y ∷ z ∷ []
@@ -300,6 +354,10 @@ notices_taken x p = rw (p.dashes, p.long, p.short) refl
 pub import_taken : (x : Text) → IsPlain x → fault_of program (codes "import" ∷ x ∷ []) ≡ []
 unfolding clap_on_literals
 import_taken x p = rw (p.dashes, p.long, p.short) refl
+
+pub weigh_taken : (x y : Text) → IsPlain x → IsPlain y → fault_of program (codes "weigh" ∷ x ∷ y ∷ []) ≡ []
+unfolding clap_on_literals
+weigh_taken x y p q = rw (p.dashes, p.long, p.short, q.dashes, q.long, q.short) refl
 
 pub trial_taken : (x y z : Text) → IsPlain x → IsPlain y → IsPlain z → fault_of program (codes "trial" ∷ x ∷ y ∷ z ∷ []) ≡ []
 unfolding clap_on_literals

@@ -29,7 +29,11 @@ knowing name rules app = with_subcommand app (shape_of name rules)
 
 -- the program with the commands that take no value
 abbrev pub plain : App
-plain = knowing (codes "positions") [] (knowing (codes "audit") [] (knowing (codes "check") [] (knowing (codes "run") [] bare)))
+plain = knowing (codes "positions") [] (knowing (codes "audit") [] (knowing (codes "explain") [] (knowing (codes "check") [] (knowing (codes "run") [] bare))))
+
+-- the values of a weighing
+abbrev pub weigh_values : List Rule
+weigh_values = value (codes "KIND") ∷ value (codes "DATE") ∷ []
 
 -- the values of a trial
 abbrev pub trial_values : List Rule
@@ -38,5 +42,6 @@ trial_values = value (codes "FIRMS") ∷ value (codes "CLAIMS") ∷ value (codes
 -- the program with its commands
 abbrev pub program : App
 program = knowing (codes "trial") trial_values
+    (knowing (codes "weigh") weigh_values
     (knowing (codes "import") (value (codes "LANE") ∷ [])
-    (knowing (codes "notices") (value (codes "DATE") ∷ []) plain))
+    (knowing (codes "notices") (value (codes "DATE") ∷ []) plain)))

@@ -1,34 +1,49 @@
 -- The words of the program's command line.
 use Rattle.std.specs.Prelude.{◌≡◌, ◌≤◌, ◌<◌, ◌^◌, ℕ, List, [], ◌∷◌, codes, decimal}
 use Rattle.setoff_model.specs.Limits.{most_firms, most_claims}
+use Rattle.setoff_model.specs.Texts.{kind_text}
 use Rattle.claim_history.specs.Days.{day_text, last_day}
 use Rattle.request_text.specs.Lanes.{IsLane}
 use Rattle.command_words.specs.declared.command.Command.{Command}
 use Rattle.command_words.specs.declared.command.Command.TheVariants as commands
+use Rattle.command_words.specs.declared.input_report.InputReport.TheVariants as inputs
+use Rattle.command_words.specs.declared.journal_report.JournalReport.TheVariants as journals
 
 -- the values of a command are in their ranges
 abbrev pub IsCommand : Command → Type 0
-IsCommand (commands.Notices today) = today ≤ last_day
-IsCommand (commands.Import lane) = IsLane lane
+IsCommand commands.Run = Unit {0}
+IsCommand (commands.OnInput inputs.Check) = Unit {0}
+IsCommand (commands.OnInput inputs.Explain) = Unit {0}
+IsCommand (commands.OnInput (inputs.Import lane)) = IsLane lane
+IsCommand (commands.OnJournal journals.Audit) = Unit {0}
+IsCommand (commands.OnJournal journals.Positions) = Unit {0}
+IsCommand (commands.OnJournal (journals.Notices today)) = today ≤ last_day
+IsCommand (commands.OnJournal (journals.Weigh kind today)) = today ≤ last_day
 IsCommand (commands.Trial firms claims seed) = (2 ≤ firms) × (firms ≤ most_firms) × (1 ≤ claims) × (claims ≤ most_claims) × (seed < 2 ^ 32)
-IsCommand _ = Unit {0}
 
 -- the first word of a command
 abbrev pub name_of : Command → List ℕ
 name_of commands.Run = codes "run"
-name_of commands.Check = codes "check"
-name_of commands.Audit = codes "audit"
-name_of commands.Positions = codes "positions"
-name_of (commands.Notices today) = codes "notices"
-name_of (commands.Import lane) = codes "import"
+name_of (commands.OnInput inputs.Check) = codes "check"
+name_of (commands.OnInput inputs.Explain) = codes "explain"
+name_of (commands.OnInput (inputs.Import lane)) = codes "import"
+name_of (commands.OnJournal journals.Audit) = codes "audit"
+name_of (commands.OnJournal journals.Positions) = codes "positions"
+name_of (commands.OnJournal (journals.Notices today)) = codes "notices"
+name_of (commands.OnJournal (journals.Weigh kind today)) = codes "weigh"
 name_of (commands.Trial firms claims seed) = codes "trial"
 
 -- the values of a command, as they are spelled
 abbrev pub values_of : Command → List (List ℕ)
-values_of (commands.Notices today) = day_text today ∷ []
-values_of (commands.Import lane) = decimal lane ∷ []
+values_of commands.Run = []
+values_of (commands.OnInput inputs.Check) = []
+values_of (commands.OnInput inputs.Explain) = []
+values_of (commands.OnInput (inputs.Import lane)) = decimal lane ∷ []
+values_of (commands.OnJournal journals.Audit) = []
+values_of (commands.OnJournal journals.Positions) = []
+values_of (commands.OnJournal (journals.Notices today)) = day_text today ∷ []
+values_of (commands.OnJournal (journals.Weigh kind today)) = kind_text kind ∷ day_text today ∷ []
 values_of (commands.Trial firms claims seed) = decimal firms ∷ decimal claims ∷ decimal seed ∷ []
-values_of _ = []
 
 -- the words of a command
 abbrev pub words_of : Command → List (List ℕ)

@@ -1,28 +1,17 @@
 //! The commands of the program.
-use claim_history::Day;
+use crate::input_report::InputReport;
+use crate::journal_report::JournalReport;
 
 /// What the words ask for.
 #[derive(Clone, Copy, PartialEq, Eq)]
 pub enum Command {
     /// `run`: serves the requests of the source on the disk.
     Run,
-    /// `check`: judges the statement of the source.
-    Check,
-    /// `audit`: replays the journal of the disk.
-    Audit,
-    /// `positions`: prints the position of every firm.
-    Positions,
-    /// `notices DATE`: prints the open claims, with the days that they are overdue.
-    Notices {
-        /// The day on which that is counted.
-        today: Day,
-    },
-    /// `import LANE`: turns invoices into FILE requests.
-    Import {
-        /// The lane of the requests, 1 to 16.
-        lane: u32,
-    },
-    /// `trial FIRMS CLAIMS SEED`: makes a large input from a number, and serves it.
+    /// A report on the input of the source.
+    OnInput(InputReport),
+    /// A report on the journal of the disk.
+    OnJournal(JournalReport),
+    /// `trial FIRMS CLAIMS SEED`: makes a large input from a number, and serves it in memory.
     Trial {
         /// How many firms, 2 to 16,384.
         firms: u32,

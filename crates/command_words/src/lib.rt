@@ -1,12 +1,12 @@
 //! The words of the program's command line.
 //!
-//! A command is a first word and the values that it takes: `run`, `check`, `audit`, `positions`, `notices DATE`,
-//! `import LANE` or `trial FIRMS CLAIMS SEED`. The words are exactly such a list, or are refused.
+//! A command is a first word and the values that it takes: `run`, `check`, `explain`, `audit`, `positions`, `notices DATE`,
+//! `weigh KIND DATE`, `import LANE` or `trial FIRMS CLAIMS SEED`. The words are exactly such a list, or are refused.
 //!
 //! - A word that begins with `-` is refused before the parse.
 //! - `clap` decides which command the first word names, and how many values there are. It has no `help` here, and no
 //!   flags.
-//! - What a value may be is decided by the readers of the product: a day, or decimal digits without a superfluous
+//! - What a value may be is decided by the readers of the product: a day, a kind, or decimal digits without a superfluous
 //!   leading zero, in the range of the value.
 #![tactic(auto)]
 
@@ -14,6 +14,8 @@ ghost use Rattle.command_words.specs.Words.{OneCommandLaw};
 
 mod command;
 mod error;
+mod input_report;
+mod journal_report;
 mod program;
 mod reading;
 mod usage;
@@ -21,6 +23,8 @@ mod usage;
 use claim_history::days_are_civil_dates;
 pub use command::Command;
 pub use error::WordsError;
+pub use input_report::InputReport;
+pub use journal_report::JournalReport;
 pub use reading::command_of;
 pub use usage::USAGE;
 

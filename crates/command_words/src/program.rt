@@ -2,7 +2,7 @@
 ghost use Rattle.std.specs.Prelude.{◌≡◌, ◌∷◌, [], IfOk, codes, false};
 ghost use Rattle.clap.specs.Words.{app_of, with_rule};
 ghost use Rattle.clap.specs.declared.builder.command.Command.TheViews.{out-Command};
-ghost use Rattle.command_words.specs.Program.{knowing, plain, program as whole, shape_of, trial_values, value};
+ghost use Rattle.command_words.specs.Program.{knowing, plain, program as whole, shape_of, trial_values, value, weigh_values};
 
 use clap::{Arg, Command};
 use std::alloc::{AllocError, Global};
@@ -26,6 +26,29 @@ fn with_one<'a>(
 {
     match taking(alloc, Command::new(alloc, name), id) {
         Ok(command) => program.subcommand(command),
+        Err(e) => {
+            drop(program);
+            Err(e)
+        }
+    }
+}
+
+// The command `weigh`, which takes two values.
+fn weigh<'a>(alloc: Global) -> Result<Command<'a>, AllocError>
+    ensures shape { IfOk result (λ c. (app_of c).top ≡ shape_of (codes "weigh") weigh_values) }
+    ensures globals { IfOk result (λ c. (out-Command c).has_globals ≡ false) }
+{
+    let weigh = taking(alloc, Command::new(alloc, "weigh"), "KIND")?;
+    let weigh = taking(alloc, weigh, "DATE")?;
+    Ok(weigh)
+}
+
+// The same, added to the program.
+fn with_weigh<'a>(alloc: Global, program: Command<'a>) -> Result<Command<'a>, AllocError>
+    ensures shape { IfOk result (λ c. app_of c ≡ knowing (codes "weigh") weigh_values (app_of program.entry)) }
+{
+    match weigh(alloc) {
+        Ok(weigh) => program.subcommand(weigh),
         Err(e) => {
             drop(program);
             Err(e)
@@ -63,6 +86,7 @@ fn with_values<'a>(alloc: Global, program: Command<'a>) -> Result<Command<'a>, A
 {
     let known = with_one(alloc, program, "notices", "DATE")?;
     let known = with_one(alloc, known, "import", "LANE")?;
+    let known = with_weigh(alloc, known)?;
     with_trial(alloc, known)
 }
 
@@ -77,6 +101,7 @@ pub(crate) fn program<'a>(alloc: Global) -> Result<Command<'a>, AllocError>
         .subcommand_required(true)
         .subcommand(Command::new(alloc, "run"))?
         .subcommand(Command::new(alloc, "check"))?
+        .subcommand(Command::new(alloc, "explain"))?
         .subcommand(Command::new(alloc, "audit"))?
         .subcommand(Command::new(alloc, "positions"))?;
     with_values(alloc, program)

@@ -1,6 +1,8 @@
 //! The words, as a command.
 ghost use Rattle.std.specs.Prelude.{◌≡◌, ◌≤◌, ℕ, codes, [], map, string_bytes, decimal, IfOk, IfErr, IfSome, IfNone, Some};
 ghost use Rattle.std.specs.List.{list_any};
+ghost use Rattle.setoff_model.specs.Texts.{kind_text};
+ghost use Rattle.setoff_model.specs.declared.kind.Kind.{Kind as KindOf};
 ghost use Rattle.claim_history.specs.Days.{day_text, last_day};
 ghost use Rattle.clap.specs.Words.{first_value, found_of, subcommand_of, subcommand_rows_of, fault_of};
 ghost use Rattle.clap.specs.Values.{kind_of};
@@ -12,13 +14,15 @@ ghost use Rattle.command_words.specs.Reading.{IsFoundIn, IsGiven, is_option};
 
 use crate::command::Command;
 use crate::error::WordsError;
+use crate::input_report::InputReport;
+use crate::journal_report::JournalReport;
 use crate::program::program;
 use claim_history::Day;
 use clap::error::ErrorKind;
 use clap::{ArgMatches, Error};
 use request_text::MOST_LANES;
 use setoff_model::limits::{MOST_CLAIMS, MOST_FIRMS};
-use setoff_model::read_number;
+use setoff_model::{Kind, read_kind, read_number};
 use std::alloc::Global;
 
 fn is_option(word: &str) -> bool
@@ -63,6 +67,42 @@ fn number_at(values: &ArgMatches, id: &str, least: u32, most: u32) -> Option<u32
     read_number_in(values.get_str(id)?.as_bytes(), least, most)
 }
 
+// The kind that is the value of this name.
+fn kind_at(values: &ArgMatches, id: &str) -> Option<Kind>
+    ensures found { IfSome result (λ k. first_value (found_of values.now) id.now ≡ Some (kind_text k)) }
+    ensures none { IfNone result ((k : KindOf) → first_value (found_of values.now) id.now ≡ Some (kind_text k) → ⊥) }
+{
+    read_kind(values.get_str(id)?.as_bytes())
+}
+
+// The command `import` with its value.
+fn import_at(values: &ArgMatches) -> Option<Command>
+    ensures found { IfSome result (λ c. IsCommand c × IsGiven c (codes "import") (first_value (found_of values.now))) }
+    ensures none { IfNone result ((c : CommandOf) → IsCommand c → IsGiven c (codes "import") (first_value (found_of values.now)) → ⊥) }
+{
+    let lane = number_at(values, "LANE", 1, MOST_LANES as u32)?;
+    Some(Command::OnInput(InputReport::Import { lane }))
+}
+
+// The command `notices` with its value.
+fn notices_at(values: &ArgMatches) -> Option<Command>
+    ensures found { IfSome result (λ c. IsCommand c × IsGiven c (codes "notices") (first_value (found_of values.now))) }
+    ensures none { IfNone result ((c : CommandOf) → IsCommand c → IsGiven c (codes "notices") (first_value (found_of values.now)) → ⊥) }
+{
+    let today = day_at(values, "DATE")?;
+    Some(Command::OnJournal(JournalReport::Notices { today }))
+}
+
+// The command `weigh` with its values.
+fn weigh_at(values: &ArgMatches) -> Option<Command>
+    ensures found { IfSome result (λ c. IsCommand c × IsGiven c (codes "weigh") (first_value (found_of values.now))) }
+    ensures none { IfNone result ((c : CommandOf) → IsCommand c → IsGiven c (codes "weigh") (first_value (found_of values.now)) → ⊥) }
+{
+    let kind = kind_at(values, "KIND")?;
+    let today = day_at(values, "DATE")?;
+    Some(Command::OnJournal(JournalReport::Weigh { kind, today }))
+}
+
 // The command `trial` with its values.
 fn trial_at(values: &ArgMatches) -> Option<Command>
     ensures found { IfSome result (λ c. IsCommand c × IsGiven c (codes "trial") (first_value (found_of values.now))) }
@@ -82,15 +122,13 @@ fn given(name: &str, values: &ArgMatches) -> Option<Command>
 {
     match name {
         "run" => Some(Command::Run),
-        "check" => Some(Command::Check),
-        "audit" => Some(Command::Audit),
-        "positions" => Some(Command::Positions),
-        "notices" => Some(Command::Notices {
-            today: day_at(values, "DATE")?,
-        }),
-        "import" => Some(Command::Import {
-            lane: number_at(values, "LANE", 1, MOST_LANES as u32)?,
-        }),
+        "check" => Some(Command::OnInput(InputReport::Check)),
+        "explain" => Some(Command::OnInput(InputReport::Explain)),
+        "import" => import_at(values),
+        "audit" => Some(Command::OnJournal(JournalReport::Audit)),
+        "positions" => Some(Command::OnJournal(JournalReport::Positions)),
+        "notices" => notices_at(values),
+        "weigh" => weigh_at(values),
         "trial" => trial_at(values),
         _ => None,
     }

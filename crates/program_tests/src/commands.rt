@@ -7,7 +7,7 @@ use std::sync::Wait;
 use std::thread::Threads;
 
 // Words that are no command. The source and the disk are not called.
-const NO_COMMANDS: [&[&str]; 14] = [
+const NO_COMMANDS: [&[&str]; 16] = [
     &[],
     &["RUN"],
     &["run", "now"],
@@ -18,6 +18,8 @@ const NO_COMMANDS: [&[&str]; 14] = [
     &["notices"],
     &["notices", "2026-02-29"],
     &["notices", "2026-01-10", "2026-01-11"],
+    &["weigh", "PLAIN"],
+    &["explain", "1"],
     &["import", "0"],
     &["import", "17"],
     &["import", "01"],
@@ -75,6 +77,46 @@ fn tables_of_the_triangle(rt: HostRuntime) {
     for (texts, output) in TABLES {
         expect_table(&rt, rt.alloc(), day.journal.as_slice(), texts, output);
     }
+}
+
+// A owes B since long ago, and is owed by it; what goes over C is not overdue by a month.
+const OVERDUE: &[u8] =
+    b"1 FIRM A\n1 FIRM B\n1 FIRM C\n1 FILE B I-1 A 10.00 2025-01-01\n1 FILE A I-2 B 6.00 2025-12-15\n1 FILE C I-3 A 10.00 2025-12-15\n1 FILE B I-4 C 10.00 2025-12-15\n1 CONFIRM B I-1 A\n1 CONFIRM A I-2 B\n1 CONFIRM C I-3 A\n1 CONFIRM B I-4 C\n";
+
+// Acts, the words, and the text, in which each ? stands for a price.
+const WEIGHED: [(&[u8], &[&str], &[u8]); 3] = [
+    (
+        OVERDUE,
+        &["weigh", "PLAIN", "2025-12-31"],
+        b"WEIGHED PLAIN\nPARTY A 0.00 0.00 ?\nPARTY B 0.00 0.00 ?\nPARTY C 0.00 0.00 ?\nCLAIM B I-1 A 10.00 6.00 9\nCLAIM A I-2 B 6.00 6.00 1\nCLAIM C I-3 A 10.00 0.00 1\nCLAIM B I-4 C 10.00 0.00 1\nTOTAL 60.00\nEND\n",
+    ),
+    (
+        b"1 FIRM A\n1 FIRM B\n1 FIRM C\n1 FILE B I-1 A 10.00 2025-01-31\n1 FILE C I-2 B 7.00 2025-01-31\n1 FILE A I-3 C 12.00 2025-01-31\n1 CONFIRM B I-1 A\n1 CONFIRM C I-2 B\n1 CONFIRM A I-3 C\n",
+        &["weigh", "PLAIN", "2025-01-31"],
+        b"WEIGHED PLAIN\nPARTY A 0.00 0.00 ?\nPARTY B 0.00 0.00 ?\nPARTY C 0.00 0.00 ?\nCLAIM B I-1 A 10.00 7.00 1\nCLAIM C I-2 B 7.00 7.00 1\nCLAIM A I-3 C 12.00 7.00 1\nTOTAL 21.00\nEND\n",
+    ),
+    (
+        b"1 FIRM A\n1 FIRM B\n1 FUND A 60.00\n1 OFFER A 60.00\n1 FILE B I-1 A 100.00 2025-01-31\n1 FILE B I-2 A 1.00 2025-04-01\n1 CONFIRM B I-1 A\n1 CONFIRM B I-2 A\n",
+        &["weigh", "FUNDED", "2025-03-31"],
+        b"WEIGHED FUNDED\nPARTY A 60.00 9999999999940.00 ?\nPARTY B 0.00 10000000000000.00 ?\nCLAIM B I-1 A 100.00 60.00 2\nTOTAL 120.00\nEND\n",
+    ),
+];
+
+#[test]
+fn overdue_claims_are_weighed(rt: HostRuntime) {
+    for (acts, texts, output) in WEIGHED {
+        let run = left_by(&rt, rt.alloc(), &["run"], acts, b"", 0);
+        expect_table(&rt, rt.alloc(), run.journal.as_slice(), texts, output);
+    }
+}
+
+// The liquidity of a firm goes down a chain of claims.
+#[test]
+fn an_open_chain_is_explained(rt: HostRuntime) {
+    let statement =
+        b"ROUND 1 FUNDED\nPARTY A 60.00 9999999999940.00 -2\nPARTY B 0.00 10000000000000.00 -1\nPARTY C 0.00 10000000000000.00 0\nCLAIM B I-1 A 100.00 60.00\nCLAIM C I-2 B 100.00 60.00\nEND\n";
+    let told = left_by(&rt, rt.alloc(), &["explain"], statement, b"", 0);
+    told.expect(&rt, 0, b"OPEN 60.00 B/I-1 C/I-2\n");
 }
 
 // The total of the larger trial was found by a min-cost-flow solver.

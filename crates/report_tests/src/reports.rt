@@ -1,6 +1,7 @@
 use bureau_edge::BytesSink;
-use bureau_reports::{Table, audit_disk, check_input, import_input, print_table};
+use bureau_reports::{report_input, report_journal};
 use claim_history::Day;
+use command_words::{InputReport, JournalReport};
 use disk_model::MemoryDisk;
 use std::alloc::{AllocError, Global};
 use std::process::Abort;
@@ -122,7 +123,7 @@ const STATEMENTS: [(&[u8], u8, &[u8]); 20] = [
 // Ends the test where a statement is not judged so.
 fn expect_judged(rt: &impl Abort, alloc: Global, statement: &[u8], status: u8, output: &[u8]) {
     let mut sink = new_sink(alloc);
-    let told = check_input(alloc, statement, &mut sink);
+    let told = report_input(alloc, InputReport::Check, statement, &mut sink);
     expect_told(rt, told, &sink, status, output);
 }
 
@@ -162,6 +163,48 @@ fn a_statement_of_too_many_parties(rt: HostRuntime) {
     );
 }
 
+// Statements of which no chain is left open to choice.
+const EXPLAINED: [(&[u8], u8, &[u8]); 4] = [
+    (
+        b"ROUND 1 PLAIN\nPARTY A 0.00 0.00 0\nPARTY B 0.00 0.00 1\nPARTY C 0.00 0.00 2\nCLAIM B I-1 A 100.00 0.00\nCLAIM C I-2 B 100.00 0.00\nEND\n",
+        0,
+        b"",
+    ),
+    (
+        b"ROUND 1 FUNDED\nPARTY A 60.00 9999999999940.00 -2\nPARTY B 0.00 10000000000000.00 -1\nPARTY C 0.00 10000000000000.00 0\nCLAIM B I-1 A 100.00 60.00\nCLAIM C I-2 B 100.00 60.00\nEND\n",
+        0,
+        b"OPEN 60.00 B/I-1 C/I-2\n",
+    ),
+    (
+        b"ROUND 1 PLAIN\nPARTY A 0.00 0.00 1\nPARTY B 0.00 0.00 2\nPARTY C 0.00 0.00 0\nCLAIM B I-1 A 10.00 6.00\nCLAIM C I-2 B 7.00 6.00\nCLAIM A I-3 C 12.00 6.00\nEND\n",
+        1,
+        b"no not-proved 18.00 21.00\n",
+    ),
+    (b"", 6, b"fault line 1 round\n"),
+];
+
+#[test]
+fn statements_are_explained(rt: HostRuntime) {
+    for (statement, status, output) in EXPLAINED {
+        let mut sink = new_sink(rt.alloc());
+        let told = report_input(rt.alloc(), InputReport::Explain, statement, &mut sink);
+        expect_told(&rt, told, &sink, status, output);
+    }
+}
+
+// The chain of the triangle may begin at any of its firms.
+#[test]
+fn the_triangle_is_one_closed_chain(rt: HostRuntime) {
+    let mut sink = new_sink(rt.alloc());
+    let told = report_input(rt.alloc(), InputReport::Explain, STATEMENTS[0].0, &mut sink);
+    assert!(rt; told == 0);
+    let chain = sink.bytes();
+    let is_first = chain == b"CLOSED 7.00 B/I-1 C/I-2 A/I-3\n".as_slice();
+    let is_second = chain == b"CLOSED 7.00 C/I-2 A/I-3 B/I-1\n".as_slice();
+    let is_third = chain == b"CLOSED 7.00 A/I-3 B/I-1 C/I-2\n".as_slice();
+    assert!(rt; is_first || is_second || is_third);
+}
+
 // ---- invoices
 
 const INVOICES: [(&[u8], u8, &[u8]); 3] = [
@@ -181,7 +224,7 @@ const INVOICES: [(&[u8], u8, &[u8]); 3] = [
 // Ends the test where invoices are not filed so in the second lane.
 fn expect_filed(rt: &impl Abort, alloc: Global, invoices: &[u8], status: u8, output: &[u8]) {
     let mut sink = new_sink(alloc);
-    let told = import_input(alloc, invoices, 2, &mut sink);
+    let told = report_input(alloc, InputReport::Import { lane: 2 }, invoices, &mut sink);
     expect_told(rt, told, &sink, status, output);
 }
 
@@ -234,11 +277,11 @@ const TABLES: [(bool, &[u8], u64, u8, &[u8]); 6] = [
     (false, ONE_RECORD, 1, 5, b"fault device 0 1\n"),
 ];
 
-// Ends the test where a table of a disk with these bytes is not printed so, or the bytes change.
-fn expect_table(
+// Ends the test where a report on a disk with these bytes does not tell this, or the bytes change.
+fn expect_report(
     rt: &impl Abort,
     alloc: Global,
-    table: Table,
+    report: JournalReport,
     bytes: &[u8],
     fails: u64,
     status: u8,
@@ -246,7 +289,7 @@ fn expect_table(
 ) {
     let mut disk = disk_of(rt, alloc, bytes, fails);
     let mut sink = new_sink(alloc);
-    let told = print_table(alloc, table, &mut sink, &mut disk);
+    let told = report_journal(alloc, report, &mut sink, &mut disk);
     expect_told(rt, told, &sink, status, output);
     assert!(rt; disk.bytes() == bytes);
 }
@@ -256,11 +299,11 @@ fn tables_of_journals(rt: HostRuntime) {
     let today = Day::read(b"2026-01-10").expect(&rt, "a day");
     for (is_positions, bytes, fails, status, output) in TABLES {
         let table = if is_positions {
-            Table::Positions
+            JournalReport::Positions
         } else {
-            Table::Notices { today }
+            JournalReport::Notices { today }
         };
-        expect_table(&rt, rt.alloc(), table, bytes, fails, status, output);
+        expect_report(&rt, rt.alloc(), table, bytes, fails, status, output);
     }
 }
 
@@ -272,25 +315,17 @@ const AUDITS: [(&[u8], u64, u8, &[u8]); 5] = [
     (ONE_RECORD, 1, 5, b"fault device 0 1\n"),
 ];
 
-// Ends the test where an audit of a disk with these bytes does not tell this, or the bytes change.
-fn expect_audit(
-    rt: &impl Abort,
-    alloc: Global,
-    bytes: &[u8],
-    fails: u64,
-    status: u8,
-    output: &[u8],
-) {
-    let mut disk = disk_of(rt, alloc, bytes, fails);
-    let mut sink = new_sink(alloc);
-    let told = audit_disk(alloc, &mut sink, &mut disk);
-    expect_told(rt, told, &sink, status, output);
-    assert!(rt; disk.bytes() == bytes);
-}
-
 #[test]
 fn audits_of_journals(rt: HostRuntime) {
     for (bytes, fails, status, output) in AUDITS {
-        expect_audit(&rt, rt.alloc(), bytes, fails, status, output);
+        expect_report(
+            &rt,
+            rt.alloc(),
+            JournalReport::Audit,
+            bytes,
+            fails,
+            status,
+            output,
+        );
     }
 }

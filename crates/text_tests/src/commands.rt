@@ -1,6 +1,7 @@
 //! The words of commands.
 use claim_history::Day;
-use command_words::{Command, USAGE, WordsError, command_of};
+use command_words::{Command, InputReport, JournalReport, USAGE, WordsError, command_of};
+use setoff_model::Kind;
 use std::alloc::Global;
 use std::process::Abort;
 
@@ -21,14 +22,38 @@ fn told(rt: &impl Abort, alloc: Global, texts: &[&str]) -> Result<Command, Words
 #[test]
 fn each_list_of_words_is_its_command(rt: HostRuntime) {
     let today = Day::read(b"2025-03-31").expect(&rt, "a day");
-    let lists: [(&[&str], Command); 12] = [
+    let lists: [(&[&str], Command); 15] = [
         (&["run"], Command::Run),
-        (&["check"], Command::Check),
-        (&["audit"], Command::Audit),
-        (&["positions"], Command::Positions),
-        (&["notices", "2025-03-31"], Command::Notices { today }),
-        (&["import", "1"], Command::Import { lane: 1 }),
-        (&["import", "16"], Command::Import { lane: 16 }),
+        (&["check"], Command::OnInput(InputReport::Check)),
+        (&["explain"], Command::OnInput(InputReport::Explain)),
+        (&["audit"], Command::OnJournal(JournalReport::Audit)),
+        (&["positions"], Command::OnJournal(JournalReport::Positions)),
+        (
+            &["notices", "2025-03-31"],
+            Command::OnJournal(JournalReport::Notices { today }),
+        ),
+        (
+            &["weigh", "PLAIN", "2025-03-31"],
+            Command::OnJournal(JournalReport::Weigh {
+                kind: Kind::Plain,
+                today,
+            }),
+        ),
+        (
+            &["weigh", "FUNDED", "2025-03-31"],
+            Command::OnJournal(JournalReport::Weigh {
+                kind: Kind::Funded,
+                today,
+            }),
+        ),
+        (
+            &["import", "1"],
+            Command::OnInput(InputReport::Import { lane: 1 }),
+        ),
+        (
+            &["import", "16"],
+            Command::OnInput(InputReport::Import { lane: 16 }),
+        ),
         (
             &["trial", "2", "1", "0"],
             Command::Trial {
@@ -102,6 +127,13 @@ const NO_COMMANDS: &[&[&str]] = &[
     &["notices", "2025-3-31"],
     &["notices", "--", "2025-03-31"],
     &["notices", "2025-03-31", "2025-03-31"],
+    &["explain", "1"],
+    &["weigh"],
+    &["weigh", "PLAIN"],
+    &["weigh", "plain", "2025-03-31"],
+    &["weigh", "2025-03-31", "PLAIN"],
+    &["weigh", "PLAIN", "2025-02-29"],
+    &["weigh", "PLAIN", "2025-03-31", "MAIN"],
     &["import"],
     &["import", "0"],
     &["import", "17"],
@@ -133,9 +165,11 @@ fn other_words_are_refused(rt: HostRuntime) {
 const FORMS: &[&str] = &[
     "run ",
     "check ",
+    "explain ",
     "audit ",
     "positions ",
     "notices DATE ",
+    "weigh KIND DATE ",
     "import LANE ",
     "trial FIRMS CLAIMS SEED ",
 ];

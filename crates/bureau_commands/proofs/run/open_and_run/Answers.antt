@@ -1,15 +1,16 @@
 use Rattle.std.specs.Prelude.{OnErr, OnOk, codes, drop, take}
 use Rattle.std.specs.Io.KnownBytes.{Appends}
-use Rattle.std.proofs.Common.{◌≡◌, ◌∙◌, ◌≤◌, [], ℕ, List, length, ap, refl, subst, sym, arith}
+use Rattle.std.proofs.Common.{◌≡◌, ◌∙◌, ◌≤◌, [], ◌∷◌, ℕ, List, length, ap, refl, subst, sym, arith}
 use Rattle.bureau_edge.specs.Streams.{AppendsPart}
 use Rattle.fault_count.specs.Counts.{HasRisen}
 use Rattle.fault_count.proofs.Rising.{risen_within}
 use Rattle.claim_history.specs.Rounds.{cuts_after}
-use Rattle.desk_text.specs.Texts.{opening_status, opening_text}
+use Rattle.bureau_reports.specs.DiskTexts.{opening_status, opening_text}
 use Rattle.printed_text.specs.Printing.{printed_of}
 use Rattle.batch_runs.specs.Runs.{HasTaken}
 use Rattle.bureau_commands.specs.Due.{IsBatchesDue, WroteTaking, no_output_memory, not_opened}
-use Rattle.bureau_reports.proofs.Viewed.{no_three, tellable}
+use Rattle.bureau_reports.proofs.Statuses.{other_than}
+use Rattle.bureau_reports.proofs.Viewed.{opening_among, tellable}
 use Rattle.batch_runs.proofs.Batches.{same_opening}
 use Rattle.batch_runs.proofs.Printed.{at_err, at_ok, printed_same}
 use Rattle.bureau_commands.proofs.Refused.{refused_rose}
@@ -61,7 +62,7 @@ returns-in-Err-clause-disk_fault g c =
 
 pub returns-in-Err-clause-no_read_fault : goal.returns-in-Err-clause-no_read_fault
 returns-in-Err-clause-no_read_fault g c =
-    no_other c.tell_refused.result (opening_status c.in-Err.field-0.cause) 3 (no_three c.in-Err.field-0.cause) (λ e. omega (arith, e))
+    no_other c.tell_refused.result (opening_status c.in-Err.field-0.cause) 3 (λ e. other_than 3 (5 ∷ 8 ∷ 9 ∷ []) (opening_status c.in-Err.field-0.cause) refl e (opening_among c.in-Err.field-0.cause)) (λ e. omega (arith, e))
     (told_status _ _ (opening_status c.in-Err.field-0.cause) (opening_text c.in-Err.field-0.cause) c.tell_refused.result c.tell_refused.ensures.written)
 
 -- ---- the abandonment's line

@@ -1,7 +1,8 @@
 use Rattle.std.specs.Vec.{vec_len}
-use Rattle.std.proofs.Common.{◌≡◌, ◌∙◌, ℕ, List, ◌++◌, length, ap, sym, arith}
-use Rattle.desk_text.specs.Texts.{opening_status, opening_text}
-use Rattle.bureau_reports.proofs.Viewed.{no_four}
+use Rattle.std.proofs.Common.{◌≡◌, ◌∙◌, ℕ, List, [], ◌∷◌, ◌++◌, length, ap, refl, sym, arith}
+use Rattle.bureau_reports.specs.DiskTexts.{opening_status, opening_text}
+use Rattle.bureau_reports.proofs.Statuses.{other_than}
+use Rattle.bureau_reports.proofs.Viewed.{opening_among}
 use Rattle.bureau_reports.proofs.Written.{written_as}
 use Rattle.bureau_reports.proofs.refused.tell_refused.Goals as goal
 
@@ -14,7 +15,7 @@ write_opening_fault-requires-clause-spare g c =
     omega (arith, none, c.requires.spare)
 
 pub end_with-requires : goal.end_with-requires
-end_with-requires g c = λ four. no_four c.args.cause (sym c.status_of_opening.ensures ∙ four)
+end_with-requires g c = λ four. other_than 4 (5 ∷ 8 ∷ 9 ∷ []) (opening_status c.args.cause) refl (sym c.status_of_opening.ensures ∙ four) (opening_among c.args.cause)
 
 pub returns-clause-written : goal.returns-clause-written
 returns-clause-written g c =

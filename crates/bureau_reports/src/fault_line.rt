@@ -1,0 +1,107 @@
+//! Disks on which no desk was opened.
+ghost use Rattle.std.specs.Prelude.{◌≡◌, ◌+◌, ◌≤◌, ◌++◌, length, vec_len, vec_capacity};
+ghost use Rattle.setoff_model.specs.Limits.{line_bytes};
+ghost use Rattle.bureau_reports.specs.DiskTexts.{offset_of, record_why, fault_of, told_fault, told_counts, opening_text, opening_status, IsTellable};
+
+use bureau_desk::DeskCause;
+use entry_text::write_reply;
+use round_journal::RecordWhy;
+use setoff_model::{put, write_whole};
+
+fn offset_of(cause: DeskCause) -> u64
+    ensures { result ≡ offset_of cause }
+{
+    match cause {
+        DeskCause::BadRecord { offset, .. } => offset,
+        DeskCause::BadAct { offset, .. } => offset,
+        DeskCause::Overfull { offset } => offset,
+        _ => 0,
+    }
+}
+
+fn record_why(why: RecordWhy) -> &'static [u8]
+    ensures text { result.now ≡ record_why why }
+    ensures short { length result.now ≤ 5 }
+{
+    match why {
+        RecordWhy::Short => b"short",
+        RecordWhy::Body => b"body",
+    }
+}
+
+fn write_fault(buffer: &mut Vec<u8>, cause: DeskCause)
+    requires tellable { IsTellable cause }
+    requires spare { vec_len buffer.old + 90 ≤ vec_capacity buffer.old }
+    ensures text { buffer.new.items ≡ buffer.old.items ++ fault_of cause }
+    ensures len { vec_len buffer.new ≤ vec_len buffer.old + 90 }
+    ensures room { vec_capacity buffer.old ≤ vec_capacity buffer.new }
+{
+    match cause {
+        DeskCause::BadRecord { why, .. } => put(buffer, record_why(why)),
+        DeskCause::BadAct { reply, .. } => write_reply(buffer, &reply),
+        DeskCause::Overfull { .. } => put(buffer, b"full"),
+        _ => put(buffer, b"header"),
+    }
+}
+
+// Writes where the fault of a journal is and what it is, after a word.
+pub(crate) fn write_told(buffer: &mut Vec<u8>, word: &[u8], cause: DeskCause)
+    requires short { length word.now ≤ 20 }
+    requires tellable { IsTellable cause }
+    requires spare { vec_len buffer.old + line_bytes ≤ vec_capacity buffer.old }
+    ensures text { buffer.new.items ≡ buffer.old.items ++ told_fault word.now cause }
+    ensures len { vec_len buffer.new ≤ vec_len buffer.old + line_bytes }
+    ensures room { vec_capacity buffer.old ≤ vec_capacity buffer.new }
+{
+    put(buffer, word);
+    write_whole(buffer, offset_of(cause));
+    put(buffer, b" ");
+    write_fault(buffer, cause);
+    put(buffer, b"\n");
+}
+
+// Writes two counts after a word.
+fn write_counts(buffer: &mut Vec<u8>, word: &[u8], before: u64, after: u64)
+    requires short { length word.now ≤ 20 }
+    requires spare { vec_len buffer.old + line_bytes ≤ vec_capacity buffer.old }
+    ensures text { buffer.new.items ≡ buffer.old.items ++ told_counts word.now before after }
+    ensures len { vec_len buffer.new ≤ vec_len buffer.old + line_bytes }
+    ensures room { vec_capacity buffer.old ≤ vec_capacity buffer.new }
+{
+    put(buffer, word);
+    write_whole(buffer, before);
+    put(buffer, b" ");
+    write_whole(buffer, after);
+    put(buffer, b"\n");
+}
+
+/// Writes the fault line of a disk on which no desk was opened. The numbers of a reply that it tells are in range.
+pub(crate) fn write_opening_fault(buffer: &mut Vec<u8>, cause: DeskCause)
+    requires tellable { IsTellable cause }
+    requires spare { vec_len buffer.old + line_bytes ≤ vec_capacity buffer.old }
+    ensures text { buffer.new.items ≡ buffer.old.items ++ opening_text cause }
+    ensures len { vec_len buffer.new ≤ vec_len buffer.old + line_bytes }
+    ensures room { vec_capacity buffer.old ≤ vec_capacity buffer.new }
+{
+    match cause {
+        DeskCause::Memory => put(buffer, b"fault memory\n"),
+        DeskCause::Device { before, after } => {
+            write_counts(buffer, b"fault device ", before, after)
+        }
+        DeskCause::BadHeader => write_told(buffer, b"fault journal ", cause),
+        DeskCause::BadRecord { .. } => write_told(buffer, b"fault journal ", cause),
+        DeskCause::BadAct { .. } => write_told(buffer, b"fault journal ", cause),
+        DeskCause::Overfull { .. } => write_told(buffer, b"fault journal ", cause),
+    }
+}
+
+/// The status of a call that ends with it: 9, 5 or 8.
+pub(crate) fn status_of_opening(cause: DeskCause) -> u8
+    ensures { result ≡ opening_status cause }
+{
+    match cause {
+        DeskCause::Memory => 9,
+        DeskCause::Device { .. } => 5,
+        _ => 8,
+    }
+}

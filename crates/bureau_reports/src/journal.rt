@@ -1,0 +1,115 @@
+//! Reports on a journal.
+ghost use Rattle.std.specs.Prelude.{◌≡◌, ◌≢◌, ◌≤◌, [], IfOk, vec_capacity};
+ghost use Rattle.setoff_model.specs.Limits.{line_bytes};
+ghost use Rattle.fault_count.specs.Counts.{HasRisen};
+ghost use Rattle.round_journal.specs.Opened.{IsQuiet};
+ghost use Rattle.printed_text.specs.Writing.{Wrote};
+ghost use Rattle.bureau_reports.specs.DiskTexts.{IsTellable, sound_text};
+ghost use Rattle.bureau_reports.specs.Journals.{IsBookDue, IsJournalDue, IsTextOf, unviewed_status, unviewed_text};
+
+use crate::fault_line::{status_of_opening, write_opening_fault};
+use crate::sound_line::{status_of_unsound, write_sound, write_unsound};
+use bureau_desk::{Desk, DeskCause};
+use bureau_edge::Sink;
+use claim_book::Book;
+use claim_history::Entry;
+use command_words::JournalReport;
+use disk_model::Disk;
+use firm_notices::{notices, positions};
+use printed_text::end_with;
+use setoff_model::limits::LINE_BYTES;
+use std::alloc::{AllocError, Global};
+use weighed_round::weigh;
+
+// The line of an audit of a sound journal.
+fn sound_line(alloc: Global, history: &[Entry]) -> Result<Vec<u8>, AllocError>
+    ensures { IfOk result (λ text. text.items ≡ sound_text history.now) }
+{
+    let mut line = Vec::with_capacity(alloc, LINE_BYTES)?;
+    write_sound(&mut line, history);
+    Ok(line)
+}
+
+// What a report tells of a book.
+fn text_of(alloc: Global, report: &JournalReport, book: &Book) -> Result<Vec<u8>, AllocError>
+    ensures { IfOk result (λ text. IsTextOf report.now book.now.history text.items) }
+{
+    match report {
+        JournalReport::Audit => sound_line(alloc, book.history()),
+        JournalReport::Positions => positions(alloc, book),
+        JournalReport::Notices { today } => notices(alloc, book, *today),
+        JournalReport::Weigh { kind, today } => weigh(alloc, book, *kind, *today),
+    }
+}
+
+// Writes why there is no book, as the report tells it.
+fn write_unviewed(buffer: &mut Vec<u8>, report: &JournalReport, cause: DeskCause)
+    requires tellable { IsTellable cause }
+    requires empty { buffer.old.items ≡ [] }
+    requires spare { line_bytes ≤ vec_capacity buffer.old }
+    ensures { buffer.new.items ≡ unviewed_text report.now cause }
+{
+    match report {
+        JournalReport::Audit => write_unsound(buffer, cause),
+        JournalReport::Positions => write_opening_fault(buffer, cause),
+        JournalReport::Notices { .. } => write_opening_fault(buffer, cause),
+        JournalReport::Weigh { .. } => write_opening_fault(buffer, cause),
+    }
+}
+
+// The status of that.
+fn status_of_unviewed(report: &JournalReport, cause: DeskCause) -> u8
+    ensures { result ≡ unviewed_status report.now cause }
+{
+    match report {
+        JournalReport::Audit => status_of_unsound(cause),
+        JournalReport::Positions => status_of_opening(cause),
+        JournalReport::Notices { .. } => status_of_opening(cause),
+        JournalReport::Weigh { .. } => status_of_opening(cause),
+    }
+}
+
+// Prints what the report tells of a book, or that there was no memory for it.
+#[tactic(none)]
+fn print_book<K: Sink>(alloc: Global, report: &JournalReport, book: &Book, sink: &mut K) -> u8
+    ensures wrote { Wrote (IsBookDue report.now book.now.history) (K.held sink.old) (K.held sink.new) result }
+    ensures write_fault { result ≡ 4 → HasRisen (K.faults sink.old) (K.faults sink.new) }
+    ensures no_read_fault { result ≢ 3 }
+    ensures no_disk_fault { result ≢ 5 }
+{
+    match text_of(alloc, report, book) {
+        Ok(text) => end_with(sink, 0, text.as_slice()),
+        Err(_) => end_with(sink, 9, b"fault memory\n"),
+    }
+}
+
+/// Replays the journal of a disk, and prints the report on it. It writes nothing to the disk. Gives the status: 0; 1 where an audit finds
+/// an act that is refused or full; 5, 8 or 9 where the disk was not read or holds no sound journal; 4 where the sink failed.
+#[tactic(none)]
+pub fn report_journal<K: Sink, D: Disk>(
+    alloc: Global,
+    report: JournalReport,
+    sink: &mut K,
+    disk: &mut D,
+) -> u8
+    ensures wrote { Wrote (IsJournalDue report (D.seen disk.old).tells (D.seen disk.old).reads (D.seen disk.old).count (D.seen disk.new).count) (K.held sink.old) (K.held sink.new) result }
+    ensures quiet { IsQuiet (D.seen disk.old) (D.seen disk.new) }
+    ensures write_fault { result ≡ 4 → HasRisen (K.faults sink.old) (K.faults sink.new) }
+    ensures disk_fault { result ≡ 5 → HasRisen (D.seen disk.old).count (D.seen disk.new).count }
+    ensures no_read_fault { result ≢ 3 }
+{
+    let Ok(mut buffer) = Vec::with_capacity(alloc, LINE_BYTES) else {
+        return end_with(sink, 9, b"fault memory\n");
+    };
+    match Desk::view(alloc, disk) {
+        Ok(book) => {
+            let status = print_book(alloc, &report, &book, sink);
+            drop(book);
+            status
+        }
+        Err(cause) => {
+            write_unviewed(&mut buffer, &report, cause);
+            end_with(sink, status_of_unviewed(&report, cause), buffer.as_slice())
+        }
+    }
+}

@@ -1,0 +1,63 @@
+//! What an audit finds.
+ghost use Rattle.std.specs.Prelude.{◌≡◌, ◌+◌, ◌≤◌, ◌++◌, count_by, vec_len, vec_capacity};
+ghost use Rattle.setoff_model.specs.Limits.{line_bytes};
+ghost use Rattle.claim_history.specs.Acts.{is_publication};
+ghost use Rattle.bureau_reports.specs.DiskTexts.{sound_text, unsound_text, unsound_status, IsTellable};
+
+use crate::fault_line::{status_of_opening, write_opening_fault, write_told};
+use bureau_desk::DeskCause;
+use claim_history::Entry;
+use setoff_model::{put, write_whole};
+
+fn rounds_in(history: &[Entry]) -> u64
+    ensures { result ≡ count_by (λ e. is_publication e.act) history.now }
+{
+    let mut rounds = 0;
+    for entry in history {
+        if entry.act.publishes() {
+            rounds += 1;
+        }
+    }
+    rounds
+}
+
+/// Writes the line `yes acts N rounds M` of a journal that is sound, whose history is this.
+pub(crate) fn write_sound(buffer: &mut Vec<u8>, history: &[Entry])
+    requires { vec_len buffer.old + line_bytes ≤ vec_capacity buffer.old }
+    ensures text { buffer.new.items ≡ buffer.old.items ++ sound_text history.now }
+    ensures len { vec_len buffer.new ≤ vec_len buffer.old + line_bytes }
+    ensures room { vec_capacity buffer.old ≤ vec_capacity buffer.new }
+{
+    put(buffer, b"yes acts ");
+    write_whole(buffer, history.len() as u64);
+    put(buffer, b" rounds ");
+    write_whole(buffer, rounds_in(history));
+    put(buffer, b"\n");
+}
+
+/// Writes the line `no OFFSET ..` of a journal whose act at this offset is refused or full, or the fault line of one that was not
+/// read. The numbers of a reply that it tells are in range.
+pub(crate) fn write_unsound(buffer: &mut Vec<u8>, cause: DeskCause)
+    requires tellable { IsTellable cause }
+    requires spare { vec_len buffer.old + line_bytes ≤ vec_capacity buffer.old }
+    ensures text { buffer.new.items ≡ buffer.old.items ++ unsound_text cause }
+    ensures len { vec_len buffer.new ≤ vec_len buffer.old + line_bytes }
+    ensures room { vec_capacity buffer.old ≤ vec_capacity buffer.new }
+{
+    match cause {
+        DeskCause::BadAct { .. } => write_told(buffer, b"no ", cause),
+        DeskCause::Overfull { .. } => write_told(buffer, b"no ", cause),
+        cause => write_opening_fault(buffer, cause),
+    }
+}
+
+/// The status of a call that ends with it: 1, or that of a disk that was not read.
+pub(crate) fn status_of_unsound(cause: DeskCause) -> u8
+    ensures { result ≡ unsound_status cause }
+{
+    match cause {
+        DeskCause::BadAct { .. } => 1,
+        DeskCause::Overfull { .. } => 1,
+        cause => status_of_opening(cause),
+    }
+}
