@@ -83,8 +83,12 @@ fn tables_of_the_triangle(rt: HostRuntime) {
 const OVERDUE: &[u8] =
     b"1 FIRM A\n1 FIRM B\n1 FIRM C\n1 FILE B I-1 A 10.00 2025-01-01\n1 FILE A I-2 B 6.00 2025-12-15\n1 FILE C I-3 A 10.00 2025-12-15\n1 FILE B I-4 C 10.00 2025-12-15\n1 CONFIRM B I-1 A\n1 CONFIRM A I-2 B\n1 CONFIRM C I-3 A\n1 CONFIRM B I-4 C\n";
 
+// Two claims of one day, one against the other.
+const RING: &[u8] =
+    b"1 FIRM A\n1 FIRM B\n1 FILE B I-1 A 10.00 2025-01-01\n1 FILE A I-2 B 10.00 2025-01-01\n1 CONFIRM B I-1 A\n1 CONFIRM A I-2 B\n";
+
 // Acts, the words, and the text, in which each ? stands for a price.
-const WEIGHED: [(&[u8], &[&str], &[u8]); 3] = [
+const WEIGHED: [(&[u8], &[&str], &[u8]); 9] = [
     (
         OVERDUE,
         &["weigh", "PLAIN", "2025-12-31"],
@@ -99,6 +103,36 @@ const WEIGHED: [(&[u8], &[&str], &[u8]); 3] = [
         b"1 FIRM A\n1 FIRM B\n1 FUND A 60.00\n1 OFFER A 60.00\n1 FILE B I-1 A 100.00 2025-01-31\n1 FILE B I-2 A 1.00 2025-04-01\n1 CONFIRM B I-1 A\n1 CONFIRM B I-2 A\n",
         &["weigh", "FUNDED", "2025-03-31"],
         b"WEIGHED FUNDED\nPARTY A 60.00 9999999999940.00 ?\nPARTY B 0.00 10000000000000.00 ?\nCLAIM B I-1 A 100.00 60.00 2\nTOTAL 120.00\nEND\n",
+    ),
+    (
+        RING,
+        &["weigh", "PLAIN", "2025-01-30"],
+        b"WEIGHED PLAIN\nPARTY A 0.00 0.00 ?\nPARTY B 0.00 0.00 ?\nCLAIM B I-1 A 10.00 10.00 1\nCLAIM A I-2 B 10.00 10.00 1\nTOTAL 20.00\nEND\n",
+    ),
+    (
+        RING,
+        &["weigh", "PLAIN", "2025-01-31"],
+        b"WEIGHED PLAIN\nPARTY A 0.00 0.00 ?\nPARTY B 0.00 0.00 ?\nCLAIM B I-1 A 10.00 10.00 2\nCLAIM A I-2 B 10.00 10.00 2\nTOTAL 40.00\nEND\n",
+    ),
+    (
+        RING,
+        &["weigh", "PLAIN", "2025-08-28"],
+        b"WEIGHED PLAIN\nPARTY A 0.00 0.00 ?\nPARTY B 0.00 0.00 ?\nCLAIM B I-1 A 10.00 10.00 8\nCLAIM A I-2 B 10.00 10.00 8\nTOTAL 160.00\nEND\n",
+    ),
+    (
+        RING,
+        &["weigh", "PLAIN", "2025-08-29"],
+        b"WEIGHED PLAIN\nPARTY A 0.00 0.00 ?\nPARTY B 0.00 0.00 ?\nCLAIM B I-1 A 10.00 10.00 9\nCLAIM A I-2 B 10.00 10.00 9\nTOTAL 180.00\nEND\n",
+    ),
+    (
+        RING,
+        &["weigh", "PLAIN", "2025-08-30"],
+        b"WEIGHED PLAIN\nPARTY A 0.00 0.00 ?\nPARTY B 0.00 0.00 ?\nCLAIM B I-1 A 10.00 10.00 9\nCLAIM A I-2 B 10.00 10.00 9\nTOTAL 180.00\nEND\n",
+    ),
+    (
+        RING,
+        &["weigh", "PLAIN", "2024-12-31"],
+        b"WEIGHED PLAIN\nTOTAL 0.00\nEND\n",
     ),
 ];
 

@@ -3,6 +3,7 @@ use bureau_reports::{report_input, report_journal};
 use claim_history::Day;
 use command_words::{InputReport, JournalReport};
 use disk_model::MemoryDisk;
+use setoff_model::Kind;
 use std::alloc::{AllocError, Global};
 use std::process::Abort;
 
@@ -304,6 +305,32 @@ fn tables_of_journals(rt: HostRuntime) {
             JournalReport::Notices { today }
         };
         expect_report(&rt, rt.alloc(), table, bytes, fails, status, output);
+    }
+}
+
+// The bytes of a disk, the call of it that fails, the status and the output.
+const WEIGHED: [(&[u8], u64, u8, &[u8]); 5] = [
+    (b"", 0, 0, b"WEIGHED FUNDED\nTOTAL 0.00\nEND\n"),
+    (ONE_RECORD, 0, 0, b"WEIGHED FUNDED\nTOTAL 0.00\nEND\n"),
+    (
+        REFUSED_RECORD,
+        0,
+        8,
+        b"fault journal 8 refused 7 unknown-claim\n",
+    ),
+    (b"0123456789", 0, 8, b"fault journal 0 header\n"),
+    (ONE_RECORD, 1, 5, b"fault device 0 1\n"),
+];
+
+#[test]
+fn weighed_journals(rt: HostRuntime) {
+    let today = Day::read(b"2026-01-10").expect(&rt, "a day");
+    for (bytes, fails, status, output) in WEIGHED {
+        let report = JournalReport::Weigh {
+            kind: Kind::Funded,
+            today,
+        };
+        expect_report(&rt, rt.alloc(), report, bytes, fails, status, output);
     }
 }
 
