@@ -1,7 +1,7 @@
 #!/usr/bin/env bash
 # Times the commands on a full book: bench/commands.sh
 # Prints the milliseconds of `import` of 262,144 invoices beside Python's csv module on the same file, which checks the same fields and
-# writes the same lines; of an `audit`, `positions` and `notices` of a book of 16,384 firms and 262,144 claims; and of
+# writes the same lines; of an `audit`, `positions`, `notices` and `weigh` of a book of 16,384 firms and 262,144 claims; and of
 # `trial 16384 262144 1`, with its peak memory. Each is the least of three. The journal is in memory. Run by hand.
 set -euo pipefail
 
@@ -60,7 +60,7 @@ with open("filed") as filed, open("requests", "w") as requests:
         requests.write(f"1 CONFIRM {creditor} {invoice} {debtor}\n")
 with open("requests") as requests:
     subprocess.run([program, "run"], stdin=requests, stdout=subprocess.DEVNULL, check=True)
-for words in (["audit"], ["positions"], ["notices", "2026-01-10"]):
+for words in (["audit"], ["positions"], ["notices", "2026-01-10"], ["weigh", "PLAIN", "2026-01-10"]):
     print(f"{words[0]} {least([program, *words], '/dev/null', 'table'):.0f} ms")
 PYTHON
 /usr/bin/time -f 'trial: %e s, %U s of the processor, %M KB at its peak' "$program" trial 16384 262144 1
