@@ -1,7 +1,8 @@
 #!/usr/bin/env bash
 # Times a run whose acts come by one lane, and one whose acts come by sixteen: bench/lanes.sh [ACTS [FOLDER]]
-# Prints the acts a second of each, and how many times as many sixteen lanes are. The journal is a file in a new folder within
-# FOLDER, so that its disk is timed: each act that is accepted is synced there. Each time is the least of three runs, in turn.
+# Prints the acts a second of each, the microseconds of the processors an act, and how many times as much sixteen lanes are. The
+# journal is a file in a new folder within FOLDER, so that its disk is timed: each act that is accepted is synced there. Each time is
+# the least of three runs, in turn.
 # Then it prints how many acts of the other lanes were answered while one lane had a round of 262,144 claims solved, with the
 # journal in memory. Run by hand. Without words it takes 3,200 acts, and the folder of temporary files.
 set -euo pipefail
@@ -27,14 +28,14 @@ write_round() {
   awk -v acts="$1" 'BEGIN { for (act = 0; act < acts; act++) print act % 15 + 2, "FUND F-" act % 16 + 1, "1.00" }'
 }
 
-# Microseconds of a run over an input whose every act is accepted.
+# Microseconds of a run over an input whose every act is accepted, by the clock and of the processors.
 timed() {
   rm -f bureau.journal
   local begun=${EPOCHREALTIME/./} ended
-  "$program" run <"$folder/$1" >"$folder/written"
+  /usr/bin/time -f '%U %S' -o "$folder/spent" "$program" run <"$folder/$1" >"$folder/written"
   ended=${EPOCHREALTIME/./}
   [ "$(grep -c ' = ok$' "$folder/written")" -eq "$((acts + 16))" ] || { echo "bench: an act was not accepted" >&2; exit 1; }
-  echo "$((ended - begun))"
+  awk -v clock="$((ended - begun))" '{ print clock, ($1 + $2) * 1e6 }' "$folder/spent"
 }
 
 . "$(dirname "$0")/program.sh"
@@ -50,10 +51,13 @@ for _ in 1 2 3; do
   echo "$one $sixteen"
 done | awk -v acts="$acts" '
   NR == 1 || $1 < one { one = $1 }
-  NR == 1 || $2 < sixteen { sixteen = $2 }
+  NR == 1 || $2 < spent_one { spent_one = $2 }
+  NR == 1 || $3 < sixteen { sixteen = $3 }
+  NR == 1 || $4 < spent { spent = $4 }
   END {
-    printf "%8s %10s\n%8d %10d\n%8d %10d\n", "lanes", "acts/s", 1, acts * 1e6 / one, 16, acts * 1e6 / sixteen
-    printf "sixteen lanes by one: %.2f\n", one / sixteen
+    printf "%8s %10s %12s\n", "lanes", "acts/s", "us/act"
+    printf "%8d %10d %12.1f\n%8d %10d %12.1f\n", 1, acts * 1e6 / one, spent_one / acts, 16, acts * 1e6 / sixteen, spent / acts
+    printf "sixteen lanes by one: %.2f times as many a second, %.2f times the time of the processors\n", one / sixteen, spent / spent_one
   }'
 
 cd "$in_memory"
