@@ -22,6 +22,6 @@ mod writing;
 
 pub use call::{Call, can_be_kept};
 pub use laws::{bodies_have_their_lengths, each_body_is_of_one_call};
-pub use length::{MOST_BODY, body_length};
+pub use length::{body_length, publication_length};
 pub use reading::read_body;
 pub use writing::encode;

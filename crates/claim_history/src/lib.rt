@@ -26,6 +26,7 @@ mod day;
 mod entry;
 mod fact;
 mod laws;
+pub mod record_bytes;
 
 pub use act::{Act, each_act_has_its_own_text};
 pub use act_text::write_act;

@@ -9,10 +9,11 @@ use Rattle.claim_history.specs.declared.act.Act.TheVariants as act
 use Rattle.claim_history.specs.declared.entry.Reply.{Reply}
 use Rattle.claim_history.specs.declared.entry.Reply.TheVariants as reply
 use Rattle.claim_history.specs.declared.entry.Entry.{Entry}
+use Rattle.claim_history.specs.declared.record_bytes.TheConstants.{RECORD_HEAD, CLOSE_BODY}
 use Rattle.claim_history.specs.Cut.{cut_of}
 use Rattle.claim_history.specs.States.{State, after, state_of}
 use Rattle.claim_history.specs.History.{answer_of, is_opening, replied}
-use Rattle.claim_history.specs.Needs.{endings_bytes, endings_entries, is_full, needed_bytes_of, needed_entries_of, open_after, own_bytes, used_bytes_of, used_entries_of}
+use Rattle.claim_history.specs.Needs.{endings_with, endings_bytes, endings_entries, is_full, needed_bytes_of, needed_entries_of, open_after, own_bytes, used_bytes_of, used_entries_of}
 use Rattle.claim_history.proofs.Replies.{opens}
 use Rattle.limited_book.specs.declared.room.Room.{Room}
 use Rattle.limited_book.specs.declared.room.Room.TheVariants.{Entries, Bytes}
@@ -56,16 +57,16 @@ opening_entries history caller kind horizon entries endings e used ends =
 
 -- the bytes of both endings of the round of a cut
 abbrev cut_bytes : CutView → ℕ
-cut_bytes cut = 32 + (8 * length cut.claims + 4 * length cut.parties)
+cut_bytes cut = endings_with (length cut.claims) (length cut.parties)
 
 pub opening_bytes : (history : List Entry) (caller : ℕ) (kind : Kind) (horizon : ℕ) (cut : CutView) (bytes endings : ℕ) → is_opening (answer_of history caller (act.Close kind horizon)) ≡ true
-    → cut ≡ cut_of ((state_of history).openings + 1) (state_of history).ledger kind horizon → bytes ≡ used_bytes_of history → endings ≡ 32 + (8 * length cut.claims + 4 * length cut.parties)
-    → bytes + 15 + endings ≡ needed_bytes_of history caller (act.Close kind horizon)
+    → cut ≡ cut_of ((state_of history).openings + 1) (state_of history).ledger kind horizon → bytes ≡ used_bytes_of history → endings ≡ cut_bytes cut
+    → bytes + RECORD_HEAD + CLOSE_BODY + endings ≡ needed_bytes_of history caller (act.Close kind horizon)
 opening_bytes history caller kind horizon cut bytes endings e is used ends =
     let a : Act = act.Close kind horizon in
     let opened_is : endings_bytes (open_after (state_of history) caller a) ≡ cut_bytes (cut_of ((state_of history).openings + 1) (state_of history).ledger kind horizon) =
     ap (λ (x : Reply). endings_bytes (after caller a x (state_of history)).open_round) (opened history caller kind horizon e) in
-    let own : own_bytes a (answer_of history caller a) ≡ 15 = ap (own_bytes a) (opened history caller kind horizon e) in
+    let own : own_bytes a (answer_of history caller a) ≡ RECORD_HEAD + CLOSE_BODY = ap (own_bytes a) (opened history caller kind horizon e) in
     omega (arith, used, ends, opened_is, own, ap cut_bytes is)
 
 -- ---- the answer

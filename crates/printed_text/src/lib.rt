@@ -20,5 +20,5 @@ mod verdict_text;
 
 pub use ending::end_with;
 pub use fault_text::{write_bad_line, write_bad_row, write_bad_statement};
-pub use output::{OUTPUT_BYTES, flush, make_room, output_buffer, print_batch, print_unanswered};
+pub use output::{flush, make_room, output_buffer, print_batch, print_unanswered};
 pub use verdict_text::{status_of_verdict, write_verdict};

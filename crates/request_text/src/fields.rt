@@ -11,7 +11,7 @@ ghost use Rattle.request_text.specs.Causes.{HasArgsCause, HasCause, HasForm, Has
 ghost use Rattle.request_text.specs.declared.verb.Verb.TheVariants as verbs;
 
 use crate::error::LineCause;
-use crate::request::MOST_LANES;
+use setoff_model::limits::MOST_LANES;
 use crate::verb::{Verb, verb_of};
 use claim_history::{Act, Day};
 use setoff_model::{Key, Kind, Name, read_amount, read_claim_amount, read_kind, read_number};
@@ -70,10 +70,10 @@ fn key_at(creditor: &[u8], invoice: &[u8]) -> Result<Key, LineCause>
     Ok(Key { creditor, invoice })
 }
 
-// The act of a FIRM's fields.
-fn firm_act(args: &[&[u8]]) -> Result<Act, LineCause>
-    ensures found { IfOk result (AreArgs (codes "FIRM") (map (λ f. f.now) args.now)) }
-    ensures bad { IfErr result (HasArgsCause (forms_of verbs.Firm) (map (λ f. f.now) args.now)) }
+// The firm of one field.
+fn one_firm(args: &[&[u8]]) -> Result<Name, LineCause>
+    ensures found { IfOk result (λ firm. (map (λ f. f.now) args.now ≡ firm ∷ []) × (is_name firm ≡ true)) }
+    ensures bad { IfErr result (HasArgsCause (named ∷ []) (map (λ f. f.now) args.now)) }
 {
     let [firm] = args else {
         return Err(LineCause::Fields);
@@ -81,6 +81,15 @@ fn firm_act(args: &[&[u8]]) -> Result<Act, LineCause>
     let Some(firm) = Name::of(firm) else {
         return Err(LineCause::Field(1));
     };
+    Ok(firm)
+}
+
+// The act of a FIRM's fields.
+fn firm_act(args: &[&[u8]]) -> Result<Act, LineCause>
+    ensures found { IfOk result (AreArgs (codes "FIRM") (map (λ f. f.now) args.now)) }
+    ensures bad { IfErr result (HasArgsCause (forms_of verbs.Firm) (map (λ f. f.now) args.now)) }
+{
+    let firm = one_firm(args)?;
     Ok(Act::Firm { firm })
 }
 
@@ -123,25 +132,27 @@ fn filed(
     })
 }
 
+// The key and the debtor of three fields.
+fn key_and_debtor(args: &[&[u8]]) -> Result<(Key, Name), LineCause>
+    ensures found { IfOk result (λ found. (map (λ f. f.now) args.now ≡ found.0.creditor ∷ found.0.invoice ∷ found.1 ∷ []) × (is_key found.0 ≡ true) × (is_name found.1 ≡ true)) }
+    ensures bad { IfErr result (HasArgsCause (named ∷ named ∷ named ∷ []) (map (λ f. f.now) args.now)) }
+{
+    let [creditor, invoice, debtor] = args else {
+        return Err(LineCause::Fields);
+    };
+    let key = key_at(creditor, invoice)?;
+    let Some(debtor) = Name::of(debtor) else {
+        return Err(LineCause::Field(3));
+    };
+    Ok((key, debtor))
+}
+
 // The act of a CONFIRM's fields.
 fn confirm_act(args: &[&[u8]]) -> Result<Act, LineCause>
     ensures found { IfOk result (AreArgs (codes "CONFIRM") (map (λ f. f.now) args.now)) }
     ensures bad { IfErr result (HasArgsCause (forms_of verbs.Confirm) (map (λ f. f.now) args.now)) }
 {
-    let [creditor, invoice, debtor] = args else {
-        return Err(LineCause::Fields);
-    };
-    confirmed(creditor, invoice, debtor)
-}
-
-fn confirmed(creditor: &[u8], invoice: &[u8], debtor: &[u8]) -> Result<Act, LineCause>
-    ensures found { IfOk result (AreArgs (codes "CONFIRM") (creditor.now ∷ invoice.now ∷ debtor.now ∷ [])) }
-    ensures bad { IfErr result (HasArgsCause (forms_of verbs.Confirm) (creditor.now ∷ invoice.now ∷ debtor.now ∷ [])) }
-{
-    let key = key_at(creditor, invoice)?;
-    let Some(debtor) = Name::of(debtor) else {
-        return Err(LineCause::Field(3));
-    };
+    let (key, debtor) = key_and_debtor(args)?;
     Ok(Act::Confirm { key, debtor })
 }
 
@@ -150,20 +161,7 @@ fn dispute_act(args: &[&[u8]]) -> Result<Act, LineCause>
     ensures found { IfOk result (AreArgs (codes "DISPUTE") (map (λ f. f.now) args.now)) }
     ensures bad { IfErr result (HasArgsCause (forms_of verbs.Dispute) (map (λ f. f.now) args.now)) }
 {
-    let [creditor, invoice, debtor] = args else {
-        return Err(LineCause::Fields);
-    };
-    disputed(creditor, invoice, debtor)
-}
-
-fn disputed(creditor: &[u8], invoice: &[u8], debtor: &[u8]) -> Result<Act, LineCause>
-    ensures found { IfOk result (AreArgs (codes "DISPUTE") (creditor.now ∷ invoice.now ∷ debtor.now ∷ [])) }
-    ensures bad { IfErr result (HasArgsCause (forms_of verbs.Dispute) (creditor.now ∷ invoice.now ∷ debtor.now ∷ [])) }
-{
-    let key = key_at(creditor, invoice)?;
-    let Some(debtor) = Name::of(debtor) else {
-        return Err(LineCause::Field(3));
-    };
+    let (key, debtor) = key_and_debtor(args)?;
     Ok(Act::Dispute { key, debtor })
 }
 
@@ -175,13 +173,6 @@ fn withdraw_act(args: &[&[u8]]) -> Result<Act, LineCause>
     let [creditor, invoice] = args else {
         return Err(LineCause::Fields);
     };
-    withdrawn(creditor, invoice)
-}
-
-fn withdrawn(creditor: &[u8], invoice: &[u8]) -> Result<Act, LineCause>
-    ensures found { IfOk result (AreArgs (codes "WITHDRAW") (creditor.now ∷ invoice.now ∷ [])) }
-    ensures bad { IfErr result (HasArgsCause (forms_of verbs.Withdraw) (creditor.now ∷ invoice.now ∷ [])) }
-{
     let key = key_at(creditor, invoice)?;
     Ok(Act::Withdraw { key })
 }
@@ -194,13 +185,6 @@ fn receive_act(args: &[&[u8]]) -> Result<Act, LineCause>
     let [creditor, invoice, amount] = args else {
         return Err(LineCause::Fields);
     };
-    received(creditor, invoice, amount)
-}
-
-fn received(creditor: &[u8], invoice: &[u8], amount: &[u8]) -> Result<Act, LineCause>
-    ensures found { IfOk result (AreArgs (codes "RECEIVE") (creditor.now ∷ invoice.now ∷ amount.now ∷ [])) }
-    ensures bad { IfErr result (HasArgsCause (forms_of verbs.Receive) (creditor.now ∷ invoice.now ∷ amount.now ∷ [])) }
-{
     let key = key_at(creditor, invoice)?;
     let Some(amount) = amount_at(amount) else {
         return Err(LineCause::Field(3));
@@ -208,27 +192,29 @@ fn received(creditor: &[u8], invoice: &[u8], amount: &[u8]) -> Result<Act, LineC
     Ok(Act::Receive { key, amount })
 }
 
-// The act of a FUND's fields.
-fn fund_act(args: &[&[u8]]) -> Result<Act, LineCause>
-    ensures found { IfOk result (AreArgs (codes "FUND") (map (λ f. f.now) args.now)) }
-    ensures bad { IfErr result (HasArgsCause (forms_of verbs.Fund) (map (λ f. f.now) args.now)) }
+// The firm and the amount from 0.01 on of two fields.
+fn firm_and_amount(args: &[&[u8]]) -> Result<(Name, u64), LineCause>
+    ensures found { IfOk result (λ found. (map (λ f. f.now) args.now ≡ found.0 ∷ cents_text found.1 ∷ []) × (is_name found.0 ≡ true) × (is_claim_amount found.1 ≡ true)) }
+    ensures bad { IfErr result (HasArgsCause (named ∷ some_cents ∷ []) (map (λ f. f.now) args.now)) }
 {
     let [firm, amount] = args else {
         return Err(LineCause::Fields);
     };
-    funded(firm, amount)
-}
-
-fn funded(firm: &[u8], amount: &[u8]) -> Result<Act, LineCause>
-    ensures found { IfOk result (AreArgs (codes "FUND") (firm.now ∷ amount.now ∷ [])) }
-    ensures bad { IfErr result (HasArgsCause (forms_of verbs.Fund) (firm.now ∷ amount.now ∷ [])) }
-{
     let Some(firm) = Name::of(firm) else {
         return Err(LineCause::Field(1));
     };
     let Some(amount) = amount_at(amount) else {
         return Err(LineCause::Field(2));
     };
+    Ok((firm, amount))
+}
+
+// The act of a FUND's fields.
+fn fund_act(args: &[&[u8]]) -> Result<Act, LineCause>
+    ensures found { IfOk result (AreArgs (codes "FUND") (map (λ f. f.now) args.now)) }
+    ensures bad { IfErr result (HasArgsCause (forms_of verbs.Fund) (map (λ f. f.now) args.now)) }
+{
+    let (firm, amount) = firm_and_amount(args)?;
     Ok(Act::Fund { firm, amount })
 }
 
@@ -237,22 +223,7 @@ fn draw_act(args: &[&[u8]]) -> Result<Act, LineCause>
     ensures found { IfOk result (AreArgs (codes "DRAW") (map (λ f. f.now) args.now)) }
     ensures bad { IfErr result (HasArgsCause (forms_of verbs.Draw) (map (λ f. f.now) args.now)) }
 {
-    let [firm, amount] = args else {
-        return Err(LineCause::Fields);
-    };
-    drawn(firm, amount)
-}
-
-fn drawn(firm: &[u8], amount: &[u8]) -> Result<Act, LineCause>
-    ensures found { IfOk result (AreArgs (codes "DRAW") (firm.now ∷ amount.now ∷ [])) }
-    ensures bad { IfErr result (HasArgsCause (forms_of verbs.Draw) (firm.now ∷ amount.now ∷ [])) }
-{
-    let Some(firm) = Name::of(firm) else {
-        return Err(LineCause::Field(1));
-    };
-    let Some(amount) = amount_at(amount) else {
-        return Err(LineCause::Field(2));
-    };
+    let (firm, amount) = firm_and_amount(args)?;
     Ok(Act::Draw { firm, amount })
 }
 
@@ -264,13 +235,6 @@ fn limit_act(args: &[&[u8]]) -> Result<Act, LineCause>
     let [firm, credit, ceiling] = args else {
         return Err(LineCause::Fields);
     };
-    limited(firm, credit, ceiling)
-}
-
-fn limited(firm: &[u8], credit: &[u8], ceiling: &[u8]) -> Result<Act, LineCause>
-    ensures found { IfOk result (AreArgs (codes "LIMIT") (firm.now ∷ credit.now ∷ ceiling.now ∷ [])) }
-    ensures bad { IfErr result (HasArgsCause (forms_of verbs.Limit) (firm.now ∷ credit.now ∷ ceiling.now ∷ [])) }
-{
     let Some(firm) = Name::of(firm) else {
         return Err(LineCause::Field(1));
     };
@@ -295,13 +259,6 @@ fn offer_act(args: &[&[u8]]) -> Result<Act, LineCause>
     let [firm, amount] = args else {
         return Err(LineCause::Fields);
     };
-    offered(firm, amount)
-}
-
-fn offered(firm: &[u8], amount: &[u8]) -> Result<Act, LineCause>
-    ensures found { IfOk result (AreArgs (codes "OFFER") (firm.now ∷ amount.now ∷ [])) }
-    ensures bad { IfErr result (HasArgsCause (forms_of verbs.Offer) (firm.now ∷ amount.now ∷ [])) }
-{
     let Some(firm) = Name::of(firm) else {
         return Err(LineCause::Field(1));
     };
@@ -316,12 +273,7 @@ fn position_act(args: &[&[u8]]) -> Result<Act, LineCause>
     ensures found { IfOk result (AreArgs (codes "POSITION") (map (λ f. f.now) args.now)) }
     ensures bad { IfErr result (HasArgsCause (forms_of verbs.Position) (map (λ f. f.now) args.now)) }
 {
-    let [firm] = args else {
-        return Err(LineCause::Fields);
-    };
-    let Some(firm) = Name::of(firm) else {
-        return Err(LineCause::Field(1));
-    };
+    let firm = one_firm(args)?;
     Ok(Act::Position { firm })
 }
 
@@ -333,13 +285,6 @@ fn close_act(args: &[&[u8]]) -> Result<Act, LineCause>
     let [kind, horizon] = args else {
         return Err(LineCause::Fields);
     };
-    closed(kind, horizon)
-}
-
-fn closed(kind: &[u8], horizon: &[u8]) -> Result<Act, LineCause>
-    ensures found { IfOk result (AreArgs (codes "CLOSE") (kind.now ∷ horizon.now ∷ [])) }
-    ensures bad { IfErr result (HasArgsCause (forms_of verbs.Close) (kind.now ∷ horizon.now ∷ [])) }
-{
     let Some(kind) = kind_at(kind) else {
         return Err(LineCause::Field(1));
     };

@@ -20,7 +20,7 @@ mod writing;
 
 pub use error::{LineCause, RequestError};
 pub use reading::read_requests;
-pub use request::{Batch, MOST_LANES, Request};
+pub use request::{Batch, Request};
 pub use writing::write_request;
 
 /// What is written of batches is read back as these batches, and as no others. A law, which does nothing when it is

@@ -4,9 +4,6 @@ ghost use Rattle.std.specs.Prelude.{◌≡◌};
 use claim_history::Act;
 use std::marker::Model;
 
-/// The most lanes that serve a batch. A lane is a number from 1 to this one.
-pub const MOST_LANES: usize = 16;
-
 /// One line that asks something of a lane.
 #[derive(Drop)]
 pub struct Request {

@@ -1,6 +1,7 @@
 -- What an append to a journal leaves.
 use Rattle.std.specs.Prelude.{◌≡◌, ◌+◌, ◌≤◌, ℕ, List, [], ◌∷◌, ◌++◌, length, Option, None}
 use Rattle.fault_count.specs.Counts.{HasRisen}
+use Rattle.claim_history.specs.declared.record_bytes.TheConstants.{RECORD_HEAD}
 use Rattle.disk_model.specs.Calls.{Seen, Passes}
 use Rattle.round_journal.specs.Kept.{JournalView, IsKept, IsLast, HasFailedIn, HoldsOne}
 use Rattle.round_journal.specs.declared.device.Device.{Device}
@@ -8,7 +9,7 @@ use Rattle.round_journal.specs.declared.device.Device.{Device}
 -- It succeeded. Whatever bodies were kept, they are kept with the new one, and the next gate stands behind its record.
 pub record HasAppended {D : Type 0} (seen : D → Seen) (old new : JournalView D) (body : List ℕ) : Type 0 where
   pub kept : (bodies : List (List ℕ)) (last : Option (List ℕ)) → IsKept seen old bodies last → IsKept seen new (bodies ++ body ∷ []) None
-  pub gate : new.gate ≡ old.gate + 5 + length body
+  pub gate : new.gate ≡ old.gate + RECORD_HEAD + length body
 
 -- It failed. Whatever bodies were kept, they are kept, and perhaps a last one behind the gate, which is the same. How it failed
 -- is told, too.

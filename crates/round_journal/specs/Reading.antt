@@ -1,11 +1,12 @@
 -- What the bytes of a journal are read as: a list of bodies, or a fault.
 use Rattle.std.specs.Prelude.{◌≡◌, ◌≢◌, ◌+◌, ◌<◌, ◌^◌, ℕ, List, [], ◌∷◌, ◌++◌, length, take, All}
+use Rattle.claim_history.specs.declared.record_bytes.TheConstants.{RECORD_HEAD}
 use Rattle.round_journal.specs.Bytes.{header, measured, front, AreShort, HoldsBodies}
 
 -- the places of the gates of these bodies, the first of which is at this place
 abbrev pub gates_from : ℕ → List (List ℕ) → List ℕ
 gates_from gate [] = []
-gates_from gate (body ∷ bodies) = gate ∷ gates_from (gate + 5 + length body) bodies
+gates_from gate (body ∷ bodies) = gate ∷ gates_from (gate + RECORD_HEAD + length body) bodies
 
 -- more than nine bytes that do not begin with the header
 abbrev pub LacksHeader : List ℕ → Type 0

@@ -10,6 +10,7 @@ use crate::cause::RecordWhy;
 use crate::record::Record;
 use crate::stop::Stop;
 use act_bodies::{Call, read_body};
+use claim_history::record_bytes::RECORD_HEAD;
 use std::alloc::Global;
 
 /// The records of a journal, and the place of the gate behind them.
@@ -67,7 +68,7 @@ fn records_of_long(alloc: Global, bytes: &[u8]) -> Result<Scan, Stop>
             });
         };
         records.push(record_of(alloc, gate as u64, body)?)?;
-        gate += 5 + body.len();
+        gate += RECORD_HEAD as usize + body.len();
     }
     Ok(Scan {
         records,

@@ -17,7 +17,7 @@ use Rattle.claim_history.specs.Acts.{is_close, is_filing, is_registration, is_re
 use Rattle.claim_history.specs.Bounds.{CutIsBounded}
 use Rattle.claim_history.specs.Callers.{entries_by}
 use Rattle.claim_history.specs.History.{AreValid, IsLegal, IsLegalPast}
-use Rattle.claim_history.specs.Needs.{Fits, is_counted, is_full, record_length_of}
+use Rattle.claim_history.specs.Needs.{endings_with, Fits, is_counted, is_full, record_length_of}
 use Rattle.claim_history.proofs.Bounds.{cut_bound_law}
 use Rattle.claim_history.proofs.Pasts.{legal_rest}
 use Rattle.claim_history.proofs.Room.{full_law, one_if}
@@ -29,7 +29,7 @@ use Rattle.request_text.specs.declared.request.Request.{Request}
 use Rattle.served_lines.specs.declared.answer.Answer.{Answer}
 use Rattle.served_lines.specs.declared.line_end.LineEnd.{LineEnd}
 use Rattle.served_lines.specs.declared.line_end.LineEnd.TheVariants as ends
-use Rattle.served_lines.specs.Bound.{AreRequests, BoundLaw, IsWithinBound, claims_with, closes, endings_with, firms_with, most_request_bytes}
+use Rattle.served_lines.specs.Bound.{AreRequests, BoundLaw, IsWithinBound, claims_with, closes, firms_with, most_request_bytes}
 use Rattle.served_lines.specs.Ends.{is_full_end, has_line_end}
 use Rattle.served_lines.specs.Served.{IsCall, IsPublicationOf, IsServed, Line, LineAdds, LinesAdd, WasFull, lane_lines, lines_of}
 use Rattle.served_lines.proofs.Costs.{AddsAt, HasFull, adds_at, batch_le, full_le, some_full}

@@ -16,14 +16,13 @@ use Rattle.claim_history.specs.declared.entry.Reply.{Reply}
 use Rattle.claim_history.specs.Acts.{is_amount, is_claim_amount, is_day, is_filing, is_key, is_registration, is_request, is_valid}
 use Rattle.claim_history.specs.Bounds.{CutIsBounded}
 use Rattle.claim_history.specs.History.{AreValid, IsLegal, answer_of, is_no_refusal}
-use Rattle.claim_history.specs.Needs.{endings_bytes, endings_entries, is_counted, needed_bytes_of, needed_entries_of, own_bytes, record_length_of, used_bytes, used_bytes_of, used_entries_of, with_due}
+use Rattle.claim_history.specs.Needs.{endings_with, endings_bytes, endings_entries, is_counted, needed_bytes_of, needed_entries_of, own_bytes, record_length_of, used_bytes, used_bytes_of, used_entries_of, with_due}
 use Rattle.claim_history.specs.States.{OpenRound, state_of}
 use Rattle.claim_history.proofs.Agreement.{cut_law}
 use Rattle.claim_history.proofs.Bounds.{cut_bound_law}
 use Rattle.claim_history.proofs.Growth.{due_follows, growth_law}
 use Rattle.claim_history.proofs.OneCut.{open_cut_is}
 use Rattle.claim_history.proofs.Room.{bytes_more, needs_law, one_if}
-use Rattle.served_lines.specs.Bound.{endings_with}
 
 -- ---- sums over a history
 

@@ -2,7 +2,7 @@
 use Rattle.std.proofs.Common.{◌≡◌, ◌∙◌, ℕ, zero, suc, ◌-◌, ◌/◌, ◌<◌, ◌≤◌, List, [], ◌∷◌, length, map, ap, ap₂, subst, sym, arith}
 use Rattle.std.specs.Prelude.{min, slice_index}
 use Rattle.std.proofs.lemmas.List.{length-map}
-use Rattle.setoff_model.specs.Limits.{most_weight}
+use Rattle.setoff_model.specs.declared.limits.TheConstants.{MOST_WEIGHT}
 use Rattle.setoff_model.specs.declared.kind.Kind.{Kind}
 use Rattle.setoff_model.specs.CutView.{CutView, OutcomeView, obligations}
 use Rattle.setoff_model.specs.Weighted.{AreWeights, ProvesWeighted}
@@ -35,7 +35,7 @@ weight_some today due = omega arith
 min_at_most : (n : ℕ) → min 8 n ≤ 8
 min_at_most n = omega arith
 
-weight_limit : (today due : ℕ) → weight_at today due ≤ most_weight
+weight_limit : (today due : ℕ) → weight_at today due ≤ MOST_WEIGHT
 weight_limit today due = omega (arith, min_at_most ((today - due) / 30))
 
 -- what holds of each weight holds of each place of the list
@@ -52,7 +52,7 @@ are_weights l kind today =
     record {
       one_each = long;
       some = λ c lt. each_weight (λ n. 1 ≤ n) today (weight_some today) (due_claims l today) c (omega (arith, lt, long, due));
-      limit = λ c lt. each_weight (λ n. n ≤ most_weight) today (weight_limit today) (due_claims l today) c (omega (arith, lt, long, due));
+      limit = λ c lt. each_weight (λ n. n ≤ MOST_WEIGHT) today (weight_limit today) (due_claims l today) c (omega (arith, lt, long, due));
     }
 
 -- ---- the cut and the text
