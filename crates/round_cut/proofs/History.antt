@@ -34,7 +34,7 @@ use Rattle.setoff_model.proofs.Windowed.{window_by_balance, window_law}
 use Rattle.setoff_model.proofs.SumsBounded.{above_zero_is}
 use Rattle.round_cut.specs.Windows.{KeepsLimits, window_of, WindowsLaw}
 use Rattle.round_cut.specs.CutOfFacts.{takes_part, claims_due, firms_in, window_or_none, window_in, party_in, claim_among, parties_in, claims_in, cut_of_facts, has_account, IsClaimOf, AreFacts}
-use Rattle.round_cut.specs.CutLaw.{CutLaw, FactsLaw, FormedLaw}
+use Rattle.round_cut.specs.CutLaw.{BuiltCutLaw, FactsLaw, FormedLaw}
 use Rattle.round_cut.proofs.Growth.{two_names, map_same}
 use Rattle.round_cut.proofs.Pairs.{pairs_map, pairs_reverse}
 use Rattle.claim_history.proofs.Pasts.{all_reverse}
@@ -188,7 +188,7 @@ limited history legal valid firm = record {
 pub facts_law : FactsLaw
 facts_law history legal valid = facts_are (state_of history).ledger (history_orderly history legal valid).0 (limited history legal valid)
 
-pub cut_law : CutLaw
+pub cut_law : BuiltCutLaw
 cut_law history round kind horizon legal valid = cut_is (state_of history).ledger round kind horizon (history_orderly history legal valid).0.each
 
 pub formed_law : FormedLaw

@@ -14,7 +14,7 @@ use Rattle.claim_history.specs.Facts.{Filing, Ledger, account_facts, claim_fact,
 use Rattle.claim_history.specs.History.{AreValid, IsLegal}
 use Rattle.claim_history.specs.Cut.{cut_claim, due_claims, firms_of}
 use Rattle.claim_book.specs.Book.{ledger_of}
-use Rattle.round_cut.specs.CutLaw.{CutLaw}
+use Rattle.round_cut.specs.CutLaw.{BuiltCutLaw}
 use Rattle.round_cut.specs.CutOfFacts.{claims_due, cut_of_facts}
 use Rattle.round_cut.proofs.History.{due_is, map-map}
 use Rattle.weighed_round.specs.Weighed.{IsWeighedText, cut_by, weighed_text, weight_at, weights_of}
@@ -57,7 +57,7 @@ are_weights l kind today =
 
 -- ---- the cut and the text
 
-pub cut_is : CutLaw → (history : List Entry) → IsLegal history → AreValid history → (kind : Kind) (today : ℕ) (claims : List ClaimFact) (accounts : List AccountFact) (cut : CutView)
+pub cut_is : BuiltCutLaw → (history : List Entry) → IsLegal history → AreValid history → (kind : Kind) (today : ℕ) (claims : List ClaimFact) (accounts : List AccountFact) (cut : CutView)
     → claims ≡ claim_facts (ledger_of history) → accounts ≡ account_facts (ledger_of history) → cut ≡ cut_of_facts 0 claims accounts kind today → cut ≡ cut_by (ledger_of history) kind today
 cut_is law history legal valid kind today claims accounts cut of_claims of_accounts made =
     made ∙ ap₂ (λ (c : List ClaimFact) (a : List AccountFact). cut_of_facts 0 c a kind today) of_claims of_accounts ∙ law history 0 kind today legal valid
