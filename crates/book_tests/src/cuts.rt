@@ -1,87 +1,12 @@
 //! Cuts of claims and accounts, and windows.
-ghost use Rattle.std.specs.Prelude.{◌≢◌, All, AllPairs, IsTrue};
-ghost use Rattle.round_cut.specs.Windows.{KeepsLimits};
-ghost use Rattle.round_cut.specs.CutOfFacts.{has_account as has, IsClaimOf, AreFacts};
-
+use crate::acts::name;
+use crate::facts::are_facts;
 use claim_history::{AccountFact, ClaimFact, Day, Status};
 use round_cut::{build_cut, cut_of_a_history_is_of_its_facts, open_cut_is_well_formed, window};
-use setoff_model::limits::{FIRST_CEILING, MOST_CLAIMS, MOST_FIRMS};
-use setoff_model::{Cut, CutClaim, Key, Kind, Name, Party, same_names};
+use setoff_model::limits::FIRST_CEILING;
+use setoff_model::{Cut, CutClaim, Key, Kind, Name, Party};
 use std::alloc::Global;
 use std::process::Abort;
-
-// ---- whether a cut may be made of claims and accounts
-
-fn are_facts(claims: &[ClaimFact], accounts: &[AccountFact]) -> bool
-    ensures { IsTrue result → AreFacts claims.now accounts.now }
-{
-    claims.len() <= MOST_CLAIMS
-        && accounts.len() <= MOST_FIRMS
-        && keys_differ(claims)
-        && firms_differ(accounts)
-        && claims.iter().all(|claim| is_claim_of(accounts, claim))
-        && accounts.iter().all(keeps_limits)
-}
-
-fn keys_differ(claims: &[ClaimFact]) -> bool
-    ensures { IsTrue result → AllPairs (λ c d. c.key ≢ d.key) claims.now }
-{
-    for place in 0..claims.len() {
-        if !is_new_key(&claims[..place], claims[place].key) {
-            return false;
-        }
-    }
-    true
-}
-
-fn is_new_key(claims: &[ClaimFact], key: Key) -> bool
-    ensures { IsTrue result → All (λ c. c.key ≢ key) claims.now }
-{
-    claims.iter().all(|claim| claim.key != key)
-}
-
-fn firms_differ(accounts: &[AccountFact]) -> bool
-    ensures { IsTrue result → AllPairs (λ a b. a.firm ≢ b.firm) accounts.now }
-{
-    for place in 0..accounts.len() {
-        if !is_new_firm(&accounts[..place], accounts[place].firm) {
-            return false;
-        }
-    }
-    true
-}
-
-fn is_new_firm(accounts: &[AccountFact], firm: Name) -> bool
-    ensures { IsTrue result → All (λ a. a.firm ≢ firm) accounts.now }
-{
-    accounts.iter().all(|account| account.firm != firm)
-}
-
-fn is_claim_of(accounts: &[AccountFact], claim: &ClaimFact) -> bool
-    ensures { IsTrue result → IsClaimOf accounts.now claim.now }
-{
-    has_account(accounts, &claim.debtor)
-        && has_account(accounts, &claim.key.creditor)
-        && claim.debtor != claim.key.creditor
-        && claim.left <= 999_999_999_999
-}
-
-fn has_account(accounts: &[AccountFact], firm: &Name) -> bool
-    ensures { IsTrue result → IsTrue (has accounts.now firm.now) }
-{
-    accounts
-        .iter()
-        .any(|account| same_names(firm, &account.firm))
-}
-
-fn keeps_limits(account: &AccountFact) -> bool
-    ensures { IsTrue result → KeepsLimits account.now }
-{
-    account.credit <= 999_999_999_999
-        && account.ceiling <= FIRST_CEILING
-        && -(account.credit as i64) <= account.balance
-        && account.balance <= account.ceiling as i64
-}
 
 // The cut of a round 1 of claims and accounts of which one may be made.
 fn cut_of(
@@ -147,10 +72,6 @@ struct Names {
     c: Name,
     invoices: [Name; 4],
     day: Day,
-}
-
-fn name(rt: &impl Abort, text: &[u8]) -> Name {
-    Name::of(text).expect(rt, "a name")
 }
 
 fn day(rt: &impl Abort, number: u32) -> Day {

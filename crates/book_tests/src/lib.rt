@@ -5,6 +5,12 @@
 #![tactic(auto)]
 
 #[cfg(test)]
+mod acts;
+#[cfg(test)]
 mod books;
 #[cfg(test)]
 mod cuts;
+#[cfg(test)]
+mod facts;
+#[cfg(test)]
+mod rounds;

@@ -1,7 +1,7 @@
 use Rattle.std.proofs.Common.{◌≢◌}
 use Rattle.setoff_model.proofs.Pairs.{PairsBelow}
-use Rattle.book_tests.proofs.cuts.firms_differ.Given as goal
+use Rattle.book_tests.proofs.facts.keys_differ.Given as goal
 
 -- no two of those so far are alike
 abbrev pub invariant-loop-place : goal.invariant-loop-place
-invariant-loop-place l = PairsBelow (λ a b. a.firm ≢ b.firm) l.accounts l.place
+invariant-loop-place l = PairsBelow (λ a b. a.key ≢ b.key) l.claims l.place

@@ -1,6 +1,6 @@
 use Rattle.std.proofs.Common.{◌≢◌, refl}
 use Rattle.setoff_model.proofs.Pairs.{pairs_more}
-use Rattle.book_tests.proofs.cuts.firms_differ.Goals as goal
+use Rattle.book_tests.proofs.facts.firms_differ.Goals as goal
 
 pub loop-place-preserved : goal.loop-place-preserved
 loop-place-preserved c =
