@@ -31,3 +31,4 @@ mod WorkedRounds
 mod WorkedNeeds
 pub mod Room
 pub mod Bounds
+pub mod Touching

@@ -10,3 +10,4 @@ pub mod Laws
 pub mod Register
 pub mod Needs
 pub mod Bounds
+pub mod Touched

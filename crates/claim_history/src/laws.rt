@@ -3,6 +3,7 @@ ghost use Rattle.claim_history.specs.Laws.{ActsLaw, CutLaw, OneCutLaw, OpenLaw, 
 ghost use Rattle.claim_history.specs.Needs.{RoomLaw, EndingsLaw, RecordsLaw, UseLaw, CallsLaw, NeedsLaw, FullLaw};
 ghost use Rattle.claim_history.specs.Bounds.{CutBoundLaw, UseBoundLaw};
 ghost use Rattle.claim_history.specs.Register.{FullRegister};
+ghost use Rattle.claim_history.specs.Touched.{TouchLaw};
 
 /// What a history comes to is that of its entries: its acts are the accepted ones, newest first, and its open round has
 /// the cut of the entries before its opening. As many rounds were opened as entries open one.
@@ -40,6 +41,12 @@ pub fn limits_hold()
     ensures sizes { SizesLaw }
     ensures formulas { FormulasLaw }
     ensures replies { RepliesLaw }
+{}
+
+/// A firm that no later entry touches keeps its account and its position. An accepted act touches the firms that it names, by
+/// themselves or by a claim of theirs, and a publication any.
+pub fn untouched_firms_stay()
+    ensures { TouchLaw }
 {}
 
 /// While a round is open, each claim of its cut is confirmed with the cut's amount open, and each window of its cut is

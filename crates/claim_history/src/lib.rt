@@ -37,5 +37,5 @@ pub use laws::{
     calls_bound_use_and_cuts, each_round_has_one_cut, full_register_refuses_claims,
     legal_history_grows, limits_hold, open_cut_is_frozen, owned_round_stays_open,
     publication_keeps_net_positions, publications_are_greatest, room_for_endings_is_kept,
-    round_is_open_until_its_end, state_is_of_the_history, use_is_counted,
+    round_is_open_until_its_end, state_is_of_the_history, untouched_firms_stay, use_is_counted,
 };

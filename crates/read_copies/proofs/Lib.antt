@@ -5,3 +5,4 @@ pub mod Rows
 pub mod Same
 pub mod Settled
 pub mod Putting
+pub mod Touching

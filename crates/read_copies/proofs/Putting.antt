@@ -23,7 +23,7 @@ use Rattle.name_index.proofs.Rows.{longer}
 use Rattle.claim_history.specs.Facts.{Ledger, firms, is_registered}
 use Rattle.claim_history.proofs.Rows.{name_is}
 use Rattle.read_copies.specs.declared.row.Row.{Row}
-use Rattle.read_copies.specs.Rows.{firm_of, row_of, row_in, row_at, put_at, put_row, put_all, HasRows, IsRowIn, IsSettled, AreSettled}
+use Rattle.read_copies.specs.Rows.{firm_of, row_of, row_in, row_at, put_at, put_row, put_all, HasRows, IsRowIn, IsSettled, AreAllSettled}
 use Rattle.claim_history.specs.declared.entry.Entry.{Entry}
 use Rattle.claim_history.specs.States.{state}
 use Rattle.claim_history.specs.History.{IsLegal, AreValid}
@@ -199,7 +199,7 @@ registered_more old all firm p h =
 
 -- with changes that settle each registered firm, the table has the rows of the longer history
 pub all_right : (old all : List Entry) (rows changes : List Row) → IsPrefix old all → IsLegal all → AreValid all → AllPairs (λ (f g : List ℕ). f ≢ g) (map firm_of rows) → HasRows (ledger_of old) rows
-    → AreSettled (ledger_of all) rows [] changes → HasRows (ledger_of all) (put_all rows changes)
+    → AreAllSettled (ledger_of all) rows [] changes → HasRows (ledger_of all) (put_all rows changes)
 all_right old all rows changes pre legal valid once has settled firm =
     let l = ledger_of all in
     let more : (q : List ℕ) → is_registered (ledger_of old) q ≡ true → is_registered l q ≡ true = λ q h. registered_more old all q pre h in
@@ -207,5 +207,5 @@ all_right old all rows changes pre legal valid once has settled firm =
     put_right l rows changes firm few (table_fits (ledger_of old) l rows once has more) (settled.added.each (All-nil (IsRowIn l))) (by (is_registered l firm) refl)
   where
     by : (b : Bool) → is_registered (ledger_of all) firm ≡ b → IsSettled (ledger_of all) rows changes firm
-    by true e = settled.registered firm e
+    by true e = settled.each firm refl e
     by false e = inr (none_still (ledger_of old) (ledger_of all) rows firm has (λ q h. registered_more old all q pre h) e)

@@ -15,7 +15,7 @@ use Rattle.claim_history.specs.declared.fact.AccountFact.{AccountFact}
 use Rattle.claim_history.specs.Facts.{Ledger, firms, is_registered, account_fact, account_facts}
 use Rattle.claim_history.proofs.Rows.{name_is}
 use Rattle.read_copies.specs.declared.row.Row.{Row}
-use Rattle.read_copies.specs.Rows.{firm_of, row_of, row_in, row_at, IsRowIn, IsSettled, HasAdded, HasSettled, AreSettled}
+use Rattle.read_copies.specs.Rows.{firm_of, row_of, row_in, row_at, IsRowIn, IsSettled, HasAdded, HasSettled, AreAllSettled}
 
 abbrev is_of : List ℕ → Row → Bool
 is_of firm r = same_name firm (firm_of r)
@@ -94,10 +94,10 @@ one_of P l (n ∷ names) firm all any =
     (cases_Bool (same_name firm n))
 
 -- the accounts of a book are those of all registered firms
-pub settled_all : (l : Ledger) (rows first changes : List Row) (accounts : List AccountFact) → accounts ≡ account_facts l → HasAdded l rows first changes → AreSettledOf l rows changes accounts → AreSettled l rows first changes
+pub settled_all : (l : Ledger) (rows first changes : List Row) (accounts : List AccountFact) → accounts ≡ account_facts l → HasAdded l rows first changes → AreSettledOf l rows changes accounts → AreAllSettled l rows first changes
 settled_all l rows first changes accounts are added done = record {
   added = added;
-  registered = λ firm known.
+  each = λ firm passes known.
       one_of (λ f. is_registered l f ≡ true → IsSettled l rows changes f) l (reverse (firms l)) firm (subst (AreSettledOf l rows changes) are done)
       (sym (list_any-IsPermutation (λ n. same_name firm n) (firms l) (reverse (firms l)) (IsPermutation-reverse (firms l))) ∙ known) known;
 }

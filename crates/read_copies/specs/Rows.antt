@@ -1,5 +1,5 @@
 -- The row of a firm, and how rows are put into a table.
-use Rattle.std.specs.Prelude.{◌≡◌, ◌⊎◌, ℕ, true, nat_lt, List, [], ◌∷◌, ◌++◌, length, fold, find, position, slice_set, All, Option, Some, None, if◌then◌else◌}
+use Rattle.std.specs.Prelude.{◌≡◌, ◌⊎◌, ℕ, Bool, true, nat_lt, List, [], ◌∷◌, ◌++◌, length, fold, find, position, slice_set, All, Option, Some, None, if◌then◌else◌}
 use Rattle.std.specs.List.{list_any}
 use Rattle.setoff_model.specs.declared.limits.TheConstants.{MOST_FIRMS}
 use Rattle.setoff_model.specs.Same.{same_name}
@@ -65,7 +65,11 @@ pub record HasSettled (l : Ledger) (rows : List Row) (firm : List ℕ) (old new 
   pub added : HasAdded l rows old new
   pub here : is_registered l firm ≡ true → IsSettled l rows new firm
 
--- and each registered firm is settled
-pub record AreSettled (l : Ledger) (rows old new : List Row) : Type 0 where
+-- and each registered firm that passes a test is settled
+pub record AreSettled (l : Ledger) (rows : List Row) (test : List ℕ → Bool) (old new : List Row) : Type 0 where
   pub added : HasAdded l rows old new
-  pub registered : (firm : List ℕ) → is_registered l firm ≡ true → IsSettled l rows new firm
+  pub each : (firm : List ℕ) → test firm ≡ true → is_registered l firm ≡ true → IsSettled l rows new firm
+
+-- and each registered firm is settled
+abbrev pub AreAllSettled : Ledger → List Row → List Row → List Row → Type 0
+AreAllSettled l rows old new = AreSettled l rows (λ firm. true) old new

@@ -199,8 +199,9 @@ impl Board {
     /// Shows a book, whose history begins with what was shown last. The table stands for the book's whole history then, all of it
     /// at once.
     ///
-    /// It may wait for a reader that is reading, and not for one that reads no more. It looks at each firm. The only error is that
-    /// memory is missing; then the table is as before, and a later call shows the whole.
+    /// It may wait for a reader that is reading, and not for one that reads no more. It looks at the firms that new entries touch, and
+    /// at each firm where one of them publishes a round or where there are more of them than firms. The only error is that memory is
+    /// missing; then the table is as before, and a later call shows the whole.
     pub fn show<R: Wait>(&mut self, rt: &R, book: &Book) -> Result<(), AllocError>
         requires { IsPrefix self.old.table.history book.now.history }
         ensures readers { self.new.readers ≡ self.old.readers }

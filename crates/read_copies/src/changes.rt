@@ -1,14 +1,17 @@
 //! Which rows of a table have changed.
 ghost use Rattle.std.specs.Prelude.{◌≡◌, IfOk, OnOk};
+ghost use Rattle.std.specs.List.{list_any};
 ghost use mathlib.Core.List.{IsPrefix};
+ghost use Rattle.claim_history.specs.Touched.{is_of_firm, is_side_of, touches};
 ghost use Rattle.claim_book.specs.Book.{ledger_of};
 ghost use Rattle.read_copies.specs.Tables.{IsShown};
-ghost use Rattle.read_copies.specs.Rows.{row_in, put_all, HasRows, HasSettled, AreSettled};
+ghost use Rattle.read_copies.specs.Rows.{row_in, put_all, HasRows, HasSettled, AreSettled, AreAllSettled};
 
 use crate::row::Row;
 use crate::table::Table;
 use claim_book::Book;
-use setoff_model::Name;
+use claim_history::{Act, Entry, Reply, untouched_firms_stay};
+use setoff_model::{Key, Name};
 use std::alloc::{AllocError, Global};
 
 // The row of a firm in a book; None where it is not registered.
@@ -41,9 +44,87 @@ fn add_change(
     Ok(())
 }
 
+// Adds the changes of the creditor and the debtor of a claim.
+fn add_sides(
+    changes: &mut Vec<Row>,
+    table: &Table,
+    book: &Book,
+    key: &Key,
+) -> Result<(), AllocError>
+    ensures { OnOk result (AreSettled (ledger_of book.now.history) table.now.rows
+        (λ firm. is_side_of (ledger_of book.now.history) firm key.now) changes.old.items changes.new.items) }
+{
+    add_change(changes, table, book, key.creditor)?;
+    if let Some(claim) = book.claim(key) {
+        add_change(changes, table, book, claim.debtor)?;
+    }
+    Ok(())
+}
+
+// Adds the changes of the firms that an act names, by themselves or by a claim of theirs.
+fn add_named(
+    changes: &mut Vec<Row>,
+    table: &Table,
+    book: &Book,
+    act: &Act,
+) -> Result<(), AllocError>
+    ensures { OnOk result (AreSettled (ledger_of book.now.history) table.now.rows
+        (λ firm. is_of_firm (ledger_of book.now.history) firm act.now) changes.old.items changes.new.items) }
+{
+    match act {
+        Act::Firm { firm }
+        | Act::Fund { firm, .. }
+        | Act::Draw { firm, .. }
+        | Act::Limit { firm, .. }
+        | Act::Offer { firm, .. } => add_change(changes, table, book, *firm),
+        Act::File { key, .. }
+        | Act::Confirm { key, .. }
+        | Act::Dispute { key, .. }
+        | Act::Withdraw { key }
+        | Act::Receive { key, .. } => add_sides(changes, table, book, key),
+        Act::Position { .. } | Act::Close { .. } | Act::Abandon | Act::Publish { .. } => Ok(()),
+    }
+}
+
+// Adds the changes of the firms that an entry touches.
+fn add_touched(
+    changes: &mut Vec<Row>,
+    table: &Table,
+    book: &Book,
+    entry: &Entry,
+) -> Result<(), AllocError>
+    ensures { OnOk result (AreSettled (ledger_of book.now.history) table.now.rows
+        (λ firm. touches (ledger_of book.now.history) firm entry.now) changes.old.items changes.new.items) }
+{
+    match entry.reply {
+        Reply::Refused(_) => Ok(()),
+        Reply::Published { .. } => add_all(changes, table, book),
+        _ => add_named(changes, table, book, &entry.act),
+    }
+}
+
+// Adds the changes of the firms that entries touch; of all firms, where these are fewer.
+fn add_later(
+    changes: &mut Vec<Row>,
+    table: &Table,
+    book: &Book,
+    later: &[Entry],
+) -> Result<(), AllocError>
+    ensures { OnOk result (AreSettled (ledger_of book.now.history) table.now.rows
+        (λ firm. list_any (touches (ledger_of book.now.history) firm) later.now) changes.old.items changes.new.items) }
+{
+    if book.accounts().len() < later.len() {
+        return add_all(changes, table, book);
+    }
+    for entry in later {
+        add_touched(changes, table, book, entry)?;
+    }
+    Ok(())
+}
+
 // Adds the change of each firm.
 fn add_all(changes: &mut Vec<Row>, table: &Table, book: &Book) -> Result<(), AllocError>
-    ensures { OnOk result (AreSettled (ledger_of book.now.history) table.now.rows changes.old.items changes.new.items) }
+    ensures { OnOk result (AreAllSettled (ledger_of book.now.history) table.now.rows changes.old.items changes.new.items) }
 {
     for account in book.accounts() {
         add_change(changes, table, book, account.firm)?;
@@ -62,9 +143,10 @@ pub(crate) fn changed_rows(
     requires begins { IsPrefix table.now.history book.now.history }
     ensures { IfOk result (λ rows. HasRows (ledger_of book.now.history) (put_all table.now.rows rows.items)) }
 {
+    untouched_firms_stay();
     let _rows = table.rows();
-    let _history = book.history();
+    let later = &book.history()[table.entries as usize..];
     let mut changes = Vec::new(alloc);
-    add_all(&mut changes, table, book)?;
+    add_later(&mut changes, table, book, later)?;
     Ok(changes)
 }
