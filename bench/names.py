@@ -1,7 +1,7 @@
 """Compares the names of the crates with the documents: python3 bench/names.py [CRATE..]
 
-Prints each name that stands on one side alone, and nothing where all agree. In docs/PROVED.md each public function, law and trait has a
-row, and each clause in parentheses there is one. In docs/LAYERS.md each crate has a row, and each file of a walk is there. In
+Prints each name that stands on one side alone, and nothing where all agree. In docs/PROVED.md each public function, law and trait has an
+item, and each clause in parentheses there is one. In docs/LAYERS.md each crate has an item, and each file of a walk is there. In
 docs/DEFINITIONS.md the words of the glossary and of the top call's promise are words of specs/, and the reading list has the files
 that the clauses of `bureau` reach. docs/INDEX.md is what --write makes of the crates: what each stands on, the lemmas that others
 import, and the words of specs/. Status 1: something is missing.
@@ -192,9 +192,16 @@ def rows(text):
     return [re.split(r"(?<!\\)\|", line) for line in text.splitlines() if line.startswith("|")]
 
 
-def column(text, place):
-    """The words in backquotes in one column of the tables of a text."""
-    return {it for cells in rows(text) if len(cells) > place for it in re.findall(r"`([^`]+)`", cells[place])}
+def heads(text):
+    """The words in backquotes before the colon of each item of the lists of a text."""
+    items = re.findall(r"^- (.*?): ", text, re.M)
+    return {it for item in items for it in re.findall(r"`([^`]+)`", item)}
+
+
+def in_parentheses(text):
+    """The words in backquotes of each parenthesis of a text that has nothing else."""
+    groups = re.findall(r"\(((?:`\w+`(?:, )?)+)\)", text)
+    return {it for group in groups for it in re.findall(r"\w+", group)}
 
 
 def walked(text):
@@ -222,17 +229,16 @@ def tell(where, missing, what):
 
 
 def check_proved(crate, text):
-    told, known = column(text, 1), calls(crate)
+    told, known = heads(text), calls(crate)
     where = f"PROVED.md, {crate}"
-    bad = tell(where, {it for it in known if it not in told and it.split("::")[0] not in told}, "has no row")
+    bad = tell(where, {it for it in known if it not in told and it.split("::")[0] not in told}, "has no item")
     bad |= tell(where, {it for it in told - known if it.split("::")[0] not in exported(crate)}, "is no public call")
-    named = {it for group in re.findall(r"\(((?:`\w+`(?:, )?)+)\)", text) for it in re.findall(r"\w+", group)}
-    return bad | tell(where, named - clauses(crate), "is no clause")
+    return bad | tell(where, in_parentheses(text) - clauses(crate), "is no clause")
 
 
 def check_definitions(listed):
     every = {word for crate in listed for words in spec_modules(crate).values() for word in words}
-    bad = tell("DEFINITIONS.md, words", column(part("DEFINITIONS.md", "## Words"), 3) - every, "is no public word of specs/")
+    bad = tell("DEFINITIONS.md, words", in_parentheses(part("DEFINITIONS.md", "## Words")) - every, "is no public word of specs/")
     promise = set(re.findall(r"`(\w+)`", part("DEFINITIONS.md", "## What the top call promises")))
     text = "\n".join(f.read_text() for crate in listed for folder in ("specs", "src") for f in (CRATES / crate / folder).glob("*.[ar]*t"))
     bad |= tell("DEFINITIONS.md, the top call", promise - set(re.findall(r"\w+", text)), "is no name of specs/ or src/")
@@ -251,7 +257,7 @@ def main():
         bad |= check_proved(crate, proved.get(crate, ""))
     if not sys.argv[1:]:
         bad |= tell("PROVED.md", set(proved) - set(listed), "is no crate")
-        bad |= tell("LAYERS.md, crates", set(listed) ^ column(part("LAYERS.md", "## The crates"), 1), "is there or in crates.txt alone")
+        bad |= tell("LAYERS.md, crates", set(listed) ^ heads(part("LAYERS.md", "## The crates")), "is there or in crates.txt alone")
         files = walked((DOCS / "LAYERS.md").read_text().partition("\n## The crates\n")[0])
         bad |= tell("LAYERS.md, walks", {it for it in files if not (CRATES / it).exists()}, "is no file")
         bad |= check_definitions(listed)
