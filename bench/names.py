@@ -1,10 +1,10 @@
 """Compares the names of the crates with the documents: python3 bench/names.py [CRATE..]
 
-Prints each name that stands on one side alone. In docs/DEFINITIONS.md each public word of a crate's specs/ has its place in the index at
-the end, and the words of the glossary are among these. In docs/PROVED.md each public function, law and trait has a row, and each clause
-that is named there is one. In docs/LAYERS.md each crate is in one of the parts and has a row with what it stands on, as crates.txt says,
-and so has each module of lemmas that another crate imports. Status 1: something is missing. With --write it writes the index, what each crate stands on and the modules
-of lemmas anew.
+Prints each name that stands on one side alone, and nothing where all agree. In docs/PROVED.md each public function, law and trait has an
+item, and each clause in parentheses there is one. In docs/LAYERS.md each crate has an item, and each file of a walk is there. In
+docs/DEFINITIONS.md the words of the glossary and of the top call's promise are words of specs/, and the reading list has the files
+that the clauses of `bureau` reach. docs/INDEX.md is what --write makes of the crates: what each stands on, the lemmas that others
+import, and the words of specs/. Status 1: something is missing.
 """
 
 import re
@@ -13,6 +13,13 @@ from pathlib import Path
 
 HOME = Path(__file__).resolve().parent.parent
 CRATES = HOME / "crates"
+DOCS = HOME / "docs"
+WORD = r"(?:abbrev |unfoldable )?pub (?:(record|data) )?([^\s:({]+)"
+INDEX_HEAD = """# Index
+
+What stands where, by name. `python3 bench/names.py --write` makes this file of `crates.txt` and of the crates, and nobody edits it;
+without `--write` the script says where it is not current.
+"""
 
 
 def stands_on():
@@ -40,35 +47,83 @@ def spec_modules(crate):
             if deep is not None and indent > deep:
                 continue
             deep = None
-            head = re.match(r" *(?:abbrev |unfoldable )?pub (?:(record|data) )?([^\s:({]+)", line)
+            head = re.match(" *" + WORD, line)
             if head and "◌" not in head[2] and head[2] not in ("use", "open", "mod"):
                 words.append(head[2])
                 deep = indent if head[1] else None
     return found
 
 
-def spec_words(crate):
-    return {word for words in spec_modules(crate).values() for word in words}
+def lent_lemmas():
+    """Of each crate, the modules of its proofs/ that other crates import."""
+    found = {}
+    for file in CRATES.glob("*/*/**/*.antt"):
+        crate = file.relative_to(CRATES).parts[0]
+        if "out" not in file.relative_to(CRATES).parts:
+            for below, module in re.findall(r"Rattle\.(\w+)\.proofs\.([A-Z]\w*)", file.read_text()):
+                if below != crate:
+                    found.setdefault(below, set()).add(module)
+    return found
 
 
-def write(listed):
-    """Writes what follows from the crates anew: the index of words, what a crate stands on, and the lemmas that others import."""
-    page = HOME / "docs" / "DEFINITIONS.md"
-    head, mark, _ = page.read_text().partition("from the lowest crate up.\n")
-    for crate in listed:
-        if spec_words(crate):
-            mark += f"\n### `{crate}`\n\n| module | words |\n|---|---|\n"
-        for module, words in spec_modules(crate).items():
-            mark += f"| {module} | {', '.join(f'`{word}`' for word in words)} |\n"
-    page.write_text(head + mark)
-    page = HOME / "docs" / "LAYERS.md"
-    text, lent = page.read_text(), lent_lemmas()
-    for crate, below in listed.items():
-        names = ", ".join(f"`{it}`" for it in below)
-        text = re.sub(rf"^(\| `{crate}` \|) [^|]*\|(?=[^|]*\|$)", rf"\1 {names} |" if names else r"\1 |", text, flags=re.M)
-    rows = "".join(f"| `{it}` | {', '.join(f'`{module}`' for module in sorted(lent[it]))} |\n" for it in listed if it in lent)
-    text = re.sub(r"(## Lemmas.*?\|---\|---\|\n)(?:\|[^\n]*\n)*", lambda found: found[1] + rows, text, flags=re.S)
-    page.write_text(text)
+def table(title, heads, rows):
+    lines = [f"| {' | '.join(cells)} |" for cells in (heads, *rows)]
+    lines.insert(1, "|" + "---|" * len(heads))
+    return f"\n## {title}\n\n" + "\n".join(lines) + "\n"
+
+
+def quoted(names):
+    return ", ".join(f"`{it}`" for it in names)
+
+
+def index(listed):
+    """The text of docs/INDEX.md."""
+    below = [(f"`{it}`", quoted(names)) for it, names in listed.items()]
+    lent = lent_lemmas()
+    lemmas = [(f"`{it}`", quoted(sorted(lent[it]))) for it in listed if it in lent]
+    words = [(f"`{it}` {module}", quoted(names)) for it in listed for module, names in spec_modules(it).items()]
+    return (
+        INDEX_HEAD
+        + table("What each crate stands on", ("crate", "stands on"), below)
+        + table("Lemmas that crates above import", ("crate", "modules of `proofs/`"), lemmas)
+        + table("Words of `specs/`", ("crate and module", "words"), words)
+    )
+
+
+def definitions(text):
+    """The definitions of a file of specs/, each with its lines."""
+    found, name = {}, None
+    for line in text.splitlines():
+        head = re.match(WORD, line)
+        if head and head[2] not in ("use", "open", "mod"):
+            name = head[2]
+        elif not line or line.startswith(("--", "use ", "pub use ")):
+            continue
+        if name:
+            found[name] = found.get(name, "") + line.partition("--")[0] + "\n"
+    return found
+
+
+def reached():
+    """The files of specs/ that the clauses of `bureau` and the definitions of these reach, as `crate Module`."""
+    files = [f for f in CRATES.glob("*/specs/*.antt") if f.stem != "Lib"]
+    texts = {(f.parent.parent.name, f.stem): f.read_text() for f in files}
+    known = {place: definitions(text) for place, text in texts.items()}
+    lent = {place: re.findall(r"^use Rattle\.(\w+)\.specs\.(\w+)\.\{([^}]*)\}", text, re.M) for place, text in texts.items()}
+    contract = re.search(r"pub fn bureau<.*?^\{", (CRATES / "bureau_commands" / "src" / "top.rt").read_text(), re.M | re.S)[0]
+    asked = set(re.findall(r"[\w']+", contract))
+    to_do = [(place, word) for place in known for word in asked & set(known[place]) if word[0].isupper()]
+    found = set()
+    while to_do:
+        place, word = to_do.pop()
+        if (place, word) in found or word not in known.get(place, {}):
+            continue
+        found.add((place, word))
+        names = set(re.findall(r"[^\s(){},;]+", known[place][word]))
+        to_do += [(place, name) for name in names]
+        for crate, module, words in lent[place]:
+            to_do += [((crate, module), name.strip()) for name in words.split(",") if name.strip() in names]
+    return {f"{crate} {module}" for (crate, module), _ in found}
 
 
 def sources(crate):
@@ -120,31 +175,50 @@ def clauses(crate):
     return {name for file in sources(crate) for name in re.findall(r"\b(?:ensures\*?|ghost) (\w+)\b", file.read_text())}
 
 
-def lent_lemmas():
-    """Of each crate, the modules of its proofs/ that other crates import."""
-    found = {}
-    for file in CRATES.glob("*/*/**/*.antt"):
-        crate = file.relative_to(CRATES).parts[0]
-        if "out" not in file.relative_to(CRATES).parts:
-            for below, module in re.findall(r"Rattle\.(\w+)\.proofs\.([A-Z]\w*)", file.read_text()):
-                if below != crate:
-                    found.setdefault(below, set()).add(module)
-    return found
+def part(document, title):
+    """A part of a document, from its heading to the next of its level."""
+    level = title.split()[0]
+    return re.split(rf"^{level} ", (DOCS / document).read_text().partition(f"\n{title}\n")[2], flags=re.M)[0]
 
 
 def sections(document):
     """The text of each crate's section, by the crate's name in its heading."""
-    parts = re.split(r"^#+ `(\w+)`.*$", (HOME / "docs" / document).read_text(), flags=re.M)
+    parts = re.split(r"^#+ `(\w+)`.*$", (DOCS / document).read_text(), flags=re.M)
     return dict(zip(parts[1::2], parts[2::2]))
 
 
-def column(text, place):
-    """The words in backquotes in one column of the tables of a text."""
+def rows(text):
+    """The rows of the tables of a text, each as its cells from place 1 on."""
+    return [re.split(r"(?<!\\)\|", line) for line in text.splitlines() if line.startswith("|")]
+
+
+def heads(text):
+    """The words in backquotes before the colon of each item of the lists of a text."""
+    items = re.findall(r"^- (.*?): ", text, re.M)
+    return {it for item in items for it in re.findall(r"`([^`]+)`", item)}
+
+
+def in_parentheses(text):
+    """The words in backquotes of each parenthesis of a text that has nothing else."""
+    groups = re.findall(r"\(((?:`\w+`(?:, )?)+)\)", text)
+    return {it for group in groups for it in re.findall(r"\w+", group)}
+
+
+def walked(text):
+    """The files that the walks name, a crate in the first column and files of its src/ in the second."""
+    found, crate = set(), ""
+    for cells in rows(text):
+        crate = (re.findall(r"`(\w+)`", cells[1]) or [crate])[0]
+        found |= {f"{crate}/src/{it}" for it in re.findall(r"`([\w/]+\.rt)`", cells[2])}
+    return found
+
+
+def listed_files(text):
+    """The files of the reading list, as `crate Module`: in its second column a crate stands before its modules."""
     found = set()
-    for line in text.splitlines():
-        cells = re.split(r"(?<!\\)\|", line)
-        if line.startswith("|") and len(cells) > place:
-            found |= set(re.findall(r"`([^`]+)`", cells[place]))
+    for cells in rows(text):
+        for crate, modules in re.findall(r"`(\w+)` ([\w, ]+)", cells[2]):
+            found |= {f"{crate} {module.strip()}" for module in modules.split(",")}
     return found
 
 
@@ -154,44 +228,41 @@ def tell(where, missing, what):
     return bool(missing)
 
 
+def check_proved(crate, text):
+    told, known = heads(text), calls(crate)
+    where = f"PROVED.md, {crate}"
+    bad = tell(where, {it for it in known if it not in told and it.split("::")[0] not in told}, "has no item")
+    bad |= tell(where, {it for it in told - known if it.split("::")[0] not in exported(crate)}, "is no public call")
+    return bad | tell(where, in_parentheses(text) - clauses(crate), "is no clause")
+
+
+def check_definitions(listed):
+    every = {word for crate in listed for words in spec_modules(crate).values() for word in words}
+    bad = tell("DEFINITIONS.md, words", in_parentheses(part("DEFINITIONS.md", "## Words")) - every, "is no public word of specs/")
+    promise = set(re.findall(r"`(\w+)`", part("DEFINITIONS.md", "## What the top call promises")))
+    text = "\n".join(f.read_text() for crate in listed for folder in ("specs", "src") for f in (CRATES / crate / folder).glob("*.[ar]*t"))
+    bad |= tell("DEFINITIONS.md, the top call", promise - set(re.findall(r"\w+", text)), "is no name of specs/ or src/")
+    told, known = listed_files(part("DEFINITIONS.md", "## A reading list for the top call")), reached()
+    bad |= tell("DEFINITIONS.md, reading list", known - told, "is reached and not in the list")
+    return bad | tell("DEFINITIONS.md, reading list", told - known, "is not reached")
+
+
 def main():
     listed = stands_on()
     if sys.argv[1:] == ["--write"]:
-        return write(listed)
-    names = sys.argv[1:] or sorted(listed)
-    words, proved = sections("DEFINITIONS.md"), sections("PROVED.md")
-    layers = (HOME / "docs" / "LAYERS.md").read_text()
-    lemmas = re.split(r"^## Lemmas.*$", layers, flags=re.M)[-1]
-    parts = column(layers.partition("## The crates that exist")[0], 2)
-    lent = lent_lemmas()
-    bad = False
-    for crate in names:
-        told = column(words.get(crate, ""), 2)
-        known = spec_words(crate)
-        bad |= tell(f"DEFINITIONS.md, {crate}", known - told, "has no entry")
-        bad |= tell(f"DEFINITIONS.md, {crate}", told - known, "is no public word of specs/")
-        told = column(proved.get(crate, ""), 1)
-        known = calls(crate)
-        bad |= tell(f"PROVED.md, {crate}", {it for it in known if it not in told and it.split("::")[0] not in told}, "has no row")
-        bad |= tell(f"PROVED.md, {crate}", {it for it in told - known if it.split("::")[0] not in exported(crate)}, "is no public call")
-        bad |= tell(f"PROVED.md, {crate}", column(proved.get(crate, ""), 2) - clauses(crate), "is no clause")
-        row = re.search(rf"^\| `{crate}` \| ([^|]*)\|", layers, re.M)
-        stands = set(re.findall(r"`(\w+)`", row[1])) if row else set()
-        bad |= tell("LAYERS.md", set() if row else {crate}, "has no row")
-        if row:
-            bad |= tell(f"LAYERS.md, {crate}", set(listed[crate]) - stands, "is not among what it stands on")
-            bad |= tell(f"LAYERS.md, {crate}", stands - set(listed[crate]), "is not in its line of crates.txt")
-        row = re.search(rf"^\| `{crate}` \| ([^|]*)\|", lemmas, re.M)
-        told = set(re.findall(r"`(\w+)`", row[1])) if row else set()
-        bad |= tell(f"LAYERS.md, lemmas of {crate}", lent.get(crate, set()) - told, "is imported above and has no entry")
-        bad |= tell(f"LAYERS.md, lemmas of {crate}", told - lent.get(crate, set()), "is imported by no other crate")
+        (DOCS / "INDEX.md").write_text(index(listed))
+        return 0
+    proved, bad = sections("PROVED.md"), False
+    for crate in sys.argv[1:] or sorted(listed):
+        bad |= check_proved(crate, proved.get(crate, ""))
     if not sys.argv[1:]:
-        bad |= tell("LAYERS.md, parts", set(listed) ^ parts, "is named there or in crates.txt alone")
-        glossary = (HOME / "docs" / "DEFINITIONS.md").read_text().partition("## How a history is read")[0]
-        every = {word for crate in listed for word in spec_words(crate)}
-        bad |= tell("DEFINITIONS.md, glossary", column(glossary, 3) - every, "is no public word of specs/")
-        for document, told in (("DEFINITIONS.md", words), ("PROVED.md", proved)):
-            bad |= tell(document, set(told) - set(listed), "is no crate")
+        bad |= tell("PROVED.md", set(proved) - set(listed), "is no crate")
+        bad |= tell("LAYERS.md, crates", set(listed) ^ heads(part("LAYERS.md", "## The crates")), "is there or in crates.txt alone")
+        files = walked((DOCS / "LAYERS.md").read_text().partition("\n## The crates\n")[0])
+        bad |= tell("LAYERS.md, walks", {it for it in files if not (CRATES / it).exists()}, "is no file")
+        bad |= check_definitions(listed)
+        current = (DOCS / "INDEX.md").read_text() if (DOCS / "INDEX.md").exists() else ""
+        bad |= tell("INDEX.md", set() if current == index(listed) else {"--write"}, "makes another text")
     return 1 if bad else 0
 
 
