@@ -2,7 +2,7 @@
 use Rattle.std.proofs.Common.{ℕ, zero, suc, List, [], ◌∷◌, take, sym, subst, arith}
 use Rattle.disk_model.specs.Calls.{Seen, IsPresent, Torn, After, Passes}
 use Rattle.disk_model.specs.Runs.{DiskCall, left_then, left_after, left_within, IsCall, run_calls, RunLaw}
-use Rattle.disk_model.specs.Runs.Call.{looked, wrote, synced}
+use Rattle.disk_model.specs.Runs.DiskCall.{looked, wrote, synced}
 use Rattle.disk_model.proofs.Moments.{torn_same, passes_still, passes_on, passes_wide, present_has}
 
 pub left_then_wide : (P Q : List ℕ → Type 0) (call : DiskCall) → ((c : List ℕ) → P c → Q c) → (c : List ℕ) → left_then P call c → left_then Q call c

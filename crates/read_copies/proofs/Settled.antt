@@ -15,7 +15,7 @@ use Rattle.claim_history.specs.declared.fact.AccountFact.{AccountFact}
 use Rattle.claim_history.specs.Facts.{Ledger, firms, is_registered, account_fact, account_facts}
 use Rattle.claim_history.proofs.Rows.{name_is}
 use Rattle.read_copies.specs.declared.row.Row.{Row}
-use Rattle.read_copies.specs.Rows.{firm_of, row_of, row_in, row_at, IsRowIn, IsSettled, HasAdded, HasSettled, AreAllSettled}
+use Rattle.read_copies.specs.Rows.{firm_of, row_of, row_in, row_at, IsRowIn, IsSettled, HasAdded, AreSettled, AreAllSettled}
 
 abbrev is_of : List ℕ → Row → Bool
 is_of firm r = same_name firm (firm_of r)
@@ -43,29 +43,32 @@ any_last firm changes r e =
     list_any-append (is_of firm) changes (r ∷ [])
     ∙ or_right (list_any (is_of firm) changes) (list_any (is_of firm) (r ∷ [])) (or_left (is_of firm r) false (ap (same_name firm) e ∙ name_same firm))
 
--- a firm whose row in the table is right
-pub settled_same : (l : Ledger) (rows changes : List Row) (firm : List ℕ) (old now : Option Row) → old ≡ row_at rows firm → now ≡ row_in l firm → old ≡ now → HasSettled l rows firm changes changes
-settled_same l rows changes firm old now was is same = record { added = added_none l rows changes; here = λ known. inr (sym was ∙ (same ∙ is)) }
-
--- a firm that is not registered
-pub settled_none : (l : Ledger) (rows changes : List Row) (firm : List ℕ) (now : Option Row) → now ≡ row_in l firm → ((r : Row) → now ≡ Some r → ⊥) → HasSettled l rows firm changes changes
-settled_none l rows changes firm now is none = record {
-  added = added_none l rows changes;
-  here = λ known. absurd (none (row_of l firm) (is ∙ ap (λ (b : Bool). if b then Some (row_of l firm) else None) known));
+-- one firm is settled
+settled_firm : (l : Ledger) (rows old new : List Row) (firm : List ℕ) → HasAdded l rows old new → (is_registered l firm ≡ true → IsSettled l rows new firm) → AreSettled l rows (λ f. same_name f firm) old new
+settled_firm l rows old new firm added here = record {
+  added = added;
+  each = λ f same known. subst (λ n. is_registered l n ≡ true → IsSettled l rows new n) (sym (name_is f firm same)) here known;
 }
 
+-- a firm whose row in the table is right
+pub settled_same : (l : Ledger) (rows changes : List Row) (firm : List ℕ) (old now : Option Row) → old ≡ row_at rows firm → now ≡ row_in l firm → old ≡ now → AreSettled l rows (λ f. same_name f firm) changes changes
+settled_same l rows changes firm old now was is same = settled_firm l rows changes changes firm (added_none l rows changes) (λ known. inr (sym was ∙ (same ∙ is)))
+
+-- a firm that is not registered
+pub settled_none : (l : Ledger) (rows changes : List Row) (firm : List ℕ) (now : Option Row) → now ≡ row_in l firm → ((r : Row) → now ≡ Some r → ⊥) → AreSettled l rows (λ f. same_name f firm) changes changes
+settled_none l rows changes firm now is none =
+    settled_firm l rows changes changes firm (added_none l rows changes) (λ known. absurd (none (row_of l firm) (is ∙ ap (λ (b : Bool). if b then Some (row_of l firm) else None) known)))
+
 -- a firm whose row is added
-pub settled_more : (l : Ledger) (rows changes : List Row) (firm : List ℕ) (now : Option Row) (r : Row) → now ≡ row_in l firm → now ≡ Some r → HasSettled l rows firm changes (changes ++ r ∷ [])
+pub settled_more : (l : Ledger) (rows changes : List Row) (firm : List ℕ) (now : Option Row) (r : Row) → now ≡ row_in l firm → now ≡ Some r → AreSettled l rows (λ f. same_name f firm) changes (changes ++ r ∷ [])
 settled_more l rows changes firm now r is some =
     let row : row_in l firm ≡ Some r = sym is ∙ some in
     let of : firm_of r ≡ firm = row_firm l firm r row in
-    record {
-      added = record {
-        each = λ h. All-append (IsRowIn l) changes (r ∷ []) h (All-cons (IsRowIn l) r [] (ap (row_in l) of ∙ row) (All-nil (IsRowIn l)));
-        kept = λ other h. ⊎_elim (λ (a : list_any (is_of other) changes ≡ true). inl (any_more other changes r a)) (λ (b : row_at rows other ≡ row_in l other). inr b) h;
-      };
-      here = λ known. inl (any_last firm changes r of);
-    }
+    let added : HasAdded l rows changes (changes ++ r ∷ []) = record {
+      each = λ h. All-append (IsRowIn l) changes (r ∷ []) h (All-cons (IsRowIn l) r [] (ap (row_in l) of ∙ row) (All-nil (IsRowIn l)));
+      kept = λ other h. ⊎_elim (λ (a : list_any (is_of other) changes ≡ true). inl (any_more other changes r a)) (λ (b : row_at rows other ≡ row_in l other). inr b) h;
+    } in
+    settled_firm l rows changes (changes ++ r ∷ []) firm added (λ known. inl (any_last firm changes r of))
 
 -- ---- the changes of some firms
 
@@ -75,14 +78,14 @@ AreSettledOf l rows changes accounts = All (λ (a : AccountFact). is_registered 
 
 -- after changes for one more
 pub settled_next : (l : Ledger) (rows first old new : List Row) (accounts : List AccountFact) (i : ℕ) (a : AccountFact) → i < length accounts → a ≡ get_or accounts i a
-    → HasAdded l rows first old → AreSettledOf l rows old (take i accounts) → HasSettled l rows a.firm old new
+    → HasAdded l rows first old → AreSettledOf l rows old (take i accounts) → AreSettled l rows (λ f. same_name f a.firm) old new
     → HasAdded l rows first new × AreSettledOf l rows new (take (i + 1) accounts)
 settled_next l rows first old new accounts i a lt is added done more =
     let P : List Row → AccountFact → Type 0 = λ changes b. is_registered l b.firm ≡ true → IsSettled l rows changes b.firm in (
       record { each = λ h. more.added.each (added.each h); kept = λ firm h. more.added.kept firm (added.kept firm h) },
       rw (take_more accounts i a lt) (
           All-append (P new) (take i accounts) (get_or accounts i a ∷ []) (All-weaker (P old) (P new) (λ b h known. more.added.kept b.firm (h known)) (take i accounts) done)
-          (All-cons (P new) (get_or accounts i a) [] (subst (P new) is more.here) (All-nil (P new)))
+          (All-cons (P new) (get_or accounts i a) [] (subst (P new) is (λ known. more.each a.firm (name_same a.firm) known)) (All-nil (P new)))
           ),
     )
 

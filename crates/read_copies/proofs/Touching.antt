@@ -2,7 +2,7 @@
 use Rattle.std.specs.Prelude.{option_map, All, Option, Some, None, if◌then◌else◌}
 use Rattle.std.specs.List.{list_any}
 use Rattle.std.proofs.Common.{◌≡◌, ℕ, ◌+◌, ◌<◌, Bool, true, false, ◌||◌, List, [], ◌∷◌, ◌++◌, length, take, drop, get_or, refl, sym, ◌∙◌, ap, subst, inl, inr, ⊎_elim, true≢false}
-use Rattle.std.proofs.lemmas.Bool.{or_cases, or_parts, or_right}
+use Rattle.std.proofs.lemmas.Bool.{or_cases, or_parts}
 use Rattle.std.proofs.lemmas.List.{take_more}
 use Rattle.std.proofs.lemmas.List.Elements.{All-nil, All-cons}
 use Rattle.std.proofs.lemmas.List.Folds.{list_any-append}
@@ -16,59 +16,51 @@ use Rattle.claim_history.specs.declared.fact.ClaimFact.{ClaimFact}
 use Rattle.claim_history.specs.Facts.{Filing, Ledger, filing_of, claim_fact, is_registered, account_fact, position_of}
 use Rattle.claim_history.specs.History.{IsLegal}
 use Rattle.claim_history.specs.Touched.{is_debtor_of, is_side_of, touches, Stays, TouchLaw}
-use Rattle.claim_history.proofs.Rows.{name_is}
 use Rattle.claim_book.specs.Book.{ledger_of, claim_in}
 use Rattle.read_copies.specs.declared.row.Row.{Row}
-use Rattle.read_copies.specs.Rows.{row_in, row_at, HasRows, IsSettled, HasAdded, HasSettled, AreSettled, AreAllSettled}
+use Rattle.read_copies.specs.Rows.{row_in, row_at, HasRows, IsSettled, HasAdded, AreSettled, AreAllSettled}
 use Rattle.read_copies.proofs.Beginnings.{prefix_rest}
 
--- ---- one firm, and the two of a claim
+-- ---- the two firms of a claim
 
 then_added : {l : Ledger} {rows first old new : List Row} → HasAdded l rows first old → HasAdded l rows old new → HasAdded l rows first new
 then_added one next = record { each = λ h. next.each (one.each h); kept = λ firm h. next.kept firm (one.kept firm h) }
 
-same_settled : (l : Ledger) (rows old new : List Row) (firm name : List ℕ) → HasSettled l rows name old new → same_name firm name ≡ true → is_registered l firm ≡ true → IsSettled l rows new firm
-same_settled l rows old new firm name is same known =
-    subst (λ n. is_registered l n ≡ true → IsSettled l rows new n) (sym (name_is firm name same)) is.here known
-
-pub firm_settled : (l : Ledger) (rows old new : List Row) (name : List ℕ) → HasSettled l rows name old new → AreSettled l rows (λ firm. same_name firm name) old new
-firm_settled l rows old new name is = record { added = is.added; each = λ firm same known. same_settled l rows old new firm name is same known }
-
--- no firm passes
-pub none_settled : (l : Ledger) (rows changes : List Row) → AreSettled l rows (λ firm. false) changes changes
-none_settled l rows changes = record { added = record { each = λ h. h; kept = λ firm h. h }; each = λ firm passes known. absurd (true≢false (sym passes)) }
-
--- all firms do
-pub some_settled : (l : Ledger) (rows old new : List Row) (test : List ℕ → Bool) → AreAllSettled l rows old new → AreSettled l rows test old new
-some_settled l rows old new test all = record { added = all.added; each = λ firm passes known. all.each firm refl known }
-
-pub no_debtor_settled : (l : Ledger) (rows old new : List Row) (key : Key) → claim_in l key ≡ None → HasSettled l rows key.creditor old new → AreSettled l rows (λ firm. is_side_of l firm key) old new
-no_debtor_settled l rows old new key none creditor = record {
+pub no_claim_settled : (l : Ledger) (rows old new : List Row) (key : Key) (claim : Option ClaimFact) → claim ≡ claim_in l key → ((c : ClaimFact) → claim ≡ Some c → ⊥) → AreSettled l rows (λ f. same_name f key.creditor) old new
+    → AreSettled l rows (λ firm. is_side_of l firm key) old new
+no_claim_settled l rows old new key claim is none creditor = record {
   added = creditor.added;
   each = λ firm side known.
-      ⊎_elim (λ same. same_settled l rows old new firm key.creditor creditor same known) (λ owes. absurd (by firm (filing_of l key) none owes))
+      ⊎_elim (λ same. creditor.each firm same known) (λ owes. absurd (by firm (filing_of l key) (λ c h. none c (is ∙ h)) owes))
       (or_cases (same_name firm key.creditor) (is_debtor_of firm (filing_of l key)) side);
 }
   where
-    by : (firm : List ℕ) (o : Option Filing) → option_map (claim_fact l) o ≡ None → is_debtor_of firm o ≡ true → ⊥
+    by : (firm : List ℕ) (o : Option Filing) → ((c : ClaimFact) → option_map (claim_fact l) o ≡ Some c → ⊥) → is_debtor_of firm o ≡ true → ⊥
     by firm None none owes = true≢false (sym owes)
-    by firm (Some f) none owes = cc none
+    by firm (Some f) none owes = none (claim_fact l f) refl
 
-pub sides_settled : (l : Ledger) (rows first old new : List Row) (key : Key) (claim : ClaimFact) → claim_in l key ≡ Some claim → HasSettled l rows key.creditor first old → HasSettled l rows claim.debtor old new
-    → AreSettled l rows (λ firm. is_side_of l firm key) first new
+debtor_is : (l : Ledger) (o : Option Filing) (claim : ClaimFact) (firm : List ℕ) → option_map (claim_fact l) o ≡ Some claim → is_debtor_of firm o ≡ true → same_name firm claim.debtor ≡ true
+debtor_is l None claim firm is owes = absurd (true≢false (sym owes))
+debtor_is l (Some f) claim firm is owes =
+    let same : f.debtor ≡ claim.debtor = cc is in
+    ap (same_name firm) (sym same) ∙ owes
+
+pub sides_settled : (l : Ledger) (rows first old new : List Row) (key : Key) (claim : ClaimFact) → claim_in l key ≡ Some claim → AreSettled l rows (λ f. same_name f key.creditor) first old
+    → AreSettled l rows (λ f. same_name f claim.debtor) old new → AreSettled l rows (λ firm. is_side_of l firm key) first new
 sides_settled l rows first old new key claim is creditor debtor = record {
   added = then_added creditor.added debtor.added;
   each = λ firm side known.
-      ⊎_elim (λ same. debtor.added.kept firm (same_settled l rows first old firm key.creditor creditor same known))
-      (λ owes. same_settled l rows old new firm claim.debtor debtor (by firm (filing_of l key) is owes) known)
+      ⊎_elim (λ same. debtor.added.kept firm (creditor.each firm same known)) (λ owes. debtor.each firm (debtor_is l (filing_of l key) claim firm is owes) known)
       (or_cases (same_name firm key.creditor) (is_debtor_of firm (filing_of l key)) side);
 }
-  where
-    by : (firm : List ℕ) (o : Option Filing) → option_map (claim_fact l) o ≡ Some claim → is_debtor_of firm o ≡ true → same_name firm claim.debtor ≡ true
-    by firm None is owes = absurd (true≢false (sym owes))
-    by firm (Some f) is owes =
-        let same : (claim_fact l f).debtor ≡ claim.debtor = ap (λ (c : ClaimFact). c.debtor) (cc is) in
-        ap (same_name firm) (sym same) ∙ owes
+
+-- ---- no firm, and all
+
+pub none_settled : (l : Ledger) (rows changes : List Row) → AreSettled l rows (λ firm. false) changes changes
+none_settled l rows changes = record { added = record { each = λ h. h; kept = λ firm h. h }; each = λ firm passes known. absurd (true≢false (sym passes)) }
+
+pub some_settled : (l : Ledger) (rows old new : List Row) (test : List ℕ → Bool) → AreAllSettled l rows old new → AreSettled l rows test old new
+some_settled l rows old new test all = record { added = all.added; each = λ firm passes known. all.each firm refl known }
 
 -- ---- entries, one after the other
 
@@ -101,13 +93,15 @@ none_touched l firm (e ∷ entries) none =
     let parts = or_parts (touches l firm e) (is_touched l entries firm) none in
     All-cons (λ x. touches l firm x ≡ false) e entries parts.0 (none_touched l firm entries parts.1)
 
-row_alike : (b c : Bool) (a d : AccountFact) (p q : Position) → b ≡ c → a ≡ d → p ≡ q
-    → (if b then Some (record { account = a; position = p }) else None) ≡ (if c then Some (record { account = d; position = q }) else None)
-row_alike b c a d p q same account position = cc (same, account, position)
+abbrev row_if : Bool → AccountFact → Position → Option Row
+row_if b account position = if b then Some (record { account = account; position = position }) else None
 
 row_stays : (old l : Ledger) (firm : List ℕ) → Stays old l firm → row_in old firm ≡ row_in l firm
 row_stays old l firm stays =
-    row_alike (is_registered old firm) (is_registered l firm) (account_fact old firm) (account_fact l firm) (position_of old firm) (position_of l firm) (sym stays.registered) (sym stays.account) (sym stays.position)
+    let registered = ap (λ (b : Bool). row_if b (account_fact old firm) (position_of old firm)) (sym stays.registered) in
+    let account = ap (λ (a : AccountFact). row_if (is_registered l firm) a (position_of old firm)) (sym stays.account) in
+    let position = ap (λ (p : Position). row_if (is_registered l firm) (account_fact l firm) p) (sym stays.position) in
+    registered ∙ (account ∙ position)
 
 -- where the firms that later entries touch are settled, all are
 pub all_settled : TouchLaw → (old all : List Entry) (shown : ℕ) (rows changes : List Row) → IsPrefix old all → shown ≡ length old → IsLegal all → HasRows (ledger_of old) rows

@@ -60,11 +60,6 @@ pub record HasAdded (l : Ledger) (rows old new : List Row) : Type 0 where
   pub each : All (IsRowIn l) old → All (IsRowIn l) new
   pub kept : (firm : List ℕ) → IsSettled l rows old firm → IsSettled l rows new firm
 
--- and this firm is settled, where it is registered
-pub record HasSettled (l : Ledger) (rows : List Row) (firm : List ℕ) (old new : List Row) : Type 0 where
-  pub added : HasAdded l rows old new
-  pub here : is_registered l firm ≡ true → IsSettled l rows new firm
-
 -- and each registered firm that passes a test is settled
 pub record AreSettled (l : Ledger) (rows : List Row) (test : List ℕ → Bool) (old new : List Row) : Type 0 where
   pub added : HasAdded l rows old new

@@ -1,11 +1,12 @@
 //! Which rows of a table have changed.
-ghost use Rattle.std.specs.Prelude.{◌≡◌, IfOk, OnOk};
+ghost use Rattle.std.specs.Prelude.{◌≡◌, ◌≤◌, length, drop, IfOk, OnOk};
 ghost use Rattle.std.specs.List.{list_any};
 ghost use mathlib.Core.List.{IsPrefix};
+ghost use Rattle.setoff_model.specs.Same.{same_name};
 ghost use Rattle.claim_history.specs.Touched.{is_of_firm, is_side_of, touches};
 ghost use Rattle.claim_book.specs.Book.{ledger_of};
 ghost use Rattle.read_copies.specs.Tables.{IsShown};
-ghost use Rattle.read_copies.specs.Rows.{row_in, put_all, HasRows, HasSettled, AreSettled, AreAllSettled};
+ghost use Rattle.read_copies.specs.Rows.{row_in, put_all, HasRows, AreSettled, AreAllSettled};
 
 use crate::row::Row;
 use crate::table::Table;
@@ -31,7 +32,8 @@ fn add_change(
     book: &Book,
     firm: Name,
 ) -> Result<(), AllocError>
-    ensures { OnOk result (HasSettled (ledger_of book.now.history) table.now.rows firm changes.old.items changes.new.items) }
+    ensures { OnOk result (AreSettled (ledger_of book.now.history) table.now.rows (λ other. same_name other firm)
+        changes.old.items changes.new.items) }
 {
     let now = row_of(book, firm);
     if table.row(&firm) == now {
@@ -132,6 +134,14 @@ fn add_all(changes: &mut Vec<Row>, table: &Table, book: &Book) -> Result<(), All
     Ok(())
 }
 
+// The entries of a history that come after those of a table.
+fn entries_after<'a>(table: &Table, history: &'a [Entry]) -> &'a [Entry]
+    requires { table.now.entries ≤ length history.now }
+    ensures { result.now ≡ drop table.now.entries history.now }
+{
+    &history[table.entries as usize..]
+}
+
 // The rows of a book that are not those of a table, which stands for a beginning of the book's history. With them the table has the
 // rows of the book.
 pub(crate) fn changed_rows(
@@ -145,8 +155,12 @@ pub(crate) fn changed_rows(
 {
     untouched_firms_stay();
     let _rows = table.rows();
-    let later = &book.history()[table.entries as usize..];
     let mut changes = Vec::new(alloc);
-    add_later(&mut changes, table, book, later)?;
+    add_later(
+        &mut changes,
+        table,
+        book,
+        entries_after(table, book.history()),
+    )?;
     Ok(changes)
 }
