@@ -3,7 +3,7 @@ use Rattle.std.specs.Prelude.{if◌then◌else◌, All, take}
 use Rattle.std.proofs.Common.{◌≡◌, ◌∙◌, ◌==◌, ◌+◌, ◌-◌, ◌<◌, ◌≤◌, ℕ, Bool, true, false, List, [], ◌∷◌, ◌++◌, length, get_or, map, refl, sym, ap, subst, arith, eqb-true, length-append, set}
 use Rattle.std.proofs.lemmas.Bool.{eqb-false}
 use Rattle.std.proofs.lemmas.List.{append-nil, get_or-set_other, get_or-set_same, map-append}
-use Rattle.request_text.specs.Lanes.{most_lanes}
+use Rattle.setoff_model.specs.declared.limits.TheConstants.{MOST_LANES}
 use Rattle.request_text.specs.declared.request.Request.{Request}
 use Rattle.served_lines.specs.declared.answer.Answer.{Answer}
 use Rattle.served_lines.specs.declared.line_end.LineEnd.{LineEnd}
@@ -61,11 +61,11 @@ module _ (lane : ℕ) (requests : List Request) (answers : List Answer) (request
 
 -- ---- the places of the next ends
 
-module _ (told : List ℕ) (before : List Request) (request : Request) (l : ℕ) (own_lane : request.lane ≡ l + 1) (many : length told ≡ most_lanes) (few : l < most_lanes) (cursors : (k : ℕ) → k < most_lanes → get_or told k 0 ≡ length (of_lane (k + 1) before)) where
+module _ (told : List ℕ) (before : List Request) (request : Request) (l : ℕ) (own_lane : request.lane ≡ l + 1) (many : length told ≡ MOST_LANES) (few : l < MOST_LANES) (cursors : (k : ℕ) → k < MOST_LANES → get_or told k 0 ≡ length (of_lane (k + 1) before)) where
   abbrev Next : ℕ → Type 0
   Next k = get_or (set told l (get_or told l 0 + 1)) k 0 ≡ length (of_lane (k + 1) (before ++ request ∷ []))
 
-  next_by : (k : ℕ) → k < most_lanes → (b : Bool) → (k == l) ≡ b → Next k
+  next_by : (k : ℕ) → k < MOST_LANES → (b : Bool) → (k == l) ≡ b → Next k
   next_by k lt true is =
       let same = eqb-true k l is in
       let count = ap (λ (rs : List Request). length rs) (own_more (l + 1) before request own_lane) in
@@ -76,13 +76,13 @@ module _ (told : List ℕ) (before : List Request) (request : Request) (l : ℕ)
       ∙ cursors k lt
       ∙ ap (λ (rs : List Request). length rs) (sym (other_more (k + 1) before request (λ same. apart (omega (arith, same, own_lane)))))
 
-  pub next_more : (k : ℕ) → k < most_lanes → Next k
+  pub next_more : (k : ℕ) → k < MOST_LANES → Next k
   next_more k lt = next_by k lt (k == l) refl
 
 -- a lane has an end for its next request
 pub next_there : {D : Type 0} (requests : List Request) (lanes : List (Lane D)) (told : List ℕ) (i : ℕ) (request : Request) (lane : Lane D)
-    → length lanes ≤ most_lanes → All (λ r. (1 ≤ r.lane) × (r.lane ≤ length lanes)) requests → HaveEnds requests lanes
-    → ((k : ℕ) → k < most_lanes → get_or told k 0 ≡ length (of_lane (k + 1) (take i requests)))
+    → length lanes ≤ MOST_LANES → All (λ r. (1 ≤ r.lane) × (r.lane ≤ length lanes)) requests → HaveEnds requests lanes
+    → ((k : ℕ) → k < MOST_LANES → get_or told k 0 ≡ length (of_lane (k + 1) (take i requests)))
     → i < length requests → request ≡ get_or requests i request → lane ≡ get_or lanes (request.lane - 1) lane
     → get_or told (request.lane - 1) 0 < length lane.ends.items
 next_there {D} requests lanes told i request lane few among have cursors lt is lane_is =

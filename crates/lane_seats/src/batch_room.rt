@@ -1,12 +1,12 @@
 //! The memory for a batch.
 ghost use Rattle.std.specs.Prelude.{◌≡◌, ◌≤◌, [], length, All, IfOk, vec_capacity};
-ghost use Rattle.request_text.specs.Lanes.{most_lanes};
 ghost use Rattle.lane_seats.specs.Rooms.{AreCounts, HavePlaces, IsRoomFor};
 
 use crate::lane::Lane;
 use bureau_desk::Desk;
 use disk_model::Disk;
-use request_text::{MOST_LANES, Request};
+use request_text::Request;
+use setoff_model::limits::MOST_LANES;
 use served_lines::{Answer, LineEnd};
 use std::alloc::{AllocError, Global};
 use turn_lock::Seat;
@@ -23,7 +23,7 @@ pub struct BatchRoom<D: Disk> {
 impl<D: Disk> BatchRoom<D> {
     /// The room for a batch. The only error is that memory is missing.
     pub fn make(alloc: Global, requests: &[Request]) -> Result<BatchRoom<D>, AllocError>
-        requires { All (λ r. r.lane ≤ most_lanes) requests.now }
+        requires { All (λ r. r.lane ≤ MOST_LANES) requests.now }
         ensures { IfOk result (IsRoomFor requests.now) }
     {
         let highest = highest_lane(requests);
@@ -56,8 +56,8 @@ impl<D: Disk> BatchRoom<D> {
 
 // The room for the lanes, and for their seats.
 fn lanes_and_seats<D: Disk>(alloc: Global) -> Result<(Vec<Lane<D>>, Vec<Seat<Desk<D>>>), AllocError>
-    ensures lanes { IfOk result (λ r. (r.0.items ≡ []) × (most_lanes ≤ vec_capacity r.0)) }
-    ensures seats { IfOk result (λ r. (r.1.items ≡ []) × (most_lanes ≤ vec_capacity r.1)) }
+    ensures lanes { IfOk result (λ r. (r.0.items ≡ []) × (MOST_LANES ≤ vec_capacity r.0)) }
+    ensures seats { IfOk result (λ r. (r.1.items ≡ []) × (MOST_LANES ≤ vec_capacity r.1)) }
 {
     let lanes = Vec::with_capacity(alloc, MOST_LANES)?;
     match Vec::with_capacity(alloc, MOST_LANES) {
@@ -71,9 +71,9 @@ fn lanes_and_seats<D: Disk>(alloc: Global) -> Result<(Vec<Lane<D>>, Vec<Seat<Des
 
 // The highest lane of the requests, and 0 where there are none.
 fn highest_lane(requests: &[Request]) -> u32
-    requires { All (λ r. r.lane ≤ most_lanes) requests.now }
+    requires { All (λ r. r.lane ≤ MOST_LANES) requests.now }
     ensures all { All (λ r. r.lane ≤ result) requests.now }
-    ensures few { result ≤ most_lanes }
+    ensures few { result ≤ MOST_LANES }
 {
     let mut highest = 0;
     for request in requests {
@@ -86,7 +86,7 @@ fn highest_lane(requests: &[Request]) -> u32
 
 // How many of the requests are of each lane, the first of which has number 1.
 fn counts(requests: &[Request]) -> [usize; MOST_LANES]
-    requires { All (λ r. r.lane ≤ most_lanes) requests.now }
+    requires { All (λ r. r.lane ≤ MOST_LANES) requests.now }
     ensures { AreCounts requests.now result }
 {
     let mut counts = [0usize; MOST_LANES];
@@ -104,8 +104,8 @@ fn places(
     requests: &[Request],
     highest: u32,
 ) -> Result<Vec<Vec<LineEnd>>, AllocError>
-    requires lanes { All (λ r. r.lane ≤ most_lanes) requests.now }
-    requires few { highest ≤ most_lanes }
+    requires lanes { All (λ r. r.lane ≤ MOST_LANES) requests.now }
+    requires few { highest ≤ MOST_LANES }
     ensures { IfOk result (λ v. (length v.items ≡ highest) × HavePlaces requests.now highest v.items) }
 {
     let counts = counts(requests);

@@ -1,8 +1,8 @@
 //! Seats for lanes.
 ghost use Rattle.std.specs.Prelude.{◌≡◌, ◌≤◌, [], length, map, reverse, vec_capacity};
+ghost use Rattle.setoff_model.specs.declared.limits.TheConstants.{MOST_LANES};
 ghost use Rattle.turn_lock.specs.Seats.{lock_of, made, registrar_view, registry};
 ghost use Rattle.turn_lock.specs.Turns.{EachOf};
-ghost use Rattle.request_text.specs.Lanes.{most_lanes};
 ghost use Rattle.lane_seats.specs.Rooms.{HavePlaces};
 ghost use Rattle.lane_seats.specs.Seating.{HasMade, IsNewLane};
 
@@ -27,10 +27,10 @@ pub fn seat_lanes<D: Disk>(
     requires made { (registry registrar.old ≡ lock_of shared.now.turn) × (made registrar.old ≡ 0) }
 
     // There is a place for each lane, and room for the lanes.
-    requires few { length places.items ≤ most_lanes }
+    requires few { length places.items ≤ MOST_LANES }
     requires places { HavePlaces requests.now (length places.items) places.items }
     requires empty { lanes.old.items ≡ [] }
-    requires spare { most_lanes ≤ vec_capacity lanes.old }
+    requires spare { MOST_LANES ≤ vec_capacity lanes.old }
 
     // The lanes have the seats from number 1 on.
     ensures registrar { HasMade registrar.old registrar.new (length places.items) }

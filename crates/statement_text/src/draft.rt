@@ -3,7 +3,7 @@ ghost use Rattle.std.specs.Prelude.{◌≡◌, ◌↔◌, ◌++◌, ◌∷◌, [
 ghost use Rattle.std.specs.Prelude.{IsTrue, unsigned_abs};
 ghost use Rattle.std.specs.List.{list_any};
 ghost use Rattle.setoff_model.specs.Same.{same_key, same_name};
-ghost use Rattle.setoff_model.specs.Limits.{most_amount, most_window};
+ghost use Rattle.setoff_model.specs.declared.limits.TheConstants.{SUM_LIMIT, MOST_AMOUNT, MOST_WINDOW};
 ghost use Rattle.setoff_model.specs.CutView.{IsWindowOf};
 
 use crate::error::StatementCause;
@@ -43,8 +43,8 @@ impl Model for Draft {
 
 // Whether a party's window, of at most 2 * 10^15 cents either way, is one of the kind.
 fn has_window_of(kind: Kind, party: &Party) -> bool
-    requires spend { party.now.spend ≤ most_window }
-    requires room { party.now.room ≤ most_window }
+    requires spend { party.now.spend ≤ MOST_WINDOW }
+    requires room { party.now.room ≤ MOST_WINDOW }
     ensures { IsTrue result ↔ IsWindowOf kind party.now }
 {
     match kind {
@@ -119,8 +119,8 @@ impl Draft {
     /// Why a party may not stand next; None exactly where it may. Its spend and room are at most 2 * 10^15 cents.
     pub(crate) fn party_refusal(&self, party: &Party) -> Option<StatementCause>
         // Its window is within the limits.
-        requires spend { party.now.spend ≤ most_window }
-        requires room { party.now.room ≤ most_window }
+        requires spend { party.now.spend ≤ MOST_WINDOW }
+        requires room { party.now.room ≤ MOST_WINDOW }
 
         // None where it may stand next, else the first cause.
         ensures refused { IsNone result ↔ MayBeParty self.now party.now }
@@ -172,7 +172,7 @@ impl Draft {
     ) -> Result<CutClaim, StatementCause>
         // The amount is one of a claim.
         requires some { 1 ≤ amount }
-        requires amount { amount ≤ most_amount }
+        requires amount { amount ≤ MOST_AMOUNT }
 
         // The claim that may stand next, or the first cause.
         ensures found { IfOk result (λ c. MayBeClaim self.now c × IsClaimOf self.now.cut.parties key.now debtor.now amount c) }
@@ -211,7 +211,7 @@ impl Draft {
         // The claim may stand next, by its line.
         requires next { MayBeClaim self claim }
         requires named { is_name claim.key.invoice ≡ true }
-        requires discharge { discharge < 10 ^ 18 }
+        requires discharge { discharge < SUM_LIMIT }
 
         // It does, and the lines can be stated.
         ensures more { IfOk result (λ d. d ≡ with_claim self claim discharge) }

@@ -1,7 +1,7 @@
 //! Writing weighted set-offs.
 ghost use Rattle.std.specs.Prelude.{◌≡◌, ◌+◌, ◌^◌, ◌<◌, ◌≤◌, ◌++◌, length, codes, slice_index_or, vec_len, vec_capacity};
 ghost use Rattle.text_lines.specs.Fields.{line_of};
-ghost use Rattle.setoff_model.specs.Limits.{line_bytes};
+ghost use Rattle.setoff_model.specs.declared.limits.TheConstants.{SUM_LIMIT, LINE_BYTES};
 ghost use Rattle.setoff_model.specs.declared.cut.CutClaim.{CutClaim};
 ghost use Rattle.setoff_model.specs.CutView.{WellFormed};
 ghost use Rattle.statement_text.specs.Statements.{firm_at};
@@ -12,7 +12,7 @@ use setoff_model::{Cut, Kind, put, write_cents, write_whole};
 
 /// Writes the line `WEIGHED KIND`, with its line feed, into a buffer that has `LINE_BYTES` spare.
 pub fn write_weighed_head(buffer: &mut Vec<u8>, kind: Kind)
-    requires { vec_len buffer.old + line_bytes ≤ vec_capacity buffer.old }
+    requires { vec_len buffer.old + LINE_BYTES ≤ vec_capacity buffer.old }
     ensures text { buffer.new.items ≡ buffer.old.items ++ line_of (weighed_head_fields kind) ++ codes "\n" }
     ensures room { vec_capacity buffer.old ≤ vec_capacity buffer.new }
 {
@@ -28,10 +28,10 @@ pub fn write_weighed_claim(buffer: &mut Vec<u8>, cut: &Cut, place: u32, discharg
     // The claim is one of the cut.
     requires cut { WellFormed cut.now }
     requires place { place < length cut.now.claims }
-    requires discharge { discharge < 10 ^ 18 }
+    requires discharge { discharge < SUM_LIMIT }
 
     // There is room for its line.
-    requires spare { vec_len buffer.old + line_bytes ≤ vec_capacity buffer.old }
+    requires spare { vec_len buffer.old + LINE_BYTES ≤ vec_capacity buffer.old }
 
     // The line is at the end, and no room is lost.
     ensures text { (none : CutClaim)
@@ -48,7 +48,7 @@ pub fn write_weighed_claim(buffer: &mut Vec<u8>, cut: &Cut, place: u32, discharg
 
 /// Writes the line `TOTAL total`, with its line feed, into a buffer that has `LINE_BYTES` spare.
 pub fn write_total(buffer: &mut Vec<u8>, total: u64)
-    requires { vec_len buffer.old + line_bytes ≤ vec_capacity buffer.old }
+    requires { vec_len buffer.old + LINE_BYTES ≤ vec_capacity buffer.old }
     ensures text { buffer.new.items ≡ buffer.old.items ++ line_of (total_fields total) ++ codes "\n" }
     ensures room { vec_capacity buffer.old ≤ vec_capacity buffer.new }
 {

@@ -1,6 +1,6 @@
 use Rattle.std.proofs.Common.{rules, ◌≡◌, ◌+◌, ◌-◌, ◌^◌, ◌<◌, ◌≤◌, take, length, sym, subst, arith}
 use Rattle.std.proofs.lemmas.List.{length-take-le}
-use Rattle.request_text.specs.Lanes.{most_lanes}
+use Rattle.setoff_model.specs.declared.limits.TheConstants.{MOST_LANES}
 use Rattle.request_text.specs.declared.request.Request.{Request}
 use Rattle.lane_seats.proofs.OfLanes.{few_of_lane}
 use Rattle.lane_seats.proofs.batch_room.counts.Goals as goal
@@ -12,7 +12,7 @@ overflow_add-counts c =
     let r = c.request-item.result in
     let l = r.lane - 1 in
     let low = c.if-request-gt0.true in
-    let few : r.lane ≤ most_lanes = subst (λ (x : Request). x.lane ≤ most_lanes) (sym c.request-item.is) (c.requires i r c.loop-request-test.true) in
+    let few : r.lane ≤ MOST_LANES = subst (λ (x : Request). x.lane ≤ MOST_LANES) (sym c.request-item.is) (c.requires i r c.loop-request-test.true) in
     let count = c.loop-request.invariant.counted l (omega (arith, low, few)) in
     let fewer = few_of_lane (l + 1) (take i rs) in
     let lt = c.loop-request-test.true in

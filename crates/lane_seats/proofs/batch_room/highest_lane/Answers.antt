@@ -1,7 +1,7 @@
 use Rattle.std.proofs.Common.{◌∙◌, ◌≤◌, slice_index_or, sym, ap, subst, arith}
 use Rattle.std.proofs.lemmas.List.{get_or_default}
+use Rattle.setoff_model.specs.declared.limits.TheConstants.{MOST_LANES}
 use borrow.Author.Count.{below_more}
-use Rattle.request_text.specs.Lanes.{most_lanes}
 use Rattle.request_text.specs.declared.request.Request.{Request}
 use Rattle.lane_seats.proofs.batch_room.highest_lane.Goals.{then-highest-request, else-highest-request}
 use Rattle.lane_seats.proofs.batch_room.highest_lane.Goals as goal
@@ -12,9 +12,9 @@ loop-request-preserved c =
     let i = c.loop-request.request-index in
     let r = c.request-item.result in
     let most = c.if-highest-request.highest in
-    let lane : r.lane ≤ most_lanes = subst (λ (x : Request). x.lane ≤ most_lanes) (sym c.request-item.is) (c.requires i r c.loop-request-test.true) in
+    let lane : r.lane ≤ MOST_LANES = subst (λ (x : Request). x.lane ≤ MOST_LANES) (sym c.request-item.is) (c.requires i r c.loop-request-test.true) in
     let few = c.loop-request.invariant.few in
-    let top : (c.loop-request.highest ≤ most) × (r.lane ≤ most) × (most ≤ most_lanes) = elim c.if-highest-request.branch [
+    let top : (c.loop-request.highest ≤ most) × (r.lane ≤ most) × (most ≤ MOST_LANES) = elim c.if-highest-request.branch [
       | then-highest-request w ↦ (let is = w.highest-is in let less = w.if-highest-request.true in (omega (arith, is, less), omega (arith, is), omega (arith, is, lane)))
       | else-highest-request w ↦ (let is = w.highest-is in let le = w.if-highest-request.false in (omega (arith, is), omega (arith, is, le), omega (arith, is, few)))
     ] in
