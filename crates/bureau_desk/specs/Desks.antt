@@ -130,7 +130,8 @@ cut_told cut (Device before after) = []
 
 -- A publication was asked and got the reply that is told. The reply of the history is that it is published, with the sum of its
 -- discharges. Where it is, the cut is put at the end of the rounds.
-pub record HasPublished {D : Type 0} (seen : D → Seen) (old new : DeskView D) (caller : ℕ) (cut : CutView) (outcome : OutcomeView) (answer : PublishReply) : Type 0 where
+pub record HasPublished {D : Type 0} (seen : D → Seen) (old new : DeskView D) (caller : ℕ) (cut : CutView) (outcome : OutcomeView)
+    (answer : PublishReply) : Type 0 where
   pub got : Reply
   pub acted : HasActed seen old.disk new.disk old.history new.history caller (act.Publish cut.round outcome) got
   pub due : answer_of old.history caller (act.Publish cut.round outcome) ≡ reply.Published (total_of outcome.discharges)

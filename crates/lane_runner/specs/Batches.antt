@@ -12,7 +12,8 @@ use Rattle.served_lines.specs.Served.{IsServed}
 -- The history is the old one and then what the lanes added; without answers nothing was added. The rounds are those that were
 -- published since. The base is the old one, cleared when the batch began. The desk keeps what a desk keeps, on a disk that tells
 -- its bytes as before, and each image since the batch began holds all that was accepted before it.
-pub record HasRunBatch {D : Type 0} (seen : D → Seen) (old new : DeskView D) (batch : List Request) (answers : Option (List Answer)) : Type 0 where
+pub record HasRunBatch {D : Type 0} (seen : D → Seen) (old new : DeskView D) (batch : List Request)
+    (answers : Option (List Answer)) : Type 0 where
   pub added : List Entry
   pub history : new.history ≡ old.history ++ added
   pub served : MatchOption answers (added ≡ []) (λ list. IsServed batch list old.history added)

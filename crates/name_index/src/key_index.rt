@@ -75,4 +75,14 @@ impl KeyIndex {
     {
         self.keys.insert(key).unwrap();
     }
+
+    /// Puts a key at the end that was not added before. The only error is that memory is missing.
+    pub fn push(&mut self, key: Key) -> Result<(), AllocError>
+        requires { list_any (same_key key) self.old.keys ≡ false }
+        ensures { OnOk result (self.new.keys ≡ self.old.keys ++ key ∷ []) }
+    {
+        self.reserve(1)?;
+        self.add(key);
+        Ok(())
+    }
 }

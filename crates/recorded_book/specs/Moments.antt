@@ -21,8 +21,10 @@ pub record HasMoments (disk : Seen) (opened from : ℕ) (history : List Entry) :
   pub within : from ≤ length (accepted_calls history)
   pub rises : (i : ℕ) → from ≤ i → i < length (accepted_calls history) → at i ≤ at (i + 1)
   pub below : (i : ℕ) → from ≤ i → i ≤ length (accepted_calls history) → at i ≤ disk.moment
-  pub spans : (i t : ℕ) (c : List ℕ) → from ≤ i → i < length (accepted_calls history) → at i ≤ t → t < at (i + 1) → disk.image t c → HoldsAt history i c
-  pub last : (t : ℕ) (c : List ℕ) → at (length (accepted_calls history)) ≤ t → t ≤ disk.moment → disk.image t c → HoldsAt history (length (accepted_calls history)) c
+  pub spans : (i t : ℕ) (c : List ℕ) → from ≤ i → i < length (accepted_calls history) → at i ≤ t → t < at (i + 1) → disk.image t c
+      → HoldsAt history i c
+  pub last : (t : ℕ) (c : List ℕ) → at (length (accepted_calls history)) ≤ t → t ≤ disk.moment → disk.image t c
+      → HoldsAt history (length (accepted_calls history)) c
 
 -- each image since a moment holds a list that begins with the calls accepted among the first so many entries
 abbrev pub HeldSince : ℕ → ℕ → Seen → List Entry → Type 0

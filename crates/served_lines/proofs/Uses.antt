@@ -7,7 +7,6 @@ use Rattle.std.proofs.lemmas.List.Elements.{All-append, All-cons, All-nil}
 use Rattle.std.proofs.lemmas.List.Sorted.{IsPermutation-reverse, sum_by-IsPermutation}
 use Rattle.std.proofs.lemmas.List.Sums.{sum_by-append, sum_by-cons}
 use Rattle.setoff_model.specs.Names.{is_name}
-use Rattle.setoff_model.specs.declared.name.Key.{Key}
 use Rattle.setoff_model.proofs.Padded.{length-name}
 use Rattle.claim_history.specs.declared.act.Act.{Act}
 use Rattle.claim_history.specs.declared.act.Act.TheVariants as act
@@ -23,6 +22,7 @@ use Rattle.claim_history.proofs.Bounds.{cut_bound_law}
 use Rattle.claim_history.proofs.Growth.{due_follows, growth_law}
 use Rattle.claim_history.proofs.OneCut.{open_cut_is}
 use Rattle.claim_history.proofs.Room.{bytes_more, needs_law, one_if}
+use Rattle.act_bodies.proofs.Lengths.{short_claim, short_key}
 
 -- ---- sums over a history
 
@@ -63,17 +63,6 @@ own_le a r = by_test (is_no_refusal r) where
   by_test : (b : Bool) → (if b then record_length_of a else 0) ≤ record_length_of a
   by_test true = omega arith
   by_test false = omega arith
-
-short_key : (key : Key) → is_key key ≡ true → (length key.creditor ≤ 16) × (length key.invoice ≤ 16)
-short_key key h =
-    let k = and_parts (is_name key.creditor) (is_name key.invoice) h in
-    (length-name key.creditor k.0, length-name key.invoice k.1)
-
-short_claim : (key : Key) (debtor : List ℕ) → (is_key key && is_name debtor) ≡ true → (length key.creditor ≤ 16) × (length key.invoice ≤ 16) × (length debtor ≤ 16)
-short_claim key debtor h =
-    let c = and_parts (is_key key) (is_name debtor) h in
-    let k = short_key key c.0 in
-    (k.0, k.1, length-name debtor c.1)
 
 -- the longest record of a request
 pub short_record : (a : Act) → is_request a ≡ true → record_length_of a ≤ 73

@@ -12,6 +12,7 @@ use Rattle.setoff_model.specs.Names.{is_name}
 use Rattle.setoff_model.specs.CutView.{IsClaimAmong, IsWindowOf}
 use Rattle.statement_text.specs.Statements.{CanBeStated, firm_at}
 use Rattle.statement_text.specs.Drafts.{Drafted, with_party, with_claim, MayBeParty, MayBeClaim, IsClaimOf, IsDraft}
+use Rattle.statement_text.proofs.Same.{IsPlaceIn}
 use Rattle.statement_text.proofs.Places.{no_party, firm_is, from_map, same_place}
 
 pub party_stated : (d : Drafted) (f : Party) (price : ℤ) → CanBeStated d.cut d.outcome → MayBeParty d f → is_name f.firm ≡ true → unsigned_abs price < 10 ^ 9
@@ -74,20 +75,20 @@ claim_kept firms keys more d c discharge i may named small e = record {
 
 -- ---- what may stand next
 
-pub new_firm : {A : Type 0} (B : ℕ → Type 0) (r : Option ℕ) → MatchOption r A B → is_some r ≡ false → A
-new_firm B None h e = h
-new_firm B (Some p) h e = absurd cc
+pub is_new : {X : Type 0} (xs : List X) (x : X) (r : Option ℕ) → IsPlaceIn xs x r → is_some r ≡ false → All (λ y. y ≢ x) xs
+is_new xs x None h e = h
+is_new xs x (Some p) h e = absurd cc
 
-pub old_firm : (firms : List (List ℕ)) (firm : List ℕ) (r : Option ℕ) → MatchOption r (All (λ f. f ≢ firm) firms) (λ p. (p < length firms) × ((d : List ℕ) → get_or firms p d ≡ firm)) → is_some r ≡ true → All (λ f. f ≢ firm) firms → ⊥
-old_firm firms firm None h e new = absurd cc
-old_firm firms firm (Some p) h e new = new p [] h.0 (h.1 [])
+pub was_there : {X : Type 0} (xs : List X) (x : X) (r : Option ℕ) → IsPlaceIn xs x r → is_some r ≡ true → All (λ y. y ≢ x) xs → ⊥
+was_there xs x None h e new = absurd cc
+was_there xs x (Some p) h e new = new p x h.0 (h.1 x)
 
 pub may_be_party : (firms : List (List ℕ)) (keys : List Key) (d : Drafted) (f : Party) (r : Option ℕ) → IsDraft firms keys d.cut d.outcome → length d.cut.claims ≡ 0 → length d.cut.parties < MOST_FIRMS
-    → MatchOption r (All (λ g. g ≢ f.firm) firms) (λ p. (p < length firms) × ((e : List ℕ) → get_or firms p e ≡ f.firm)) → is_some r ≡ false → IsWindowOf d.cut.kind f → MayBeParty d f
+    → IsPlaceIn firms f.firm r → is_some r ≡ false → IsWindowOf d.cut.kind f → MayBeParty d f
 may_be_party firms keys d f r i first few place e window = record {
   first = nil_from_length d.cut.claims first;
   few = few;
-  new = from_map (λ g. g ≢ f.firm) (λ (g : Party). g.firm) d.cut.parties (subst (All (λ g. g ≢ f.firm)) i.firms_are (new_firm _ r place e));
+  new = from_map (λ g. g ≢ f.firm) (λ (g : Party). g.firm) d.cut.parties (subst (All (λ g. g ≢ f.firm)) i.firms_are (is_new firms f.firm r place e));
   window = window;
 }
 
@@ -98,9 +99,9 @@ pub key_new : (firms : List (List ℕ)) (keys : List Key) (d : Drafted) (c : Cut
 key_new firms keys d c i may = subst (All (λ k. k ≢ c.key)) (sym i.keys_are) (All-map (λ k. k ≢ c.key) (λ (b : CutClaim). b.key) d.cut.claims may.new)
 
 pub repeat_refused : (firms : List (List ℕ)) (keys : List Key) (d : Drafted) (f : Party) (r : Option ℕ) → IsDraft firms keys d.cut d.outcome
-    → MatchOption r (All (λ g. g ≢ f.firm) firms) (λ p. (p < length firms) × ((e : List ℕ) → get_or firms p e ≡ f.firm)) → is_some r ≡ true → MayBeParty d f → ⊥
+    → IsPlaceIn firms f.firm r → is_some r ≡ true → MayBeParty d f → ⊥
 repeat_refused firms keys d f r i place e may =
-    old_firm firms f.firm r place e (firm_new firms keys d f i may)
+    was_there firms f.firm r place e (firm_new firms keys d f i may)
 
 -- a claim's firms among the names
 firms_of : (firms : List (List ℕ)) (keys : List Key) (d : Drafted) → IsDraft firms keys d.cut d.outcome → (p : ℕ) → p < length firms → (p < length d.cut.parties) × (firm_at d.cut.parties p ≡ get_or firms p [])

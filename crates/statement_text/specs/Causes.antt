@@ -28,7 +28,8 @@ abbrev pub HasPartyCause : Drafted → Party → StatementCause → Type 0
 HasPartyCause d f causes.Shape = d.cut.claims ≡ [] → ⊥
 HasPartyCause d f causes.Limit = (d.cut.claims ≡ []) × (MOST_FIRMS ≤ length d.cut.parties)
 HasPartyCause d f causes.Repeat = (d.cut.claims ≡ []) × (length d.cut.parties < MOST_FIRMS) × (IsNoFirm d f.firm → ⊥)
-HasPartyCause d f causes.Window = (d.cut.claims ≡ []) × (length d.cut.parties < MOST_FIRMS) × IsNoFirm d f.firm × (IsWindowOf d.cut.kind f → ⊥)
+HasPartyCause d f causes.Window =
+    (d.cut.claims ≡ []) × (length d.cut.parties < MOST_FIRMS) × IsNoFirm d f.firm × (IsWindowOf d.cut.kind f → ⊥)
 HasPartyCause d f _ = ⊥
 
 -- Why a CLAIM line may not stand next: there are as many claims as there may be, or its key stood before, or its creditor or its
@@ -36,7 +37,8 @@ HasPartyCause d f _ = ⊥
 abbrev pub HasClaimCause : Drafted → Key → List ℕ → StatementCause → Type 0
 HasClaimCause d key debtor causes.Limit = MOST_CLAIMS ≤ length d.cut.claims
 HasClaimCause d key debtor causes.Repeat = (length d.cut.claims < MOST_CLAIMS) × (IsNoKey d key → ⊥)
-HasClaimCause d key debtor causes.NoParty = (length d.cut.claims < MOST_CLAIMS) × IsNoKey d key × (IsNoFirm d key.creditor ⊎ IsNoFirm d debtor)
+HasClaimCause d key debtor causes.NoParty =
+    (length d.cut.claims < MOST_CLAIMS) × IsNoKey d key × (IsNoFirm d key.creditor ⊎ IsNoFirm d debtor)
 HasClaimCause d key debtor causes.SameFirm =
     (length d.cut.claims < MOST_CLAIMS) × IsNoKey d key × (IsNoFirm d key.creditor → ⊥) × (IsNoFirm d debtor → ⊥) × (key.creditor ≡ debtor)
 HasClaimCause d key debtor _ = ⊥
@@ -64,9 +66,12 @@ OnCause P (errors.BadLine line cause) = P line cause
 -- The cause at the line with a number: line 1 is no ROUND line, or there is none; a line stands after END; a line between them may
 -- not stand there; or there is no END.
 pub data HasCause (lines : List (List ℕ)) : ℕ → StatementCause → Type 0 where
-  no_head : ((round : ℕ) (kind : Kind) (others : List (List ℕ)) → IsInRange (line.Head round kind) → lines ≡ line_text (line.Head round kind) ∷ others → ⊥) → HasCause lines 1 causes.Round
-  after_end : (cut : CutView) (outcome : OutcomeView) (text : List ℕ) (others : List (List ℕ)) → CanBeStated cut outcome → lines ≡ statement_lines cut outcome ++ text ∷ others
+  no_head : ((round : ℕ) (kind : Kind) (others : List (List ℕ)) → IsInRange (line.Head round kind)
+      → lines ≡ line_text (line.Head round kind) ∷ others → ⊥) → HasCause lines 1 causes.Round
+  after_end : (cut : CutView) (outcome : OutcomeView) (text : List ℕ) (others : List (List ℕ)) → CanBeStated cut outcome
+      → lines ≡ statement_lines cut outcome ++ text ∷ others
       → HasCause lines (length (statement_lines cut outcome) + 1) causes.After
-  not_next : (d : Drafted) (text : List ℕ) (others : List (List ℕ)) (cause : StatementCause) → CanBeStated d.cut d.outcome → lines ≡ texts_of d ++ text ∷ others → HasTextCause d text cause
+  not_next : (d : Drafted) (text : List ℕ) (others : List (List ℕ)) (cause : StatementCause) → CanBeStated d.cut d.outcome
+      → lines ≡ texts_of d ++ text ∷ others → HasTextCause d text cause
       → HasCause lines (length (texts_of d) + 1) cause
   no_end : (d : Drafted) → CanBeStated d.cut d.outcome → lines ≡ texts_of d → HasCause lines (length lines + 1) causes.NoEnd

@@ -25,7 +25,8 @@ texts_of d = map line_text (lines_of d)
 
 -- a round with no party and no claim
 abbrev pub begun : ℕ → Kind → Drafted
-begun round kind = record { cut = record { round = round; kind = kind; parties = []; claims = [] }; outcome = record { discharges = []; prices = [] } }
+begun round kind =
+    record { cut = record { round = round; kind = kind; parties = []; claims = [] }; outcome = record { discharges = []; prices = [] } }
 
 -- one more party
 abbrev pub with_party : Drafted → Party → ℤ → Drafted
@@ -73,4 +74,6 @@ pub record IsNext (d : Drafted) (l : Line) (e : Drafted) : Type 0 where
 
 -- the line follows the lines so far in no statement
 abbrev pub IsNoNext : Drafted → Line → Type 0
-IsNoNext d l = (later : List Line) (cut : CutView) (outcome : OutcomeView) → CanBeStated cut outcome → front_of cut outcome ++ line.End ∷ [] ≡ lines_of d ++ l ∷ later → ⊥
+IsNoNext d l =
+    (later : List Line) (cut : CutView) (outcome : OutcomeView) → CanBeStated cut outcome
+    → front_of cut outcome ++ line.End ∷ [] ≡ lines_of d ++ l ∷ later → ⊥

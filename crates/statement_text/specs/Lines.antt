@@ -20,7 +20,8 @@ party_fields f price = codes "PARTY" ∷ f.firm ∷ cents_text f.spend ∷ cents
 
 -- `CLAIM creditor invoice debtor amount discharged`
 abbrev pub claim_fields : Key → List ℕ → ℕ → ℕ → List (List ℕ)
-claim_fields key debtor amount discharge = codes "CLAIM" ∷ key.creditor ∷ key.invoice ∷ debtor ∷ cents_text amount ∷ cents_text discharge ∷ []
+claim_fields key debtor amount discharge =
+    codes "CLAIM" ∷ key.creditor ∷ key.invoice ∷ debtor ∷ cents_text amount ∷ cents_text discharge ∷ []
 
 -- the fields of a line
 abbrev pub line_fields : Line → List (List ℕ)
@@ -37,7 +38,9 @@ line_text l = line_of (line_fields l)
 abbrev pub IsInRange : Line → Type 0
 IsInRange (line.Head round kind) = (1 ≤ round) × (round ≤ MOST_ROUNDS)
 IsInRange (line.Party f price) = (is_name f.firm ≡ true) × (f.spend ≤ MOST_WINDOW) × (f.room ≤ MOST_WINDOW) × (unsigned_abs price < 10 ^ 9)
-IsInRange (line.Claim key debtor amount discharge) = (is_name key.creditor ≡ true) × (is_name key.invoice ≡ true) × (is_name debtor ≡ true) × (1 ≤ amount) × (amount ≤ MOST_AMOUNT) × (discharge < SUM_LIMIT)
+IsInRange (line.Claim key debtor amount discharge) =
+    (is_name key.creditor ≡ true) × (is_name key.invoice ≡ true) × (is_name debtor ≡ true) × (1 ≤ amount) × (amount ≤ MOST_AMOUNT)
+    × (discharge < SUM_LIMIT)
 IsInRange line.End = Unit {0}
 
 -- fields that are a line's, and fields that are no line's

@@ -1,5 +1,6 @@
 -- Statements: a cut and its outcome as lines of text.
-use Rattle.std.specs.Prelude.{◌≡◌, ℕ, ◌+◌, ◌<◌, ◌≤◌, ◌^◌, ◌⊎◌, true, List, [], ◌∷◌, ◌++◌, length, map, slice_index_or, flat_map, codes, All, ℤ, unsigned_abs}
+use Rattle.std.specs.Prelude.{◌≡◌, ℕ, ◌+◌, ◌<◌, ◌≤◌, ◌^◌, ◌⊎◌, true, List, [], ◌∷◌, ◌++◌, length, map, slice_index_or, flat_map, codes}
+use Rattle.std.specs.Prelude.{All, ℤ, unsigned_abs}
 use Rattle.std.specs.Str.Lines.{lines}
 use Rattle.setoff_model.specs.declared.limits.TheConstants.{SUM_LIMIT, MOST_ROUNDS}
 use Rattle.setoff_model.specs.declared.cut.Party.{Party}
@@ -34,7 +35,8 @@ claim_lines parties (c ∷ cs) (d ∷ discharges) = claim_line parties c d ∷ c
 
 -- the head, the parties and the claims
 abbrev pub front_of : CutView → OutcomeView → List Line
-front_of cut outcome = line.Head cut.round cut.kind ∷ party_lines cut.parties outcome.prices ++ claim_lines cut.parties cut.claims outcome.discharges
+front_of cut outcome =
+    line.Head cut.round cut.kind ∷ party_lines cut.parties outcome.prices ++ claim_lines cut.parties cut.claims outcome.discharges
 
 -- the lines of a statement, of which END is the last
 abbrev pub statement_lines : CutView → OutcomeView → List (List ℕ)
@@ -108,4 +110,5 @@ pub record OneReadingLaw : Type 0 where
 
 -- the bytes of a cut and an outcome state them
 abbrev pub WrittenLaw : Type 0
-WrittenLaw = (cut : CutView) (outcome : OutcomeView) → CanBeStated cut outcome → IsStatement (lines (statement_bytes cut outcome)) cut outcome
+WrittenLaw =
+    (cut : CutView) (outcome : OutcomeView) → CanBeStated cut outcome → IsStatement (lines (statement_bytes cut outcome)) cut outcome

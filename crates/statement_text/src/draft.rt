@@ -1,11 +1,13 @@
 //! A statement as far as it is read.
-ghost use Rattle.std.specs.Prelude.{◌≡◌, ◌≢◌, ◌↔◌, ◌++◌, ◌∷◌, [], All, OnOk, ◌<◌, ◌≤◌, ◌^◌, true, IfErr, IfOk, IfSome, OnErr, IsNone, IsTrue, unsigned_abs};
+ghost use Rattle.std.specs.Prelude.{◌≡◌, ◌↔◌, ◌++◌, ◌∷◌, [], false, OnOk, ◌<◌, ◌≤◌, ◌^◌, true, IfErr, IfOk, IfSome, OnErr, IsNone};
+ghost use Rattle.std.specs.Prelude.{IsTrue, unsigned_abs};
+ghost use Rattle.std.specs.List.{list_any};
+ghost use Rattle.setoff_model.specs.Same.{same_key, same_name};
 ghost use Rattle.setoff_model.specs.declared.limits.TheConstants.{SUM_LIMIT, MOST_AMOUNT, MOST_WINDOW};
 ghost use Rattle.setoff_model.specs.CutView.{IsWindowOf};
 
 use crate::error::StatementCause;
-use crate::index::{add_firm, add_key, is_new_key, place_of};
-use indexmap::IndexSet;
+use name_index::{KeyIndex, NameIndex};
 use setoff_model::limits::{MOST_CLAIMS, MOST_FIRMS};
 use setoff_model::{Cut, CutClaim, Key, Kind, Name, Outcome, Party};
 use std::alloc::{AllocError, Global};
@@ -16,10 +18,10 @@ use std::marker::Model;
 pub(crate) struct Draft {
     round: u32,
     kind: Kind,
-    firms: IndexSet<Name>,
+    firms: NameIndex,
     parties: Vec<Party>,
     prices: Vec<i64>,
-    keys: IndexSet<Key>,
+    keys: KeyIndex,
     claims: Vec<CutClaim>,
     discharges: Vec<u64>,
 }
@@ -29,9 +31,14 @@ impl Model for Draft {
 
     ghost Value = { Drafted };
 
-    ghost view = { λ d. record { cut = record { round = d.round; kind = d.kind; parties = d.parties.items; claims = d.claims.items }; outcome = record { discharges = d.discharges.items; prices = d.prices.items } } };
+    ghost view = { λ d. record {
+      cut = record { round = d.round; kind = d.kind; parties = d.parties.items; claims = d.claims.items };
+      outcome = record { discharges = d.discharges.items; prices = d.prices.items };
+    } };
 
-    ghost invariant = { λ d. IsDraft d.firms.keys d.keys.keys (record { round = d.round; kind = d.kind; parties = d.parties.items; claims = d.claims.items }) (record { discharges = d.discharges.items; prices = d.prices.items }) };
+    ghost invariant = { λ d. IsDraft d.firms.names d.keys.keys
+        (record { round = d.round; kind = d.kind; parties = d.parties.items; claims = d.claims.items })
+        (record { discharges = d.discharges.items; prices = d.prices.items }) };
 }
 
 // Whether a party's window, of at most 2 * 10^15 cents either way, is one of the kind.
@@ -48,18 +55,18 @@ fn has_window_of(kind: Kind, party: &Party) -> bool
 
 // Puts a party behind the others, and its price behind theirs.
 fn put_party(
-    firms: &mut IndexSet<Name>,
+    firms: &mut NameIndex,
     parties: &mut Vec<Party>,
     prices: &mut Vec<i64>,
     party: Party,
     price: i64,
 ) -> Result<(), AllocError>
-    requires { All (λ f. f ≢ party.firm) firms.old.keys }
-    ensures firms { OnOk result (firms.new.keys ≡ firms.old.keys ++ party.firm ∷ []) }
+    requires { list_any (same_name party.firm) firms.old.names ≡ false }
+    ensures firms { OnOk result (firms.new.names ≡ firms.old.names ++ party.firm ∷ []) }
     ensures parties { OnOk result (parties.new.items ≡ parties.old.items ++ party ∷ []) }
     ensures prices { OnOk result (prices.new.items ≡ prices.old.items ++ price ∷ []) }
 {
-    add_firm(firms, party.firm)?;
+    firms.push(party.firm)?;
     parties.push(party)?;
     prices.push(price)?;
     Ok(())
@@ -67,18 +74,18 @@ fn put_party(
 
 // Puts a claim behind the others, and its discharge behind theirs.
 fn put_claim(
-    keys: &mut IndexSet<Key>,
+    keys: &mut KeyIndex,
     claims: &mut Vec<CutClaim>,
     discharges: &mut Vec<u64>,
     claim: CutClaim,
     discharge: u64,
 ) -> Result<(), AllocError>
-    requires { All (λ k. k ≢ claim.key) keys.old.keys }
+    requires { list_any (same_key claim.key) keys.old.keys ≡ false }
     ensures keys { OnOk result (keys.new.keys ≡ keys.old.keys ++ claim.key ∷ []) }
     ensures claims { OnOk result (claims.new.items ≡ claims.old.items ++ claim ∷ []) }
     ensures discharges { OnOk result (discharges.new.items ≡ discharges.old.items ++ discharge ∷ []) }
 {
-    add_key(keys, claim.key)?;
+    keys.push(claim.key)?;
     claims.push(claim)?;
     discharges.push(discharge)?;
     Ok(())
@@ -100,10 +107,10 @@ impl Draft {
         Draft {
             round,
             kind,
-            firms: IndexSet::new(alloc),
+            firms: NameIndex::new(alloc),
             parties: Vec::new(alloc),
             prices: Vec::new(alloc),
-            keys: IndexSet::new(alloc),
+            keys: KeyIndex::new(alloc),
             claims: Vec::new(alloc),
             discharges: Vec::new(alloc),
         }
@@ -111,17 +118,22 @@ impl Draft {
 
     /// Why a party may not stand next; None exactly where it may. Its spend and room are at most 2 * 10^15 cents.
     pub(crate) fn party_refusal(&self, party: &Party) -> Option<StatementCause>
+        // Its window is within the limits.
         requires spend { party.now.spend ≤ MOST_WINDOW }
         requires room { party.now.room ≤ MOST_WINDOW }
+
+        // None where it may stand next, else the first cause.
         ensures refused { IsNone result ↔ MayBeParty self.now party.now }
         ensures cause { IfSome result (HasPartyCause self.now party.now) }
+
+        // The lines so far can be stated.
         ensures stated { CanBeStated self.now.cut self.now.outcome }
     {
         if !self.claims.is_empty() {
             Some(StatementCause::Shape)
         } else if self.parties.len() >= MOST_FIRMS {
             Some(StatementCause::Limit)
-        } else if place_of(&self.firms, &party.firm).is_some() {
+        } else if self.firms.place(&party.firm).is_some() {
             Some(StatementCause::Repeat)
         } else if !has_window_of(self.kind, party) {
             Some(StatementCause::Window)
@@ -132,9 +144,12 @@ impl Draft {
 
     /// The draft with one more party, and its price.
     pub(crate) fn with_party(mut self, party: Party, price: i64) -> Result<Draft, AllocError>
+        // The party may stand next, by its line.
         requires next { MayBeParty self party }
         requires named { is_name party.firm ≡ true }
         requires price { unsigned_abs price < 10 ^ 9 }
+
+        // It does, and the lines can be stated.
         ensures more { IfOk result (λ d. d ≡ with_party self party price) }
         ensures stated { IfOk result (λ d. CanBeStated d.cut d.outcome) }
     {
@@ -155,23 +170,29 @@ impl Draft {
         debtor: &Name,
         amount: u64,
     ) -> Result<CutClaim, StatementCause>
+        // The amount is one of a claim.
         requires some { 1 ≤ amount }
         requires amount { amount ≤ MOST_AMOUNT }
+
+        // The claim that may stand next, or the first cause.
         ensures found { IfOk result (λ c. MayBeClaim self.now c × IsClaimOf self.now.cut.parties key.now debtor.now amount c) }
-        ensures refused { OnErr result ((c : CutClaim) → MayBeClaim self.now c → IsClaimOf self.now.cut.parties key.now debtor.now amount c → ⊥) }
+        ensures refused { OnErr result
+            ((c : CutClaim) → MayBeClaim self.now c → IsClaimOf self.now.cut.parties key.now debtor.now amount c → ⊥) }
         ensures cause { IfErr result (HasClaimCause self.now key.now debtor.now) }
+
+        // The lines so far can be stated.
         ensures stated { CanBeStated self.now.cut self.now.outcome }
     {
         if self.claims.len() >= MOST_CLAIMS {
             return Err(StatementCause::Limit);
         }
-        if !is_new_key(&self.keys, key) {
+        if self.keys.place(key).is_some() {
             return Err(StatementCause::Repeat);
         }
-        let Some(creditor) = place_of(&self.firms, &key.creditor) else {
+        let Some(creditor) = self.firms.place(&key.creditor) else {
             return Err(StatementCause::NoParty);
         };
-        let Some(debtor) = place_of(&self.firms, debtor) else {
+        let Some(debtor) = self.firms.place(debtor) else {
             return Err(StatementCause::NoParty);
         };
         if debtor == creditor {
@@ -187,9 +208,12 @@ impl Draft {
 
     /// The draft with one more claim, and its discharge.
     pub(crate) fn with_claim(mut self, claim: CutClaim, discharge: u64) -> Result<Draft, AllocError>
+        // The claim may stand next, by its line.
         requires next { MayBeClaim self claim }
         requires named { is_name claim.key.invoice ≡ true }
         requires discharge { discharge < SUM_LIMIT }
+
+        // It does, and the lines can be stated.
         ensures more { IfOk result (λ d. d ≡ with_claim self claim discharge) }
         ensures stated { IfOk result (λ d. CanBeStated d.cut d.outcome) }
     {

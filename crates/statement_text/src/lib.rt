@@ -17,7 +17,6 @@ ghost use Rattle.statement_text.specs.Statements.{OneReadingLaw, WrittenLaw};
 mod draft;
 mod error;
 mod fields;
-mod index;
 mod line;
 mod reading;
 mod weighed;

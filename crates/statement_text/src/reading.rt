@@ -71,8 +71,11 @@ fn take_claim(
 
 // Takes a line after the first, with its number.
 fn take_line(draft: Draft, number: u64, line: Line) -> Result<Step, StatementError>
+    // The lines so far can be stated.
     requires stated { CanBeStated draft.cut draft.outcome }
     requires range { IsInRange line }
+
+    // The line is taken, or this is why it is a bad one.
     ensures found { IfOk result (IsTaken draft line) }
     ensures bad { IfErr result (OnBadLine (λ n. (n ≡ number) × IsNoNext draft line)) }
     ensures cause { IfErr result (OnCause (λ n cause. (n ≡ number) × HasLineCause draft line cause)) }
@@ -125,7 +128,8 @@ fn take_text(alloc: Global, draft: Draft, number: u64, text: &[u8]) -> Result<St
 // The statement of a draft whose END line is read, where no line follows it; the number is that of the line after END.
 fn finished(draft: Draft, number: u64, rest: &[u8]) -> Result<(Cut, Outcome), StatementError>
     ensures found { IfOk result (λ read. (read.0 ≡ draft.cut) × (read.1 ≡ draft.outcome) × (lines rest.now ≡ [])) }
-    ensures bad { IfErr result (OnBadLine (λ n. (n ≡ number) × ((text : List ℕ) × (others : List (List ℕ)) × (lines rest.now ≡ text ∷ others)))) }
+    ensures bad { IfErr result
+        (OnBadLine (λ n. (n ≡ number) × ((text : List ℕ) × (others : List (List ℕ)) × (lines rest.now ≡ text ∷ others)))) }
     ensures cause { IfErr result (OnCause (λ n cause. cause ≡ StatementCause.After)) }
 {
     match next_line(rest) {
@@ -142,8 +146,11 @@ fn finished(draft: Draft, number: u64, rest: &[u8]) -> Result<(Cut, Outcome), St
 
 // The statement of a first line and the lines after it.
 fn read_rest(alloc: Global, head: Draft, text: &[u8]) -> Result<(Cut, Outcome), StatementError>
+    // The lines so far can be stated.
     requires stated { CanBeStated head.cut head.outcome }
     requires first { length (lines_of head) ≡ 1 }
+
+    // They are read to the end, or this is the first bad line.
     ensures found { IfOk result (λ read. IsStatement (texts_of head ++ lines text.now) read.0 read.1) }
     ensures bad { IfErr result (OnBadLine (IsFirstBadLine (texts_of head ++ lines text.now))) }
     ensures cause { IfErr result (OnCause (HasCause (texts_of head ++ lines text.now))) }
@@ -170,8 +177,12 @@ fn read_rest(alloc: Global, head: Draft, text: &[u8]) -> Result<(Cut, Outcome), 
 // The draft of the first line.
 fn begin(alloc: Global, line: Line) -> Result<Draft, StatementError>
     requires { IsInRange line }
+
+    // With a head, it is the one of the line.
     ensures stated { IfOk result (λ head. CanBeStated head.cut head.outcome) }
     ensures first { IfOk result (λ head. lines_of head ≡ line ∷ []) }
+
+    // Else the line is bad.
     ensures bad { IfErr result (OnBadLine (λ n. (n ≡ 1) × IsNoHead line)) }
     ensures cause { IfErr result (OnCause (λ n cause. cause ≡ StatementCause.Round)) }
 {

@@ -25,11 +25,19 @@ pub fn write_weighed_head(buffer: &mut Vec<u8>, kind: Kind)
 /// Writes the line `CLAIM creditor invoice debtor amount discharged weight` of the claim at a place of a well-formed cut, with its
 /// line feed, into a buffer that has `LINE_BYTES` spare. The discharge is below 10^18 cents.
 pub fn write_weighed_claim(buffer: &mut Vec<u8>, cut: &Cut, place: u32, discharge: u64, weight: u32)
+    // The claim is one of the cut.
     requires cut { WellFormed cut.now }
     requires place { place < length cut.now.claims }
     requires discharge { discharge < SUM_LIMIT }
+
+    // There is room for its line.
     requires spare { vec_len buffer.old + LINE_BYTES ≤ vec_capacity buffer.old }
-    ensures text { (none : CutClaim) → let c = slice_index_or cut.now.claims place none in buffer.new.items ≡ buffer.old.items ++ line_of (weighed_claim_fields c.key (firm_at cut.now.parties c.debtor) c.amount discharge weight) ++ codes "\n" }
+
+    // The line is at the end, and no room is lost.
+    ensures text { (none : CutClaim)
+        → let c = slice_index_or cut.now.claims place none in buffer.new.items
+        ≡ buffer.old.items ++ line_of
+        (weighed_claim_fields c.key (firm_at cut.now.parties c.debtor) c.amount discharge weight) ++ codes "\n" }
     ensures room { vec_capacity buffer.old ≤ vec_capacity buffer.new }
 {
     put_claim_at(buffer, cut, place, discharge);

@@ -1,5 +1,6 @@
 //! Writing statements.
-ghost use Rattle.std.specs.Prelude.{◌≡◌, ◌+◌, ◌^◌, ◌<◌, ◌≤◌, ◌++◌, ◌∷◌, [], length, codes, slice_index_or, unsigned_abs, vec_len, vec_capacity};
+ghost use Rattle.std.specs.Prelude.{◌≡◌, ◌+◌, ◌^◌, ◌<◌, ◌≤◌, ◌++◌, ◌∷◌, [], length, codes, slice_index_or, unsigned_abs, vec_len};
+ghost use Rattle.std.specs.Prelude.{vec_capacity};
 ghost use Rattle.text_lines.specs.Fields.{line_of};
 ghost use Rattle.setoff_model.specs.declared.limits.TheConstants.{SUM_LIMIT, LINE_BYTES, MOST_WINDOW};
 ghost use Rattle.setoff_model.specs.declared.cut.CutClaim.{CutClaim};
@@ -14,8 +15,11 @@ use setoff_model::{Cut, Key, Kind, Name, Party, put, write_number, write_sum, wr
 ///
 /// Rounds are numbered from 1.
 pub fn write_head(buffer: &mut Vec<u8>, round: u32, kind: Kind)
+    // There is room for the line of such a round.
     requires round { 1 ≤ round }
     requires spare { vec_len buffer.old + LINE_BYTES ≤ vec_capacity buffer.old }
+
+    // The line is at the end, and no room is lost.
     ensures text { buffer.new.items ≡ buffer.old.items ++ line_of (head_fields round kind) ++ codes "\n" }
     ensures len { vec_len buffer.new ≤ vec_len buffer.old + LINE_BYTES }
     ensures room { vec_capacity buffer.old ≤ vec_capacity buffer.new }
@@ -33,10 +37,15 @@ pub fn write_head(buffer: &mut Vec<u8>, round: u32, kind: Kind)
 ///
 /// Spend and room are at most 2 * 10^15 cents, and the price has at most 9 digits.
 pub fn write_party(buffer: &mut Vec<u8>, party: &Party, price: i64)
+    // Window and price are within the limits.
     requires spend { party.now.spend ≤ MOST_WINDOW }
     requires room { party.now.room ≤ MOST_WINDOW }
     requires price { unsigned_abs price < 10 ^ 9 }
+
+    // There is room for the line.
     requires spare { vec_len buffer.old + LINE_BYTES ≤ vec_capacity buffer.old }
+
+    // The line is at the end, and no room is lost.
     ensures text { buffer.new.items ≡ buffer.old.items ++ line_of (party_fields party.now price) ++ codes "\n" }
     ensures len { vec_len buffer.new ≤ vec_len buffer.old + LINE_BYTES }
     ensures room { vec_capacity buffer.old ≤ vec_capacity buffer.new }
@@ -53,11 +62,18 @@ pub fn write_party(buffer: &mut Vec<u8>, party: &Party, price: i64)
 /// Writes the line `CLAIM creditor invoice debtor amount discharged` of the claim at a place of a well-formed cut, with
 /// its line feed, into a buffer that has `LINE_BYTES` spare. The discharge is below 10^18 cents.
 pub fn write_claim(buffer: &mut Vec<u8>, cut: &Cut, place: u32, discharge: u64)
+    // The claim is one of the cut.
     requires cut { WellFormed cut.now }
     requires place { place < length cut.now.claims }
     requires discharge { discharge < SUM_LIMIT }
+
+    // There is room for its line.
     requires spare { vec_len buffer.old + LINE_BYTES ≤ vec_capacity buffer.old }
-    ensures text { (none : CutClaim) → let c = slice_index_or cut.now.claims place none in buffer.new.items ≡ buffer.old.items ++ line_of (claim_fields c.key (firm_at cut.now.parties c.debtor) c.amount discharge) ++ codes "\n" }
+
+    // The line is at the end, and no room is lost.
+    ensures text { (none : CutClaim)
+        → let c = slice_index_or cut.now.claims place none in buffer.new.items
+        ≡ buffer.old.items ++ line_of (claim_fields c.key (firm_at cut.now.parties c.debtor) c.amount discharge) ++ codes "\n" }
     ensures len { vec_len buffer.new ≤ vec_len buffer.old + LINE_BYTES }
     ensures room { vec_capacity buffer.old ≤ vec_capacity buffer.new }
 {
@@ -77,11 +93,18 @@ pub fn write_end(buffer: &mut Vec<u8>)
 
 /// Writes the fields of the claim at a place of a cut, without an end of the line.
 pub(crate) fn put_claim_at(buffer: &mut Vec<u8>, cut: &Cut, place: u32, discharge: u64)
+    // The claim is one of the cut.
     requires cut { WellFormed cut.now }
     requires place { place < length cut.now.claims }
     requires discharge { discharge < SUM_LIMIT }
+
+    // There is room for its fields.
     requires spare { vec_len buffer.old + LINE_BYTES ≤ vec_capacity buffer.old }
-    ensures text { (none : CutClaim) → let c = slice_index_or cut.now.claims place none in buffer.new.items ≡ buffer.old.items ++ line_of (claim_fields c.key (firm_at cut.now.parties c.debtor) c.amount discharge) }
+
+    // They are at the end, and no room is lost.
+    ensures text { (none : CutClaim)
+        → let c = slice_index_or cut.now.claims place none in buffer.new.items
+        ≡ buffer.old.items ++ line_of (claim_fields c.key (firm_at cut.now.parties c.debtor) c.amount discharge) }
     ensures len { vec_len buffer.new ≤ vec_len buffer.old + 100 }
     ensures room { vec_capacity buffer.old ≤ vec_capacity buffer.new }
 {
@@ -91,9 +114,12 @@ pub(crate) fn put_claim_at(buffer: &mut Vec<u8>, cut: &Cut, place: u32, discharg
 }
 
 fn put_claim(buffer: &mut Vec<u8>, key: &Key, debtor: &Name, amount: u64, discharge: u64)
+    // There is room for such fields.
     requires amount { amount < SUM_LIMIT }
     requires discharge { discharge < SUM_LIMIT }
     requires spare { vec_len buffer.old + LINE_BYTES ≤ vec_capacity buffer.old }
+
+    // They are at the end, and no room is lost.
     ensures text { buffer.new.items ≡ buffer.old.items ++ line_of (claim_fields key.now debtor.now amount discharge) }
     ensures len { vec_len buffer.new ≤ vec_len buffer.old + 100 }
     ensures room { vec_capacity buffer.old ≤ vec_capacity buffer.new }
@@ -120,9 +146,12 @@ fn put_names(buffer: &mut Vec<u8>, key: &Key, debtor: &Name)
 
 // Two sums.
 fn put_sums(buffer: &mut Vec<u8>, first: u64, second: u64)
+    // There is room for such sums.
     requires first { first < SUM_LIMIT }
     requires second { second < SUM_LIMIT }
     requires spare { vec_len buffer.old + 80 ≤ vec_capacity buffer.old }
+
+    // They are at the end, and no room is lost.
     ensures text { buffer.new.items ≡ buffer.old.items ++ line_of (cents_text first ∷ cents_text second ∷ []) }
     ensures len { vec_len buffer.new ≤ vec_len buffer.old + 39 }
     ensures room { vec_capacity buffer.old ≤ vec_capacity buffer.new }

@@ -1,0 +1,4 @@
+pub mod Lanes
+pub mod Merging
+pub mod Rooms
+pub mod Seating
