@@ -11,14 +11,14 @@ use Rattle.claim_history.specs.declared.entry.Entry.{Entry}
 use Rattle.bureau_desk.specs.declared.base.DeskBase.{DeskBase}
 use Rattle.claim_history.specs.States.{OpenRound, state_of}
 use Rattle.claim_history.specs.History.{answer_of, IsLegal, AreValid}
-use Rattle.claim_history.specs.Needs.{IsWithinLimits}
+use Rattle.claim_history.specs.Needs.{IsWithinLimits, publication_bytes}
 use Rattle.disk_model.specs.Calls.{Seen, GoesOn, IsPresent}
 use Rattle.claim_history.specs.Callers.{accepted_calls, has_closed}
 use Rattle.recorded_book.specs.Calls.{CanBeKept, HoldsFirst, StandsForLeft}
 use Rattle.recorded_book.specs.Moments.{HasMoments, HeldSince}
 use Rattle.recorded_book.specs.Devices.{AreBetween}
 use Rattle.claim_history.specs.Rounds.{cuts_after}
-use Rattle.recorded_book.specs.Acting.{RecordedView, publication_bytes, HasActed}
+use Rattle.recorded_book.specs.Acting.{RecordedView, HasActed}
 use Rattle.bureau_desk.specs.Publishing.{IsPublishReply}
 
 -- What contracts see of a desk: its disk and its history; the cuts of the rounds that were published since the last clearing;
@@ -76,7 +76,7 @@ desk_view kept rounds = record {
 -- its owner is an accepted Close, for its entry.
 pub record HasPlaces {D : Type 0} (kept : RecordedView D) (len capacity : ℕ) (round : OpenRound) : Type 0 where
   pub entry : has_closed round.owner kept.book.history ≡ true → 1 ≤ kept.book.room
-  pub body : publication_bytes round ≤ kept.recorder.spare
+  pub body : publication_bytes (length round.cut.claims) (length round.cut.parties) ≤ kept.recorder.spare
   pub cut : len < capacity
 
 -- the rounds are those of the history, and there is the memory for the publication of the open one

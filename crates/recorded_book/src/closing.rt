@@ -8,7 +8,7 @@ ghost use Rattle.claim_history.specs.declared.entry.Reply.TheVariants as replies
 ghost use Rattle.claim_history.specs.Acts.{is_valid, is_publication, is_day};
 ghost use Rattle.claim_history.specs.States.{state_of};
 ghost use Rattle.claim_history.specs.History.{answer_of, is_opening, is_accepted, is_no_refusal, MayFollow};
-ghost use Rattle.claim_history.specs.Needs.{is_full, Fits};
+ghost use Rattle.claim_history.specs.Needs.{is_full, publication_bytes, Fits};
 ghost use Rattle.claim_book.specs.Book.{room_for, ledger_of, open_cut_of};
 ghost use Rattle.recorded_book.specs.Calls.{IsLeftOpen};
 ghost use Rattle.recorded_book.specs.Acting.{HasActed, IsActError, IsLater, IsUntouched, IsSpared, HasClosed, IsCloseDue, IsCutReply};
@@ -18,6 +18,7 @@ use crate::acting::error_of;
 use crate::cut_reply::CutReply;
 use crate::recorded::RecordedBook;
 use claim_book::Book;
+use act_bodies::publication_length;
 use claim_history::{Act, Day, Entry, Reply, Why, accepted};
 use disk_model::Disk;
 use limited_book::LimitedBook;
@@ -110,7 +111,7 @@ impl<D: Disk> RecordedBook<D> {
         // With a copy, the Close is within the limits and its publication has room.
         ensures copy { IfOk result (λ copy. copy ≡ cut.now) }
         ensures fits { OnOk result (is_full self.old.book.history caller (acts.Close kind horizon) ≡ false) }
-        ensures publication { OnOk result (17 + (8 * length cut.now.claims + 4 * length cut.now.parties) ≤ self.new.recorder.spare) }
+        ensures publication { OnOk result (publication_bytes (length cut.now.claims) (length cut.now.parties) ≤ self.new.recorder.spare) }
 
         // Nothing was put yet.
         ensures error { IfErr result (IsActError self.old.book.history caller (acts.Close kind horizon)) }
@@ -136,14 +137,15 @@ impl<D: Disk> RecordedBook<D> {
 
         // With a copy there is room for the publication.
         ensures copy { IfOk result (λ copy. copy ≡ cut.now) }
-        ensures spare { OnOk result (17 + (8 * length cut.now.claims + 4 * length cut.now.parties) ≤ self.new.recorder.spare) }
+        ensures spare { OnOk result (publication_bytes (length cut.now.claims) (length cut.now.parties) ≤ self.new.recorder.spare) }
 
         // Nothing was put yet.
         ensures book { self.new.book ≡ self.old.book }
         ensures journal { self.new.recorder.journal ≡ self.old.recorder.journal }
         ensures later { IsLater D.seen self.old.recorder self.new.recorder }
     {
-        self.recorder.reserve(publication_length(cut))?;
+        let bytes = publication_length(cut.claims().len(), cut.parties().len());
+        self.recorder.reserve(bytes as usize)?;
         cut.clone()
     }
 
@@ -162,7 +164,7 @@ impl<D: Disk> RecordedBook<D> {
         requires fits { is_full self.old.book.history caller (acts.Close kind horizon) ≡ false }
         requires cut { cut ≡ cut_of ((state_of self.old.book.history).openings + 1) (ledger_of self.old.book.history) kind horizon }
         requires copy { copy ≡ cut }
-        requires publication { 17 + (8 * length cut.claims + 4 * length cut.parties) ≤ self.old.recorder.spare }
+        requires publication { publication_bytes (length cut.claims) (length cut.parties) ≤ self.old.recorder.spare }
 
         // It has its entry.
         ensures closed { HasClosed D.seen self.old.recorder.journal.disk self.new.recorder.journal.disk
@@ -265,14 +267,6 @@ impl<D: Disk> RecordedBook<D> {
     {
         self.put(caller, Act::Close { kind, horizon }, due)
     }
-}
-
-// The bytes of the body of a publication for a cut.
-fn publication_length(cut: &Cut) -> usize
-    requires { WellFormed cut.now }
-    ensures { result ≡ 17 + (8 * length cut.now.claims + 4 * length cut.now.parties) }
-{
-    17 + (8 * cut.claims().len() + 4 * cut.parties().len())
 }
 
 // Puts the entry of a Close at the end that opens a round with this cut, or that tells of a device.
