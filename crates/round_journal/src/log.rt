@@ -2,6 +2,7 @@
 ghost use Rattle.std.specs.Prelude.{◌≡◌, ◌+◌, ◌<◌, ◌≤◌, ℕ, true, false, List, [], ◌∷◌, ◌++◌, length, Option, Some, None, IsTrue, OnOk, OnErr, vec_capacity};
 ghost use Rattle.disk_model.specs.Calls.{Passes};
 ghost use Rattle.setoff_model.specs.declared.limits.TheConstants.{MOST_BODY, MOST_JOURNAL_BYTES};
+ghost use Rattle.claim_history.specs.declared.record_bytes.TheConstants.{RECORD_HEAD};
 ghost use Rattle.fault_count.specs.Counts.{IsCounted};
 ghost use Rattle.round_journal.specs.Bytes.{front};
 ghost use Rattle.round_journal.specs.Kept.{staged, HasBodies, HasFailedIn, HasStaged, IsKeptAt, IsStaged, IsLast, HoldsOne};
