@@ -9,7 +9,7 @@ little liquidity and a little room, so that each price level uses up one window.
 import math
 
 MOST = 999_999_999_999
-FAR = 1_000_000_000_000
+FAR = 900_000_000_000
 
 
 def log_uniform(draw, most=MOST):

@@ -8,8 +8,11 @@ use level_engine::Advice;
 use residual_state::{State, augment, carry_all, reprice, surplus_of};
 use std::alloc::{AllocError, Global};
 
-// So many levels are tried at first, or so many where arcs are few, and it is asked from so many on whether they get on.
+// So many levels are tried at first, more where some units count more than one, and fewer where arcs are few. It is asked from so
+// many on whether they get on.
 const MOST: usize = 32;
+
+const MOST_WEIGHTED: usize = 128;
 
 const FEW: usize = 4;
 
@@ -25,8 +28,9 @@ pub(crate) fn first_levels(
     ensures { OnOk result (IsNoWorse state.old state.new) }
 {
     let sparse = advice.halves().len() / 5 <= state.excess.len();
-    let mut past = Vec::with_capacity(alloc, MOST)?;
-    for _ in 0..MOST {
+    let most = most_levels(state);
+    let mut past = Vec::with_capacity(alloc, most)?;
+    for _ in 0..most {
         let left = surplus_of(&state.excess);
         if left == 0 || is_stalled(&past, left, sparse) {
             return Ok(());
@@ -35,6 +39,16 @@ pub(crate) fn first_levels(
         advise(alloc, state, advice)?;
     }
     Ok(())
+}
+
+// How many levels are tried at first.
+fn most_levels(state: &State) -> usize {
+    for edge in &state.edges {
+        if 1 < edge.reward {
+            return MOST_WEIGHTED;
+        }
+    }
+    MOST
 }
 
 // Whether levels get on no longer: more than three quarters is left of what was left at half the level.

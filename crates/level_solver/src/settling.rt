@@ -5,7 +5,7 @@ ghost use Rattle.residual_state.specs.States.{IsState, StaysOn};
 
 use crate::levels::{all_levels, first_levels};
 use level_engine::{Advice, Halves};
-use residual_state::{State, adopt};
+use residual_state::{State, adopt, surplus_of};
 use simplex_engine::{Position, Solution, seek_solution};
 use std::alloc::{AllocError, Global};
 
@@ -32,10 +32,33 @@ pub fn settle_within(alloc: Global, state: &mut State, turns: u32) -> Result<(),
     ensures state { OnOk result (StaysOn state.old state.new) }
     ensures rest { OnOk result ((v : ℕ) → v < length state.new.excess.items → excess_of state.new.excess.items v ≤ℤ pos 0) }
 {
-    let mut advice = Advice::new(alloc, &state.edges, state.excess.len())?;
     let windows = window_flows(alloc, state)?;
+    let halves = levels_at_first(alloc, state)?;
+    take_solution(alloc, state, &halves, &windows, turns)?;
+    drop(halves);
+    levels_to_the_end(alloc, state)
+}
+
+// Goes from one level of prices to the next while they get on. The halves of the arcs; the other lists of the advice make room.
+fn levels_at_first(alloc: Global, state: &mut State) -> Result<Halves, AllocError>
+    requires { IsState state.old }
+    ensures { OnOk result (StaysOn state.old state.new) }
+{
+    let mut advice = Advice::new(alloc, &state.edges, state.excess.len())?;
     first_levels(alloc, state, &mut advice)?;
-    take_solution(alloc, state, advice.halves(), &windows, turns)?;
+    Ok(advice.into_halves())
+}
+
+// Goes from one level of prices to the next until no node has an excess above 0.
+fn levels_to_the_end(alloc: Global, state: &mut State) -> Result<(), AllocError>
+    requires { IsState state.old }
+    ensures state { OnOk result (StaysOn state.old state.new) }
+    ensures rest { OnOk result ((v : ℕ) → v < length state.new.excess.items → excess_of state.new.excess.items v ≤ℤ pos 0) }
+{
+    if surplus_of(&state.excess) == 0 {
+        return Ok(());
+    }
+    let mut advice = Advice::new(alloc, &state.edges, state.excess.len())?;
     all_levels(alloc, state, &mut advice)
 }
 
@@ -48,7 +71,7 @@ fn window_flows(alloc: Global, state: &State) -> Result<Vec<u64>, AllocError> {
     Vec::from_slice(alloc, &state.flows[state.flows.len() - parties..])
 }
 
-// Takes a whole solution, where one is found.
+// Takes a whole solution, where any excess is left and one is found.
 fn take_solution(
     alloc: Global,
     state: &mut State,
@@ -59,6 +82,9 @@ fn take_solution(
     requires { IsState state.old }
     ensures { OnOk result (StaysOn state.old state.new) }
 {
+    if surplus_of(&state.excess) == 0 {
+        return Ok(());
+    }
     if let Some(Solution { flows, prices }) = found(alloc, state, halves, windows, turns)? {
         let _ = adopt(alloc, state, flows, prices)?;
     }
