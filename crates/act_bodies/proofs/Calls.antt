@@ -5,7 +5,7 @@ use Rattle.std.specs.Int.{w32, w64}
 use Rattle.std.specs.List.{list_all, AllByRecursion}
 use Rattle.std.proofs.lemmas.Bool.{eqb-true, leb-true, ltb-true, and_parts}
 use Rattle.std.proofs.lemmas.List.{append-nil, nil_from_length}
-use Rattle.setoff_model.specs.Limits.{most_amount, most_claims, most_firms}
+use Rattle.setoff_model.specs.declared.limits.TheConstants.{MOST_AMOUNT, MOST_CLAIMS, MOST_FIRMS}
 use Rattle.setoff_model.specs.declared.name.Key.{Key}
 use Rattle.setoff_model.specs.Names.{is_name}
 use Rattle.setoff_model.specs.declared.kind.Kind.{Kind}
@@ -143,7 +143,7 @@ act_takes (tag ∷ bytes) a rest fits e =
 
 -- what was written is read again
 money : (cents : ℕ) → is_amount cents ≡ true → IsMoney cents
-money cents h = omega (arith, leb-true cents most_amount h)
+money cents h = omega (arith, leb-true cents MOST_AMOUNT h)
 
 claim_money : (cents : ℕ) → is_claim_amount cents ≡ true → IsMoney cents
 claim_money cents h = money cents (and_parts (nat_le 1 cents) (is_amount cents) h).1
@@ -172,7 +172,7 @@ monies (x ∷ xs) h =
     let c = and_parts (is_amount x) (list_all is_amount xs) h in
     (money x c.0, monies xs c.1)
 
-stored : (n : ℕ) → n ≤ most_firms → (list : List ℤ) → list_all (λ p. nat_le (unsigned_abs p) n) list ≡ true → AllByRecursion (IsStored n) list
+stored : (n : ℕ) → n ≤ MOST_FIRMS → (list : List ℤ) → list_all (λ p. nat_le (unsigned_abs p) n) list ≡ true → AllByRecursion (IsStored n) list
 stored n few [] h = tt
 stored n few (x ∷ xs) h =
     let c = and_parts (nat_le (unsigned_abs x) n) (list_all (λ p. nat_le (unsigned_abs p) n) xs) h in
@@ -180,11 +180,11 @@ stored n few (x ∷ xs) h =
 
 lists : (outcome : OutcomeView) → is_outcome outcome ≡ true → HasLists outcome
 lists outcome h =
-    let near = and_parts (nat_le (length outcome.discharges) most_claims && nat_le (length outcome.prices) most_firms && list_all is_amount outcome.discharges) (list_all (λ p. nat_le (unsigned_abs p) (length outcome.prices)) outcome.prices) h in
-    let cents = and_parts (nat_le (length outcome.discharges) most_claims && nat_le (length outcome.prices) most_firms) (list_all is_amount outcome.discharges) near.0 in
-    let counts = and_parts (nat_le (length outcome.discharges) most_claims) (nat_le (length outcome.prices) most_firms) cents.0 in
-    let c : length outcome.discharges ≤ most_claims = leb-true (length outcome.discharges) most_claims counts.0 in
-    let n : length outcome.prices ≤ most_firms = leb-true (length outcome.prices) most_firms counts.1 in
+    let near = and_parts (nat_le (length outcome.discharges) MOST_CLAIMS && nat_le (length outcome.prices) MOST_FIRMS && list_all is_amount outcome.discharges) (list_all (λ p. nat_le (unsigned_abs p) (length outcome.prices)) outcome.prices) h in
+    let cents = and_parts (nat_le (length outcome.discharges) MOST_CLAIMS && nat_le (length outcome.prices) MOST_FIRMS) (list_all is_amount outcome.discharges) near.0 in
+    let counts = and_parts (nat_le (length outcome.discharges) MOST_CLAIMS) (nat_le (length outcome.prices) MOST_FIRMS) cents.0 in
+    let c : length outcome.discharges ≤ MOST_CLAIMS = leb-true (length outcome.discharges) MOST_CLAIMS counts.0 in
+    let n : length outcome.prices ≤ MOST_FIRMS = leb-true (length outcome.prices) MOST_FIRMS counts.1 in
     ((omega arith, monies outcome.discharges cents.1), (omega arith, stored (length outcome.prices) n outcome.prices near.1))
 
 act_again : (a : Act) (rest : List ℕ) → is_valid a ≡ true → act_at (fields_of a ++ rest) ≡ Some (a, rest)

@@ -1,7 +1,7 @@
 //! Writing a body.
 ghost use Rattle.std.specs.Prelude.{◌≡◌, ◌+◌, ◌*◌, ◌≤◌, ◌<◌, ◌++◌, ◌∷◌, All, length, unsigned_abs, vec_len, vec_capacity, true};
 ghost use Rattle.std.specs.List.{flat_map};
-ghost use Rattle.setoff_model.specs.Limits.{most_claims, most_firms};
+ghost use Rattle.setoff_model.specs.declared.limits.TheConstants.{MOST_CLAIMS, MOST_FIRMS};
 ghost use Rattle.setoff_model.specs.declared.kind.Kind.{Kind};
 ghost use Rattle.claim_history.specs.Acts.{is_valid};
 ghost use Rattle.claim_history.specs.Needs.{body_length_of};
@@ -188,8 +188,8 @@ fn byte_of(kind: Kind) -> u8
 
 fn put_publish(buffer: &mut Vec<u8>, round: u32, outcome: &Outcome)
     requires spare { vec_len buffer.old + 13 + (8 * length outcome.now.discharges + 4 * length outcome.now.prices) ≤ vec_capacity buffer.old }
-    requires discharges { length outcome.now.discharges ≤ most_claims }
-    requires prices { length outcome.now.prices ≤ most_firms }
+    requires discharges { length outcome.now.discharges ≤ MOST_CLAIMS }
+    requires prices { length outcome.now.prices ≤ MOST_FIRMS }
     requires near { All (λ p. unsigned_abs p ≤ length outcome.now.prices) outcome.now.prices }
     ensures text { buffer.new.items ≡ buffer.old.items ++ 14 ∷ four round ++ outcome_bytes outcome.now }
     ensures len { vec_len buffer.new ≡ vec_len buffer.old + 13 + (8 * length outcome.now.discharges + 4 * length outcome.now.prices) }
@@ -218,7 +218,7 @@ fn put_eights(buffer: &mut Vec<u8>, numbers: &[u64])
 
 fn put_prices(buffer: &mut Vec<u8>, prices: &[i64])
     requires spare { vec_len buffer.old + 4 * length prices.now ≤ vec_capacity buffer.old }
-    requires few { length prices.now ≤ most_firms }
+    requires few { length prices.now ≤ MOST_FIRMS }
     requires near { All (λ p. unsigned_abs p ≤ length prices.now) prices.now }
     ensures text { buffer.new.items ≡ buffer.old.items ++ flat_map (λ p. four (stored_price (length prices.now) p)) prices.now }
     ensures len { vec_len buffer.new ≡ vec_len buffer.old + 4 * length prices.now }
@@ -233,7 +233,7 @@ fn put_prices(buffer: &mut Vec<u8>, prices: &[i64])
 // A price of n parties.
 fn put_price(buffer: &mut Vec<u8>, n: u32, price: i64)
     requires spare { vec_len buffer.old + 4 ≤ vec_capacity buffer.old }
-    requires few { n ≤ most_firms }
+    requires few { n ≤ MOST_FIRMS }
     requires near { unsigned_abs price ≤ n }
     ensures text { buffer.new.items ≡ buffer.old.items ++ four (stored_price n price) }
     ensures len { vec_len buffer.new ≡ vec_len buffer.old + 4 }

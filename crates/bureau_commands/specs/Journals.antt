@@ -1,7 +1,7 @@
 -- What a journal holds, and the room behind it.
 use Rattle.std.specs.Prelude.{◌≡◌, ℕ, ◌+◌, ◌*◌, ◌≤◌, List, length, count_by, IsTrue}
 use Rattle.std.specs.List.{sum_by}
-use Rattle.setoff_model.specs.Limits.{most_entries, most_journal_bytes}
+use Rattle.setoff_model.specs.declared.limits.TheConstants.{MOST_ENTRIES, MOST_JOURNAL_BYTES}
 use Rattle.disk_model.specs.Calls.{Seen}
 use Rattle.claim_history.specs.Acts.{is_filing, is_registration}
 use Rattle.claim_history.specs.Needs.{record_length_of}
@@ -45,5 +45,5 @@ firms_asked records requests = count_by (λ r. is_registration r.act) records + 
 -- for the abandonment at the opening, and two for both endings of a round. Of bytes: 10 for that abandonment, 80 for each
 -- request, and both endings of a round of all claims and firms for each Close and once more.
 pub record HasRoomForAll (records : List Record) (requests : List Request) : Type 0 where
-  pub entries : length records + length requests + closes requests + 3 ≤ most_entries
-  pub bytes : journal_bytes records + 10 + 80 * length requests + endings_with (claims_asked records requests) (firms_asked records requests) * (closes requests + 1) ≤ most_journal_bytes
+  pub entries : length records + length requests + closes requests + 3 ≤ MOST_ENTRIES
+  pub bytes : journal_bytes records + 10 + 80 * length requests + endings_with (claims_asked records requests) (firms_asked records requests) * (closes requests + 1) ≤ MOST_JOURNAL_BYTES

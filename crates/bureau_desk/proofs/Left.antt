@@ -20,7 +20,7 @@ use Rattle.round_journal.specs.Records.{IsBody, bodies_of, offsets_of, AreKeepab
 use Rattle.round_journal.specs.Opened.{AreFound}
 use Rattle.round_journal.specs.declared.record.Record.{Record}
 use Rattle.journal_replay.specs.Replays.{AreSound}
-use Rattle.journal_replay.specs.Replays.{call_of as asked_by}
+use Rattle.journal_replay.specs.Replays.{recorded_call as asked_by}
 use Rattle.journal_replay.proofs.Replays.{replay_append}
 use Rattle.recorded_book.specs.Calls.{CanBeKept, LeftBy, TriedLast, bodies_of_calls}
 use Rattle.bureau_desk.specs.Laws.{LeftLaw}

@@ -1,10 +1,11 @@
 //! The words `explain`: from the bytes of a statement to the chains of its round.
 ghost use Rattle.std.specs.Prelude.{◌≡◌, ◌≢◌, ◌≤◌, [], vec_capacity};
 ghost use Rattle.std.specs.Str.Lines.{lines};
+ghost use Rattle.setoff_model.specs.declared.limits.TheConstants.{OUTPUT_BYTES};
 ghost use Rattle.fault_count.specs.Counts.{HasRisen};
 ghost use Rattle.command_words.specs.declared.input_report.InputReport.TheVariants as inputs;
 ghost use Rattle.statement_text.specs.Statements.{IsStatement};
-ghost use Rattle.printed_text.specs.Writing.{Wrote, output_bytes};
+ghost use Rattle.printed_text.specs.Writing.{Wrote};
 ghost use Rattle.bureau_reports.specs.Inputs.{IsInputDue};
 
 use crate::statement::tell_bad_statement;
@@ -27,7 +28,7 @@ fn explain_checked<K: Sink>(
 ) -> u8
     requires stated { IsStatement (lines input.now) checked.cut checked.outcome }
     requires empty { buffer.old.items ≡ [] }
-    requires room { output_bytes ≤ vec_capacity buffer.old }
+    requires room { OUTPUT_BYTES ≤ vec_capacity buffer.old }
     ensures wrote { Wrote (IsInputDue inputs.Explain input.now) (K.held sink.old) (K.held sink.new) result }
     ensures write_fault { result ≡ 4 → HasRisen (K.faults sink.old) (K.faults sink.new) }
     ensures no_read_fault { result ≢ 3 }

@@ -1,6 +1,6 @@
 //! Disks on which no desk was opened.
 ghost use Rattle.std.specs.Prelude.{◌≡◌, ◌+◌, ◌≤◌, ◌++◌, length, vec_len, vec_capacity};
-ghost use Rattle.setoff_model.specs.Limits.{line_bytes};
+ghost use Rattle.setoff_model.specs.declared.limits.TheConstants.{LINE_BYTES};
 ghost use Rattle.bureau_reports.specs.DiskTexts.{offset_of, record_why, fault_of, told_fault, told_counts, opening_text, opening_status, IsTellable};
 
 use bureau_desk::DeskCause;
@@ -48,9 +48,9 @@ fn write_fault(buffer: &mut Vec<u8>, cause: DeskCause)
 pub(crate) fn write_told(buffer: &mut Vec<u8>, word: &[u8], cause: DeskCause)
     requires short { length word.now ≤ 20 }
     requires tellable { IsTellable cause }
-    requires spare { vec_len buffer.old + line_bytes ≤ vec_capacity buffer.old }
+    requires spare { vec_len buffer.old + LINE_BYTES ≤ vec_capacity buffer.old }
     ensures text { buffer.new.items ≡ buffer.old.items ++ told_fault word.now cause }
-    ensures len { vec_len buffer.new ≤ vec_len buffer.old + line_bytes }
+    ensures len { vec_len buffer.new ≤ vec_len buffer.old + LINE_BYTES }
     ensures room { vec_capacity buffer.old ≤ vec_capacity buffer.new }
 {
     put(buffer, word);
@@ -63,9 +63,9 @@ pub(crate) fn write_told(buffer: &mut Vec<u8>, word: &[u8], cause: DeskCause)
 // Writes two counts after a word.
 fn write_counts(buffer: &mut Vec<u8>, word: &[u8], before: u64, after: u64)
     requires short { length word.now ≤ 20 }
-    requires spare { vec_len buffer.old + line_bytes ≤ vec_capacity buffer.old }
+    requires spare { vec_len buffer.old + LINE_BYTES ≤ vec_capacity buffer.old }
     ensures text { buffer.new.items ≡ buffer.old.items ++ told_counts word.now before after }
-    ensures len { vec_len buffer.new ≤ vec_len buffer.old + line_bytes }
+    ensures len { vec_len buffer.new ≤ vec_len buffer.old + LINE_BYTES }
     ensures room { vec_capacity buffer.old ≤ vec_capacity buffer.new }
 {
     put(buffer, word);
@@ -78,9 +78,9 @@ fn write_counts(buffer: &mut Vec<u8>, word: &[u8], before: u64, after: u64)
 /// Writes the fault line of a disk on which no desk was opened. The numbers of a reply that it tells are in range.
 pub(crate) fn write_opening_fault(buffer: &mut Vec<u8>, cause: DeskCause)
     requires tellable { IsTellable cause }
-    requires spare { vec_len buffer.old + line_bytes ≤ vec_capacity buffer.old }
+    requires spare { vec_len buffer.old + LINE_BYTES ≤ vec_capacity buffer.old }
     ensures text { buffer.new.items ≡ buffer.old.items ++ opening_text cause }
-    ensures len { vec_len buffer.new ≤ vec_len buffer.old + line_bytes }
+    ensures len { vec_len buffer.new ≤ vec_len buffer.old + LINE_BYTES }
     ensures room { vec_capacity buffer.old ≤ vec_capacity buffer.new }
 {
     match cause {

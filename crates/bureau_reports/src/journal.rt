@@ -1,6 +1,5 @@
 //! Reports on a journal.
 ghost use Rattle.std.specs.Prelude.{◌≡◌, ◌≢◌, ◌≤◌, [], IfOk, vec_capacity};
-ghost use Rattle.setoff_model.specs.Limits.{line_bytes};
 ghost use Rattle.fault_count.specs.Counts.{HasRisen};
 ghost use Rattle.round_journal.specs.Opened.{IsQuiet};
 ghost use Rattle.printed_text.specs.Writing.{Wrote};
@@ -46,7 +45,7 @@ fn text_of(alloc: Global, report: &JournalReport, book: &Book) -> Result<Vec<u8>
 fn write_unviewed(buffer: &mut Vec<u8>, report: &JournalReport, cause: DeskCause)
     requires tellable { IsTellable cause }
     requires empty { buffer.old.items ≡ [] }
-    requires spare { line_bytes ≤ vec_capacity buffer.old }
+    requires spare { LINE_BYTES ≤ vec_capacity buffer.old }
     ensures { buffer.new.items ≡ unviewed_text report.now cause }
 {
     match report {

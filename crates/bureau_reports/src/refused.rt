@@ -1,6 +1,6 @@
 //! The fault line of a disk that has no desk, or no book.
 ghost use Rattle.std.specs.Prelude.{◌≡◌, ◌≤◌, [], vec_capacity};
-ghost use Rattle.setoff_model.specs.Limits.{line_bytes};
+ghost use Rattle.setoff_model.specs.declared.limits.TheConstants.{LINE_BYTES};
 ghost use Rattle.fault_count.specs.Counts.{HasRisen};
 ghost use Rattle.bureau_reports.specs.DiskTexts.{opening_status, opening_text, IsTellable};
 ghost use Rattle.printed_text.specs.Writing.{IsWritten};
@@ -16,7 +16,7 @@ use printed_text::end_with;
 pub fn tell_refused<K: Sink>(sink: &mut K, buffer: &mut Vec<u8>, cause: DeskCause) -> u8
     requires tellable { IsTellable cause }
     requires empty { buffer.old.items ≡ [] }
-    requires spare { line_bytes ≤ vec_capacity buffer.old }
+    requires spare { LINE_BYTES ≤ vec_capacity buffer.old }
     ensures written { IsWritten (K.held sink.old) (K.held sink.new) (opening_status cause) (opening_text cause) result }
     ensures write_fault { result ≡ 4 → HasRisen (K.faults sink.old) (K.faults sink.new) }
 {

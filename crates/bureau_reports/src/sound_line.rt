@@ -1,6 +1,6 @@
 //! What an audit finds.
 ghost use Rattle.std.specs.Prelude.{◌≡◌, ◌+◌, ◌≤◌, ◌++◌, count_by, vec_len, vec_capacity};
-ghost use Rattle.setoff_model.specs.Limits.{line_bytes};
+ghost use Rattle.setoff_model.specs.declared.limits.TheConstants.{LINE_BYTES};
 ghost use Rattle.claim_history.specs.Acts.{is_publication};
 ghost use Rattle.bureau_reports.specs.DiskTexts.{sound_text, unsound_text, unsound_status, IsTellable};
 
@@ -23,9 +23,9 @@ fn rounds_in(history: &[Entry]) -> u64
 
 /// Writes the line `yes acts N rounds M` of a journal that is sound, whose history is this.
 pub(crate) fn write_sound(buffer: &mut Vec<u8>, history: &[Entry])
-    requires { vec_len buffer.old + line_bytes ≤ vec_capacity buffer.old }
+    requires { vec_len buffer.old + LINE_BYTES ≤ vec_capacity buffer.old }
     ensures text { buffer.new.items ≡ buffer.old.items ++ sound_text history.now }
-    ensures len { vec_len buffer.new ≤ vec_len buffer.old + line_bytes }
+    ensures len { vec_len buffer.new ≤ vec_len buffer.old + LINE_BYTES }
     ensures room { vec_capacity buffer.old ≤ vec_capacity buffer.new }
 {
     put(buffer, b"yes acts ");
@@ -39,9 +39,9 @@ pub(crate) fn write_sound(buffer: &mut Vec<u8>, history: &[Entry])
 /// read. The numbers of a reply that it tells are in range.
 pub(crate) fn write_unsound(buffer: &mut Vec<u8>, cause: DeskCause)
     requires tellable { IsTellable cause }
-    requires spare { vec_len buffer.old + line_bytes ≤ vec_capacity buffer.old }
+    requires spare { vec_len buffer.old + LINE_BYTES ≤ vec_capacity buffer.old }
     ensures text { buffer.new.items ≡ buffer.old.items ++ unsound_text cause }
-    ensures len { vec_len buffer.new ≤ vec_len buffer.old + line_bytes }
+    ensures len { vec_len buffer.new ≤ vec_len buffer.old + LINE_BYTES }
     ensures room { vec_capacity buffer.old ≤ vec_capacity buffer.new }
 {
     match cause {

@@ -4,7 +4,7 @@ use Rattle.std.specs.List.{list_any}
 use Rattle.std.proofs.Common.{◌≡◌, ◌≢◌, ℕ, suc, ◌+◌, ◌-◌, ◌<◌, ◌≤◌, false, List, length, take, drop, refl, sym, ◌∙◌, ap, subst, inl, inr, arith}
 use Rattle.std.proofs.lemmas.List.{get_or-take, get_or-drop, length-take-le, length-drop}
 use Rattle.setoff_model.specs.Setoff.{Obligations}
-use Rattle.chain_explain.specs.Chains.{IsTrail, IsOpen, debtor_at, creditor_at, first_debtor, last_creditor}
+use Rattle.chain_explain.specs.Chains.{IsTrail, IsOpenChain, debtor_at, creditor_at, first_debtor, last_creditor}
 use Rattle.chain_explain.specs.Walks.{AreReached, IsPath, stand}
 use Rattle.chain_explain.proofs.Lowered.{has_cases}
 use Rattle.chain_explain.proofs.Walking.{once}
@@ -60,7 +60,7 @@ module _ (o : Obligations) (rests path marks : List ℕ) (from at n : ℕ) (is :
   pub held_part : (i : ℕ) → i < length (take (n - a) (drop a path)) → 0 < slice_index rests (slice_index (take (n - a) (drop a path)) i)
   held_part i lt = let i' : i < n - a = omega (arith, long, lt) in subst (λ (k : ℕ). 0 < slice_index rests k) (sym (part_at path a n i i')) (is.held (a + i) (omega arith))
 
-  pub open_part : ((i : ℕ) → i < n → debtor_at o path i ≢ at) → IsOpen o (take (n - a) (drop a path))
+  pub open_part : ((i : ℕ) → i < n → debtor_at o path i ≢ at) → IsOpenChain o (take (n - a) (drop a path))
   open_part off i lt same = let i' : i < n - a = omega (arith, long, lt) in off (a + i) (omega arith) (sym (debtor_of_part i i') ∙ same ∙ last_of_part)
 
   -- an earlier claim of the walk is not of it

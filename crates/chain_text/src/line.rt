@@ -1,9 +1,9 @@
 //! The line of a chain.
 ghost use Rattle.std.specs.Prelude.{◌≡◌, ℕ, ◌<◌, ◌≤◌, ◌+◌, ◌++◌, OnOk, OnErr, codes, flat_map, length, slice_index, vec_capacity, vec_len};
 ghost use Rattle.fault_count.specs.Counts.{IsCounted};
-ghost use Rattle.setoff_model.specs.Limits.{line_bytes};
+ghost use Rattle.setoff_model.specs.declared.limits.TheConstants.{OUTPUT_BYTES, LINE_BYTES};
 ghost use Rattle.bureau_edge.specs.Streams.{AppendsPart};
-ghost use Rattle.printed_text.specs.Writing.{GoesThrough, output_bytes};
+ghost use Rattle.printed_text.specs.Writing.{GoesThrough};
 ghost use Rattle.chain_explain.specs.Chains.{chain_view};
 ghost use Rattle.chain_text.specs.Texts.{chain_head, chain_line, claim_name};
 
@@ -14,7 +14,7 @@ use setoff_model::{Cut, put, write_cents};
 
 // Writes how a chain begins, into a buffer that has `LINE_BYTES` spare.
 fn write_head(buffer: &mut Vec<u8>, chain: Chain)
-    requires spare { vec_len buffer.old + line_bytes ≤ vec_capacity buffer.old }
+    requires spare { vec_len buffer.old + LINE_BYTES ≤ vec_capacity buffer.old }
     ensures text { buffer.new.items ≡ buffer.old.items ++ chain_head chain.closed chain.amount }
     ensures room { vec_capacity buffer.old ≤ vec_capacity buffer.new }
 {
@@ -29,7 +29,7 @@ fn write_head(buffer: &mut Vec<u8>, chain: Chain)
 // Writes the claim at a place of the cut, into a buffer that has `LINE_BYTES` spare.
 fn write_claim_name(buffer: &mut Vec<u8>, cut: &Cut, place: u32)
     requires place { place < length cut.now.claims }
-    requires spare { vec_len buffer.old + line_bytes ≤ vec_capacity buffer.old }
+    requires spare { vec_len buffer.old + LINE_BYTES ≤ vec_capacity buffer.old }
     ensures text { buffer.new.items ≡ buffer.old.items ++ claim_name cut.now.claims place }
     ensures room { vec_capacity buffer.old ≤ vec_capacity buffer.new }
 {
@@ -42,11 +42,11 @@ fn write_claim_name(buffer: &mut Vec<u8>, cut: &Cut, place: u32)
 
 // Prints how a chain begins.
 fn print_head<K: Sink>(sink: &mut K, buffer: &mut Vec<u8>, chain: Chain) -> Result<(), Failed>
-    requires spare { output_bytes ≤ vec_capacity buffer.old }
+    requires spare { OUTPUT_BYTES ≤ vec_capacity buffer.old }
     ensures ok { OnOk result (GoesThrough (K.held sink.old) (K.held sink.new) buffer.old.items buffer.new.items (chain_head chain.closed chain.amount)) }
     ensures part { OnErr result (AppendsPart (K.held sink.old) (K.held sink.new) (buffer.old.items ++ chain_head chain.closed chain.amount)) }
     ensures cause { IsCounted (K.faults sink.old) (K.faults sink.new) result }
-    ensures room { output_bytes ≤ vec_capacity buffer.new }
+    ensures room { OUTPUT_BYTES ≤ vec_capacity buffer.new }
 {
     make_room(sink, buffer)?;
     write_head(buffer, chain);
@@ -61,11 +61,11 @@ fn print_claim_name<K: Sink>(
     place: u32,
 ) -> Result<(), Failed>
     requires place { place < length cut.now.claims }
-    requires spare { output_bytes ≤ vec_capacity buffer.old }
+    requires spare { OUTPUT_BYTES ≤ vec_capacity buffer.old }
     ensures ok { OnOk result (GoesThrough (K.held sink.old) (K.held sink.new) buffer.old.items buffer.new.items (claim_name cut.now.claims place)) }
     ensures part { OnErr result (AppendsPart (K.held sink.old) (K.held sink.new) (buffer.old.items ++ claim_name cut.now.claims place)) }
     ensures cause { IsCounted (K.faults sink.old) (K.faults sink.new) result }
-    ensures room { output_bytes ≤ vec_capacity buffer.new }
+    ensures room { OUTPUT_BYTES ≤ vec_capacity buffer.new }
 {
     make_room(sink, buffer)?;
     write_claim_name(buffer, cut, place);
@@ -80,11 +80,11 @@ fn print_claim_names<K: Sink>(
     places: &[u32],
 ) -> Result<(), Failed>
     requires places { (i : ℕ) → i < length places.now → slice_index places.now i < length cut.now.claims }
-    requires spare { output_bytes ≤ vec_capacity buffer.old }
+    requires spare { OUTPUT_BYTES ≤ vec_capacity buffer.old }
     ensures ok { OnOk result (GoesThrough (K.held sink.old) (K.held sink.new) buffer.old.items buffer.new.items (flat_map (λ place. claim_name cut.now.claims place) places.now)) }
     ensures part { OnErr result (AppendsPart (K.held sink.old) (K.held sink.new) (buffer.old.items ++ flat_map (λ place. claim_name cut.now.claims place) places.now)) }
     ensures cause { IsCounted (K.faults sink.old) (K.faults sink.new) result }
-    ensures room { output_bytes ≤ vec_capacity buffer.new }
+    ensures room { OUTPUT_BYTES ≤ vec_capacity buffer.new }
 {
     for i in 0..places.len() {
         print_claim_name(sink, buffer, cut, places[i])?;
@@ -94,11 +94,11 @@ fn print_claim_names<K: Sink>(
 
 // Prints the end of a line.
 fn print_end<K: Sink>(sink: &mut K, buffer: &mut Vec<u8>) -> Result<(), Failed>
-    requires spare { output_bytes ≤ vec_capacity buffer.old }
+    requires spare { OUTPUT_BYTES ≤ vec_capacity buffer.old }
     ensures ok { OnOk result (GoesThrough (K.held sink.old) (K.held sink.new) buffer.old.items buffer.new.items (codes "\n")) }
     ensures part { OnErr result (AppendsPart (K.held sink.old) (K.held sink.new) (buffer.old.items ++ codes "\n")) }
     ensures cause { IsCounted (K.faults sink.old) (K.faults sink.new) result }
-    ensures room { output_bytes ≤ vec_capacity buffer.new }
+    ensures room { OUTPUT_BYTES ≤ vec_capacity buffer.new }
 {
     make_room(sink, buffer)?;
     put(buffer, b"\n");
@@ -114,11 +114,11 @@ pub(crate) fn print_chain<K: Sink>(
     places: &[u32],
 ) -> Result<(), Failed>
     requires places { (i : ℕ) → i < length places.now → slice_index places.now i < length cut.now.claims }
-    requires spare { output_bytes ≤ vec_capacity buffer.old }
+    requires spare { OUTPUT_BYTES ≤ vec_capacity buffer.old }
     ensures ok { OnOk result (GoesThrough (K.held sink.old) (K.held sink.new) buffer.old.items buffer.new.items (chain_line cut.now (chain_view chain places.now))) }
     ensures part { OnErr result (AppendsPart (K.held sink.old) (K.held sink.new) (buffer.old.items ++ chain_line cut.now (chain_view chain places.now))) }
     ensures cause { IsCounted (K.faults sink.old) (K.faults sink.new) result }
-    ensures room { output_bytes ≤ vec_capacity buffer.new }
+    ensures room { OUTPUT_BYTES ≤ vec_capacity buffer.new }
 {
     print_head(sink, buffer, chain)?;
     print_claim_names(sink, buffer, cut, places)?;

@@ -1,7 +1,7 @@
 //! The lines of the chains of an explainer.
 ghost use Rattle.std.specs.Prelude.{◌≡◌, ◌≤◌, [], vec_capacity};
+ghost use Rattle.setoff_model.specs.declared.limits.TheConstants.{OUTPUT_BYTES};
 ghost use Rattle.fault_count.specs.Counts.{IsCounted};
-ghost use Rattle.printed_text.specs.Writing.{output_bytes};
 ghost use Rattle.chain_text.specs.Given.{HasGivenAll, HasPassed, HasPrinted};
 
 use crate::line::print_chain;
@@ -24,10 +24,10 @@ fn pass_chains<K: Sink>(
     buffer: &mut Vec<u8>,
     explainer: &mut Explainer,
 ) -> Result<(), Failed>
-    requires spare { output_bytes ≤ vec_capacity buffer.old }
+    requires spare { OUTPUT_BYTES ≤ vec_capacity buffer.old }
     ensures passed { HasPassed (K.held sink.old) (K.held sink.new) buffer.old.items buffer.new.items explainer.old explainer.new result }
     ensures cause { IsCounted (K.faults sink.old) (K.faults sink.new) result }
-    ensures room { output_bytes ≤ vec_capacity buffer.new }
+    ensures room { OUTPUT_BYTES ≤ vec_capacity buffer.new }
 {
     while let Some(chain) = explainer.next() {
         match print_chain(sink, buffer, explainer.cut(), chain, explainer.claims()) {
@@ -51,7 +51,7 @@ pub fn print_chains<K: Sink>(
     explainer: &mut Explainer,
 ) -> Result<(), Failed>
     requires empty { buffer.old.items ≡ [] }
-    requires spare { output_bytes ≤ vec_capacity buffer.old }
+    requires spare { OUTPUT_BYTES ≤ vec_capacity buffer.old }
     ensures printed { HasPrinted (K.held sink.old) (K.held sink.new) explainer.old explainer.new result }
     ensures cause { IsCounted (K.faults sink.old) (K.faults sink.new) result }
 {

@@ -1,7 +1,7 @@
 //! A history with its claims and accounts.
 ghost use Rattle.std.specs.Prelude.{ℕ, ◌≡◌, ◌<◌, ◌+◌, ◌≤◌, ◌++◌, ◌∷◌, [], length, is_some, IfOk, IfErr, OnOk, OnErr, vec_len, vec_capacity, true, false, All, if◌then◌else◌};
 ghost use Rattle.std.specs.Option.{option_map};
-ghost use Rattle.setoff_model.specs.Limits.{most_rounds};
+ghost use Rattle.setoff_model.specs.declared.limits.TheConstants.{MOST_ROUNDS};
 ghost use Rattle.setoff_model.specs.declared.kind.Kind.{Kind};
 ghost use Rattle.setoff_model.specs.CutView.{WellFormed};
 ghost use Rattle.claim_history.specs.declared.act.Act.TheVariants as act;
@@ -103,7 +103,7 @@ impl Book {
     /// publication, and fewer than 2^32 - 1 rounds were opened.
     pub fn answer(&self, caller: u32, act: &Act) -> Reply
         requires apart { is_publication act.now ≡ false }
-        requires few { (state_of self.now.history).openings < most_rounds }
+        requires few { (state_of self.now.history).openings < MOST_ROUNDS }
         ensures { result ≡ answer_of self.now.history caller act.now }
     {
         match act {
@@ -181,7 +181,7 @@ impl Book {
     pub fn apply_close(&mut self, entry: Entry, cut: Cut)
         requires room { room_for (state_of self.old.history) entry.act ≤ self.old.room }
         requires valid { is_valid entry.act ≡ true }
-        requires few { (state_of self.old.history).openings < most_rounds }
+        requires few { (state_of self.old.history).openings < MOST_ROUNDS }
         requires opens { is_opening entry.reply ≡ true }
         requires next { MayFollow self.old.history entry }
         requires cut { (kind : Kind) (horizon : ℕ) → entry.act ≡ act.Close kind horizon → cut ≡ cut_of ((state_of self.old.history).openings + 1) (ledger_of self.old.history) kind horizon }
@@ -235,7 +235,7 @@ impl Book {
     /// The cut of the round that a Close of this kind and horizon opens now. It has the number of the next round. Fewer than
     /// 2^32 - 1 rounds were opened. The only error is that memory is missing.
     pub fn next_cut(&self, alloc: Global, kind: Kind, horizon: Day) -> Result<Cut, AllocError>
-        requires { (state_of self.now.history).openings < most_rounds }
+        requires { (state_of self.now.history).openings < MOST_ROUNDS }
         ensures cut { IfOk result (λ cut. cut ≡ cut_of ((state_of self.now.history).openings + 1) (ledger_of self.now.history) kind horizon) }
         ensures formed { IfOk result WellFormed }
     {

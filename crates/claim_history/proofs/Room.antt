@@ -6,7 +6,7 @@ use Rattle.std.proofs.lemmas.Bool.{ltb-false, le-ltb, and_parts}
 use Rattle.std.proofs.lemmas.List.{reverse-append, reverse-reverse, length-map}
 use Rattle.std.proofs.lemmas.List.Elements.{All-head, All-tail}
 use Rattle.std.proofs.lemmas.List.Sums.{sum_by-cons}
-use Rattle.setoff_model.specs.Limits.{most_entries, most_journal_bytes}
+use Rattle.setoff_model.specs.declared.limits.TheConstants.{MOST_ENTRIES, MOST_JOURNAL_BYTES}
 use Rattle.setoff_model.specs.declared.kind.Kind.{Kind}
 use Rattle.setoff_model.specs.declared.cut.Party.{Party}
 use Rattle.setoff_model.specs.declared.cut.CutClaim.{CutClaim}
@@ -53,8 +53,8 @@ one_at_most false = omega arith
 
 -- what is used, and both endings of the round that is open, are within the limits
 record KeepsRoom (past : List Entry) : Type 0 where
-  entries : used_entries past + endings_entries (state past).open_round ≤ most_entries
-  bytes : used_bytes past + endings_bytes (state past).open_round ≤ most_journal_bytes
+  entries : used_entries past + endings_entries (state past).open_round ≤ MOST_ENTRIES
+  bytes : used_bytes past + endings_bytes (state past).open_round ≤ MOST_JOURNAL_BYTES
 
 due_room : (past : List Entry) (caller : ℕ) (a : Act) → FitsPast past caller a → KeepsRoom (entry_of caller a (answer (state past) caller a) ∷ past)
 due_room past caller a fits =
@@ -87,8 +87,8 @@ pub room_law : RoomLaw
 room_law history legal within round is =
     let room = past_room (reverse history) legal within in
     record {
-      entries = subst (λ (o : Option OpenRound). used_entries (reverse history) + endings_entries o ≤ most_entries) is room.entries;
-      bytes = subst (λ (o : Option OpenRound). used_bytes (reverse history) + endings_bytes o ≤ most_journal_bytes) is room.bytes;
+      entries = subst (λ (o : Option OpenRound). used_entries (reverse history) + endings_entries o ≤ MOST_ENTRIES) is room.entries;
+      bytes = subst (λ (o : Option OpenRound). used_bytes (reverse history) + endings_bytes o ≤ MOST_JOURNAL_BYTES) is room.bytes;
     }
 
 -- ---- the endings
@@ -268,10 +268,10 @@ none : (a b : Bool) → a ≡ false → b ≡ false → (a || (not a && b)) ≡ 
 none true b e f = absurd (true≢false e)
 none false b e f = f
 
-fits_test : (entries bytes : ℕ) → ((nat_lt most_entries entries || (not (nat_lt most_entries entries) && nat_lt most_journal_bytes bytes)) ≡ false) ↔ ((entries ≤ most_entries) × (bytes ≤ most_journal_bytes))
+fits_test : (entries bytes : ℕ) → ((nat_lt MOST_ENTRIES entries || (not (nat_lt MOST_ENTRIES entries) && nat_lt MOST_JOURNAL_BYTES bytes)) ≡ false) ↔ ((entries ≤ MOST_ENTRIES) × (bytes ≤ MOST_JOURNAL_BYTES))
 fits_test entries bytes = (
-  λ e. let both = neither (nat_lt most_entries entries) (nat_lt most_journal_bytes bytes) e in (ltb-false _ _ both.0, ltb-false _ _ both.1),
-  λ h. none (nat_lt most_entries entries) (nat_lt most_journal_bytes bytes) (le-ltb _ _ h.0) (le-ltb _ _ h.1),
+  λ e. let both = neither (nat_lt MOST_ENTRIES entries) (nat_lt MOST_JOURNAL_BYTES bytes) e in (ltb-false _ _ both.0, ltb-false _ _ both.1),
+  λ h. none (nat_lt MOST_ENTRIES entries) (nat_lt MOST_JOURNAL_BYTES bytes) (le-ltb _ _ h.0) (le-ltb _ _ h.1),
 )
 
 pub full_law : FullLaw

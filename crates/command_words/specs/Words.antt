@@ -1,8 +1,8 @@
 -- The words of the program's command line.
 use Rattle.std.specs.Prelude.{◌≡◌, ◌≤◌, ◌<◌, ◌^◌, ℕ, List, [], ◌∷◌, codes, decimal}
-use Rattle.setoff_model.specs.Limits.{most_firms, most_claims}
+use Rattle.setoff_model.specs.declared.limits.TheConstants.{LAST_DAY, MOST_FIRMS, MOST_CLAIMS}
 use Rattle.setoff_model.specs.Texts.{kind_text}
-use Rattle.claim_history.specs.Days.{day_text, last_day}
+use Rattle.claim_history.specs.Days.{day_text}
 use Rattle.request_text.specs.Lanes.{IsLane}
 use Rattle.command_words.specs.declared.command.Command.{Command}
 use Rattle.command_words.specs.declared.command.Command.TheVariants as commands
@@ -17,9 +17,9 @@ IsCommand (commands.OnInput inputs.Explain) = Unit {0}
 IsCommand (commands.OnInput (inputs.Import lane)) = IsLane lane
 IsCommand (commands.OnJournal journals.Audit) = Unit {0}
 IsCommand (commands.OnJournal journals.Positions) = Unit {0}
-IsCommand (commands.OnJournal (journals.Notices today)) = today ≤ last_day
-IsCommand (commands.OnJournal (journals.Weigh kind today)) = today ≤ last_day
-IsCommand (commands.Trial firms claims seed) = (2 ≤ firms) × (firms ≤ most_firms) × (1 ≤ claims) × (claims ≤ most_claims) × (seed < 2 ^ 32)
+IsCommand (commands.OnJournal (journals.Notices today)) = today ≤ LAST_DAY
+IsCommand (commands.OnJournal (journals.Weigh kind today)) = today ≤ LAST_DAY
+IsCommand (commands.Trial firms claims seed) = (2 ≤ firms) × (firms ≤ MOST_FIRMS) × (1 ≤ claims) × (claims ≤ MOST_CLAIMS) × (seed < 2 ^ 32)
 
 -- the first word of a command
 abbrev pub name_of : Command → List ℕ

@@ -1,9 +1,10 @@
 //! The words, as a command.
 ghost use Rattle.std.specs.Prelude.{◌≡◌, ◌≤◌, ℕ, codes, [], map, string_bytes, decimal, IfOk, IfErr, IfSome, IfNone, Some};
 ghost use Rattle.std.specs.List.{list_any};
+ghost use Rattle.setoff_model.specs.declared.limits.TheConstants.{LAST_DAY};
 ghost use Rattle.setoff_model.specs.Texts.{kind_text};
 ghost use Rattle.setoff_model.specs.declared.kind.Kind.{Kind as KindOf};
-ghost use Rattle.claim_history.specs.Days.{day_text, last_day};
+ghost use Rattle.claim_history.specs.Days.{day_text};
 ghost use Rattle.clap.specs.Words.{first_value, found_of, subcommand_of, subcommand_rows_of, fault_of};
 ghost use Rattle.clap.specs.Values.{kind_of};
 ghost use Rattle.clap.specs.declared.error.kind.ErrorKind.TheVariants.{OutOfMemory};
@@ -20,7 +21,7 @@ use crate::program::program;
 use claim_history::Day;
 use clap::error::ErrorKind;
 use clap::{ArgMatches, Error};
-use request_text::MOST_LANES;
+use setoff_model::limits::MOST_LANES;
 use setoff_model::limits::{MOST_CLAIMS, MOST_FIRMS};
 use setoff_model::{Kind, read_kind, read_number};
 use std::alloc::Global;
@@ -40,8 +41,8 @@ fn has_option(words: &[String]) -> bool
 
 // The day that is the value of this name.
 fn day_at(values: &ArgMatches, id: &str) -> Option<Day>
-    ensures found { IfSome result (λ d. (d ≤ last_day) × (first_value (found_of values.now) id.now ≡ Some (day_text d))) }
-    ensures none { IfNone result ((d : ℕ) → d ≤ last_day → first_value (found_of values.now) id.now ≡ Some (day_text d) → ⊥) }
+    ensures found { IfSome result (λ d. (d ≤ LAST_DAY) × (first_value (found_of values.now) id.now ≡ Some (day_text d))) }
+    ensures none { IfNone result ((d : ℕ) → d ≤ LAST_DAY → first_value (found_of values.now) id.now ≡ Some (day_text d) → ⊥) }
 {
     Day::read(values.get_str(id)?.as_bytes())
 }

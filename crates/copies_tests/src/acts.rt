@@ -1,6 +1,6 @@
 //! The acts of a triangle of claims, and how a book takes them.
 ghost use Rattle.std.specs.Prelude.{◌≡◌, ◌<◌, ◌≤◌, true, false};
-ghost use Rattle.setoff_model.specs.Limits.{most_rounds};
+ghost use Rattle.setoff_model.specs.declared.limits.TheConstants.{MOST_ROUNDS};
 ghost use Rattle.claim_history.specs.Acts.{is_valid, is_publication};
 ghost use Rattle.claim_history.specs.States.{state_of};
 ghost use Rattle.claim_book.specs.Book.{room_for};
@@ -83,7 +83,7 @@ fn make_room(rt: &impl Abort, book: &mut Book, act: &Act)
     ensures history { book.new.history ≡ book.old.history }
     ensures valid { is_valid act.now ≡ true }
     ensures apart { is_publication act.now ≡ false }
-    ensures few { (state_of book.new.history).openings < most_rounds }
+    ensures few { (state_of book.new.history).openings < MOST_ROUNDS }
     ensures room { room_for (state_of book.new.history) act.now ≤ book.new.room }
 {
     assert!(rt; act.valid() && !act.publishes());

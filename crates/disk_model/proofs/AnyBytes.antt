@@ -6,7 +6,7 @@ use Rattle.std.proofs.lemmas.Grind.{same_number_lists}
 use Rattle.std.proofs.lemmas.List.FromFn.{length-map-range_with_len, get_or-map-range_with_len}
 use Rattle.disk_model.specs.Calls.{Torn, After}
 use Rattle.disk_model.specs.Runs.{left_after}
-use Rattle.disk_model.specs.Runs.Call.{wrote}
+use Rattle.disk_model.specs.Runs.DiskCall.{wrote}
 use Rattle.disk_model.specs.Words.{IsOutside, BeginWithin, longest, MayLeave, AnyBytesLaw}
 use Rattle.disk_model.proofs.Moments.{torn_same}
 use Rattle.disk_model.proofs.Words.{leaves_torn}

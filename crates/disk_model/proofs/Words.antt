@@ -4,7 +4,7 @@ use Rattle.std.proofs.lemmas.List.{get_or-take, get_or-drop, length-take-le}
 use Rattle.std.proofs.lemmas.Grind.{same_number_lists}
 use Rattle.disk_model.specs.Calls.{Torn, After}
 use Rattle.disk_model.specs.Runs.{left_after}
-use Rattle.disk_model.specs.Runs.Call.{wrote}
+use Rattle.disk_model.specs.Runs.DiskCall.{wrote}
 use Rattle.disk_model.specs.Words.{longest, MayLeave, TornLaw, WritesLaw}
 
 -- a byte before the range, and one after it

@@ -3,8 +3,8 @@ use Rattle.disk_model.specs.Calls.{Seen}
 use Rattle.disk_model.specs.Memory.{MemoryState, first_of, seen_in}
 use Rattle.disk_model.specs.declared.memory_disk.MemoryDisk.{MemoryDisk}
 
-abbrev pub state_of : MemoryDisk → MemoryState
-state_of d = record {
+abbrev pub memory_state : MemoryDisk → MemoryState
+memory_state d = record {
   first = first_of d.first d.bytes.items;
   bytes = d.bytes.items;
   steps = d.steps.items;
@@ -16,4 +16,4 @@ state_of d = record {
 
 -- It tells its bytes. There are two moments for each call that was kept.
 abbrev pub seen_of : MemoryDisk → Seen
-seen_of d = seen_in (state_of d)
+seen_of d = seen_in (memory_state d)

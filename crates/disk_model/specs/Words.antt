@@ -2,7 +2,7 @@
 use Rattle.std.specs.Prelude.{◌≡◌, ◌≤◌, ◌<◌, ◌+◌, ◌⊎◌, ◌↔◌, max, ℕ, List, [], ◌∷◌, length, map, slice_index}
 use Rattle.disk_model.specs.Calls.{Torn}
 use Rattle.disk_model.specs.Runs.{left_after}
-use Rattle.disk_model.specs.Runs.Call.{wrote}
+use Rattle.disk_model.specs.Runs.DiskCall.{wrote}
 
 -- whether a place is in no range of a list of writes, each with its offset and its number of bytes
 abbrev pub IsOutside : ℕ → List (ℕ × ℕ) → Type 0

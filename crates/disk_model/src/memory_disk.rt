@@ -30,19 +30,19 @@ pub struct MemoryDisk {
 }
 
 impl MemoryDisk {
-    ghost use Rattle.disk_model.specs.MemoryState.{state_of, seen_of};
+    ghost use Rattle.disk_model.specs.MemoryState.{memory_state, seen_of};
 
     /// A disk that holds these bytes, all of them synced. Its calls with the numbers in `fails` fail: `len`,
     /// `read_at`, `write_at` and `sync` are counted together, from 1. It takes no memory.
     pub fn new(alloc: Global, bytes: Vec<u8>, fails: Vec<u64>) -> MemoryDisk
-        ensures { state_of result ≡ new_state bytes.items fails.items 0 }
+        ensures { memory_state result ≡ new_state bytes.items fails.items 0 }
     {
         MemoryDisk::with_faults(alloc, bytes, fails, 0)
     }
 
     /// As `new`, with a count of faults that begins at `faults`. A fault at the last `u64` leaves it there.
     pub fn with_faults(alloc: Global, bytes: Vec<u8>, fails: Vec<u64>, faults: u64) -> MemoryDisk
-        ensures { state_of result ≡ new_state bytes.items fails.items faults }
+        ensures { memory_state result ≡ new_state bytes.items fails.items faults }
     {
         MemoryDisk {
             alloc,
@@ -58,7 +58,7 @@ impl MemoryDisk {
 
     /// What a read gives.
     pub fn bytes(&self) -> &[u8]
-        ensures { result.now ≡ (state_of self.now).bytes }
+        ensures { result.now ≡ (memory_state self.now).bytes }
     {
         &self.bytes
     }
@@ -73,7 +73,7 @@ impl MemoryDisk {
 
     /// How many calls failed for want of memory. The count stops at the last `u64`.
     pub fn refused(&self) -> u64
-        ensures { result ≡ (state_of self.now).refused }
+        ensures { result ≡ (memory_state self.now).refused }
     {
         self.refused
     }
@@ -92,9 +92,9 @@ impl MemoryDisk {
 
     // A call that changes no byte. It ends with a sync or with nothing.
     fn begin(&mut self, syncs: bool) -> Result<(), DiskFailed>
-        ensures ok { OnOk result (state_of self.new ≡ after_quiet (end_step syncs) (state_of self.old)) }
-        ensures named { is_named (state_of self.old) ≡ true → IsErr result }
-        ensures err { OnErr result (HasFailed (state_of self.old) (state_of self.new)) }
+        ensures ok { OnOk result (memory_state self.new ≡ after_quiet (end_step syncs) (memory_state self.old)) }
+        ensures named { is_named (memory_state self.old) ≡ true → IsErr result }
+        ensures err { OnErr result (HasFailed (memory_state self.old) (memory_state self.new)) }
         ensures cause { IsCounted self.old.faults self.new.faults result }
     {
         if self.is_named() {
@@ -111,15 +111,15 @@ impl MemoryDisk {
 
     // Whether the next call is one of those that fail.
     fn is_named(&self) -> bool
-        ensures { result ≡ is_named (state_of self.now) }
+        ensures { result ≡ is_named (memory_state self.now) }
     {
         self.fails.contains(&next_count(self.calls))
     }
 
     // A call that was named: it does nothing.
     fn fail_named(&mut self) -> DiskFailed
-        requires { is_named (state_of self.old) ≡ true }
-        ensures failed { HasFailed (state_of self.old) (state_of self.new) }
+        requires { is_named (memory_state self.old) ≡ true }
+        ensures failed { HasFailed (memory_state self.old) (memory_state self.new) }
         ensures later { self.old.faults ≤ self.new.faults }
         ensures rose { HasRisen self.old.faults self.new.faults }
     {
@@ -135,7 +135,7 @@ impl MemoryDisk {
 
     // A call for which memory was refused. It is not kept.
     fn refuse(&mut self) -> DiskFailed
-        ensures failed { state_of self.new ≡ after_refused (state_of self.old) }
+        ensures failed { memory_state self.new ≡ after_refused (memory_state self.old) }
         ensures later { self.old.faults ≤ self.new.faults }
         ensures rose { HasRisen self.old.faults self.new.faults }
     {
@@ -148,8 +148,8 @@ impl MemoryDisk {
     // Makes all room before anything changes.
     fn overwrite(&mut self, at: usize, piece: &[u8]) -> Result<(), AllocError>
         requires { at ≤ length self.old.bytes.items }
-        ensures ok { OnOk result ((kept : _) × (kept.items ≡ piece.now) × (state_of self.new ≡ after_write at kept (state_of self.old))) }
-        ensures err { OnErr result (state_of self.new ≡ state_of self.old) }
+        ensures ok { OnOk result ((kept : _) × (kept.items ≡ piece.now) × (memory_state self.new ≡ after_write at kept (memory_state self.old))) }
+        ensures err { OnErr result (memory_state self.new ≡ memory_state self.old) }
     {
         self.keep_first()?;
         let kept = piece.to_vec(self.alloc)?;
@@ -164,8 +164,8 @@ impl MemoryDisk {
 
     // Keeps the bytes of the start, where nothing has been written yet.
     fn keep_first(&mut self) -> Result<(), AllocError>
-        ensures state { state_of self.new ≡ state_of self.old }
-        ensures kept { OnOk result ((bytes : List ℕ) → first_of self.new.first bytes ≡ (state_of self.old).first) }
+        ensures state { memory_state self.new ≡ memory_state self.old }
+        ensures kept { OnOk result ((bytes : List ℕ) → first_of self.new.first bytes ≡ (memory_state self.old).first) }
     {
         if self.first.is_none() {
             self.first = Some(self.bytes.to_vec(self.alloc)?);
@@ -203,7 +203,7 @@ fn note(steps: &mut Vec<Step>, within: Step, end: Step) -> Result<(), AllocError
 
 impl Disk for MemoryDisk {
     ghost use Rattle.disk_model.specs.ReadsNow.{memory_reads_now};
-    ghost use Rattle.disk_model.specs.MemoryState.{state_of, seen_of};
+    ghost use Rattle.disk_model.specs.MemoryState.{memory_state, seen_of};
 
     ghost seen = { seen_of };
 
@@ -216,9 +216,9 @@ impl Disk for MemoryDisk {
         ensures crash { Passes (seen_of self.old) (seen_of self.new) (IsPresent (seen_of self.old)) }
         ensures cause { IsCounted self.old.faults self.new.faults result }
 
-        ensures ok { OnOk result (state_of self.new ≡ after_quiet Waited (state_of self.old)) }
-        ensures named { is_named (state_of self.old) ≡ true → IsErr result }
-        ensures err { OnErr result (HasFailed (state_of self.old) (state_of self.new)) }
+        ensures ok { OnOk result (memory_state self.new ≡ after_quiet Waited (memory_state self.old)) }
+        ensures named { is_named (memory_state self.old) ≡ true → IsErr result }
+        ensures err { OnErr result (HasFailed (memory_state self.old) (memory_state self.new)) }
     {
         self.begin(false)?;
         Ok(self.bytes.len() as u64)
@@ -232,9 +232,9 @@ impl Disk for MemoryDisk {
         ensures crash { Passes (seen_of self.old) (seen_of self.new) (IsPresent (seen_of self.old)) }
         ensures cause { IsCounted self.old.faults self.new.faults result }
 
-        ensures ok { OnOk result (state_of self.new ≡ after_quiet Waited (state_of self.old)) }
-        ensures named { is_named (state_of self.old) ≡ true → IsErr result }
-        ensures err { OnErr result (HasFailed (state_of self.old) (state_of self.new)) }
+        ensures ok { OnOk result (memory_state self.new ≡ after_quiet Waited (memory_state self.old)) }
+        ensures named { is_named (memory_state self.old) ≡ true → IsErr result }
+        ensures err { OnErr result (HasFailed (memory_state self.old) (memory_state self.new)) }
     {
         self.begin(false)?;
         let at = at as usize;
@@ -252,9 +252,9 @@ impl Disk for MemoryDisk {
         ensures crash { Passes (seen_of self.old) (seen_of self.new) (After (Torn at (length piece.now)) (IsPresent (seen_of self.old))) }
         ensures cause { IsCounted self.old.faults self.new.faults result }
 
-        ensures ok { OnOk result ((kept : _) × (kept.items ≡ piece.now) × (state_of self.new ≡ after_write at kept (state_of self.old))) }
-        ensures named { is_named (state_of self.old) ≡ true → IsErr result }
-        ensures err { OnErr result (HasFailed (state_of self.old) (state_of self.new)) }
+        ensures ok { OnOk result ((kept : _) × (kept.items ≡ piece.now) × (memory_state self.new ≡ after_write at kept (memory_state self.old))) }
+        ensures named { is_named (memory_state self.old) ≡ true → IsErr result }
+        ensures err { OnErr result (HasFailed (memory_state self.old) (memory_state self.new)) }
     {
         if self.is_named() {
             return Err(self.fail_named());
@@ -273,9 +273,9 @@ impl Disk for MemoryDisk {
         ensures crash { Passes (seen_of self.old) (seen_of self.new) (IsPresent (seen_of self.old)) }
         ensures cause { IsCounted self.old.faults self.new.faults result }
 
-        ensures ok { OnOk result (state_of self.new ≡ after_quiet Synced (state_of self.old)) }
-        ensures named { is_named (state_of self.old) ≡ true → IsErr result }
-        ensures err { OnErr result (HasFailed (state_of self.old) (state_of self.new)) }
+        ensures ok { OnOk result (memory_state self.new ≡ after_quiet Synced (memory_state self.old)) }
+        ensures named { is_named (memory_state self.old) ≡ true → IsErr result }
+        ensures err { OnErr result (HasFailed (memory_state self.old) (memory_state self.new)) }
     {
         self.begin(true)?;
         Ok(())

@@ -1,6 +1,6 @@
 //! The line of an entry.
 ghost use Rattle.std.specs.Prelude.{◌≡◌, ◌+◌, ◌<◌, ◌≤◌, ◌^◌, ◌++◌, unsigned_abs, length, codes, true, vec_len, vec_capacity};
-ghost use Rattle.setoff_model.specs.Limits.{line_bytes};
+ghost use Rattle.setoff_model.specs.declared.limits.TheConstants.{SUM_LIMIT, LINE_BYTES};
 ghost use Rattle.setoff_model.specs.Texts.{cents_text, signed_cents_text};
 ghost use Rattle.claim_history.specs.Acts.{is_valid};
 ghost use Rattle.claim_history.specs.Laws.{IsReplyInRange};
@@ -38,7 +38,7 @@ fn name_of(why: Why) -> &'static [u8]
 }
 
 fn write_balance(buffer: &mut Vec<u8>, cents: i64)
-    requires small { unsigned_abs cents < 10 ^ 18 }
+    requires small { unsigned_abs cents < SUM_LIMIT }
     requires spare { vec_len buffer.old + 20 ≤ vec_capacity buffer.old }
     ensures text { buffer.new.items ≡ buffer.old.items ++ signed_cents_text cents }
     ensures len { vec_len buffer.new ≤ vec_len buffer.old + 20 }
@@ -54,7 +54,7 @@ fn write_balance(buffer: &mut Vec<u8>, cents: i64)
 }
 
 fn write_named_sum(buffer: &mut Vec<u8>, name: &[u8], cents: u64)
-    requires small { cents < 10 ^ 18 }
+    requires small { cents < SUM_LIMIT }
     requires short { length name.now ≤ 12 }
     requires spare { vec_len buffer.old + 31 ≤ vec_capacity buffer.old }
     ensures text { buffer.new.items ≡ buffer.old.items ++ (name.now ++ cents_text cents) }
@@ -66,9 +66,9 @@ fn write_named_sum(buffer: &mut Vec<u8>, name: &[u8], cents: u64)
 }
 
 fn write_position(buffer: &mut Vec<u8>, position: &Position)
-    requires balance { unsigned_abs position.now.balance < 10 ^ 18 }
-    requires receivable { position.now.receivable < 10 ^ 18 }
-    requires payable { position.now.payable < 10 ^ 18 }
+    requires balance { unsigned_abs position.now.balance < SUM_LIMIT }
+    requires receivable { position.now.receivable < SUM_LIMIT }
+    requires payable { position.now.payable < SUM_LIMIT }
     requires spare { vec_len buffer.old + 90 ≤ vec_capacity buffer.old }
     ensures text { buffer.new.items ≡ buffer.old.items ++ position_text position.now }
     ensures len { vec_len buffer.new ≤ vec_len buffer.old + 90 }
@@ -169,9 +169,9 @@ pub fn write_reply(buffer: &mut Vec<u8>, reply: &Reply)
 pub fn write_entry(buffer: &mut Vec<u8>, entry: &Entry)
     requires valid { is_valid entry.now.act ≡ true }
     requires range { IsReplyInRange entry.now.reply }
-    requires spare { vec_len buffer.old + line_bytes ≤ vec_capacity buffer.old }
+    requires spare { vec_len buffer.old + LINE_BYTES ≤ vec_capacity buffer.old }
     ensures text { buffer.new.items ≡ buffer.old.items ++ entry_line entry.now }
-    ensures len { vec_len buffer.new ≤ vec_len buffer.old + line_bytes }
+    ensures len { vec_len buffer.new ≤ vec_len buffer.old + LINE_BYTES }
     ensures room { vec_capacity buffer.old ≤ vec_capacity buffer.new }
 {
     write_whole(buffer, u64::from(entry.caller));

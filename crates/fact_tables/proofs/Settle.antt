@@ -11,7 +11,7 @@ use Rattle.std.proofs.lemmas.List.Elements.{All-map}
 use Rattle.std.proofs.lemmas.Bool.{cases_lt, cond-true, cond-false}
 use Rattle.std.proofs.lemmas.List.Folds.{list_any_none, list_any_at}
 use Rattle.std.proofs.lemmas.List.Quantifiers.{position-Some}
-use Rattle.setoff_model.specs.Limits.{first_ceiling}
+use Rattle.setoff_model.specs.declared.limits.TheConstants.{SUM_LIMIT, FIRST_CEILING}
 use Rattle.setoff_model.specs.Same.{same_name, same_key}
 use Rattle.setoff_model.specs.Setoff.{flow_at, total_of}
 use Rattle.setoff_model.specs.CutView.{creditors, debtors}
@@ -196,18 +196,18 @@ accounts_whole cut d i facts e =
     ap (λ (n : ℕ). map (account_after cut d n) facts) long
 
 -- a flow is below 10^18
-flow_below : (side : CutClaim → ℕ) (claims : List CutClaim) (d : List ℕ) (i : ℕ) (p : Option ℕ) → length d ≡ length claims → total_of d < 10 ^ 18 → i ≤ length claims → flow_of (λ f. flow_at i (map side claims) d f) p < 10 ^ 18
+flow_below : (side : CutClaim → ℕ) (claims : List CutClaim) (d : List ℕ) (i : ℕ) (p : Option ℕ) → length d ≡ length claims → total_of d < SUM_LIMIT → i ≤ length claims → flow_of (λ f. flow_at i (map side claims) d f) p < SUM_LIMIT
 flow_below side claims d i None long small le = omega arith
 flow_below side claims d i (Some f) long small le = flow_small side claims d i f _ long small le refl
 
-between : (z : ℤ) (f g : ℕ) → IsWithin first_ceiling first_ceiling z → f < 10 ^ 18 → g < 10 ^ 18 → IsWithin (2 * 10 ^ 18) (2 * 10 ^ 18) ((z +ℤ pos f) -ℤ pos g)
+between : (z : ℤ) (f g : ℕ) → IsWithin FIRST_CEILING FIRST_CEILING z → f < SUM_LIMIT → g < SUM_LIMIT → IsWithin (2 * SUM_LIMIT) (2 * SUM_LIMIT) ((z +ℤ pos f) -ℤ pos g)
 between z f g within lf lg = record { 0 = omega (arith, ints, within.0, within.1, lf, lg); 1 = omega (arith, ints, within.0, within.1, lf, lg) }
 
 -- on the way no balance goes far
-pub accounts_near : (cut : CutView) (d : List ℕ) (i : ℕ) (facts : List AccountFact) → length d ≡ length cut.claims → total_of d < 10 ^ 18 → i ≤ length cut.claims → AreSmall facts
-    → AreWithin (2 * 10 ^ 18) (map (account_after cut d i) facts)
+pub accounts_near : (cut : CutView) (d : List ℕ) (i : ℕ) (facts : List AccountFact) → length d ≡ length cut.claims → total_of d < SUM_LIMIT → i ≤ length cut.claims → AreSmall facts
+    → AreWithin (2 * SUM_LIMIT) (map (account_after cut d i) facts)
 accounts_near cut d i facts long small le within =
-    All-map (λ (a : AccountFact). IsWithin (2 * 10 ^ 18) (2 * 10 ^ 18) a.balance) (account_after cut d i) facts
+    All-map (λ (a : AccountFact). IsWithin (2 * SUM_LIMIT) (2 * SUM_LIMIT) a.balance) (account_after cut d i) facts
     (λ k a lt. between (get_or facts k a).balance _ _ (within k a lt) (flow_below (λ (c : CutClaim). c.creditor) cut.claims d i _ long small le) (flow_below (λ (c : CutClaim). c.debtor) cut.claims d i _ long small le))
 
 -- the firms stay

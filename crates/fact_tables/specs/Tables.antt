@@ -1,7 +1,7 @@
 -- The tables of claims and accounts, and how an entry changes them.
 use Rattle.std.specs.Prelude.{◌≡◌, ℕ, Bool, length, ◌-◌, ◌≤◌, count_by, All, ◌∷◌, ◌++◌, [], List, map, pos, ◌+ℤ◌, ◌-ℤ◌, if◌then◌else◌}
 use Rattle.setoff_model.specs.declared.name.Key.{Key}
-use Rattle.setoff_model.specs.Limits.{first_ceiling}
+use Rattle.setoff_model.specs.declared.limits.TheConstants.{FIRST_CEILING}
 use Rattle.setoff_model.specs.Same.{same_name, same_key}
 use Rattle.claim_history.specs.declared.act.Act.{Act}
 use Rattle.claim_history.specs.declared.act.Act.TheVariants as act
@@ -31,7 +31,7 @@ pub record AccountsView : Type 0 where
 
 -- the account of a firm that was just registered
 abbrev pub new_account : List ℕ → AccountFact
-new_account firm = record { firm = firm; balance = pos 0; credit = 0; ceiling = first_ceiling; offer = 0 }
+new_account firm = record { firm = firm; balance = pos 0; credit = 0; ceiling = FIRST_CEILING; offer = 0 }
 
 -- the firm's row with the amount put in
 abbrev pub funded : List ℕ → ℕ → AccountFact → AccountFact
@@ -110,7 +110,7 @@ AreWithin most accounts = All (λ a. IsWithin most most a.balance) accounts
 
 -- no balance is further from zero than the first ceiling
 abbrev pub AreSmall : List AccountFact → Type 0
-AreSmall accounts = All (λ a. IsWithin first_ceiling first_ceiling a.balance) accounts
+AreSmall accounts = All (λ a. IsWithin FIRST_CEILING FIRST_CEILING a.balance) accounts
 
 pub record AreAccounts (accounts : List AccountFact) : Type 0 where
   pub once : FirmsOnce accounts

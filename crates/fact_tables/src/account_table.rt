@@ -1,6 +1,7 @@
 //! The accounts of a book.
 ghost use Rattle.std.specs.Prelude.{◌≡◌, ◌+◌, ◌*◌, ◌<◌, ◌≤◌, ◌^◌, ◌++◌, ◌∷◌, [], ◌||◌, Bool, find, map, length, position, vec_len, vec_capacity, true, false, OnOk, OnErr};
 ghost use Rattle.std.specs.List.{list_any};
+ghost use Rattle.setoff_model.specs.declared.limits.TheConstants.{SUM_LIMIT};
 ghost use Rattle.setoff_model.specs.Setoff.{total_of};
 ghost use Rattle.setoff_model.specs.CutView.{WellFormed};
 ghost use Rattle.setoff_model.specs.Same.{same_name};
@@ -154,7 +155,7 @@ impl AccountTable {
     pub fn discharge(&mut self, cut: &Cut, discharges: &[u64])
         requires one_each { length discharges.now ≡ length cut.now.claims }
         requires formed { WellFormed cut.now }
-        requires total { total_of discharges.now < 10 ^ 18 }
+        requires total { total_of discharges.now < SUM_LIMIT }
         requires small { AreSmall (map (settled_account (record { cut = cut.now; discharges = discharges.now })) self.old.facts) }
         ensures facts { self.new.facts ≡ map (settled_account (record { cut = cut.now; discharges = discharges.now })) self.old.facts }
         ensures marks { self.new.marks ≡ self.old.marks }
@@ -298,8 +299,8 @@ fn fund(
 ) -> usize
     requires names { names.now.names ≡ map (λ a. a.firm) accounts.old }
     requires once { FirmsOnce accounts.old }
-    requires near { AreWithin (3 * 10 ^ 18) accounts.old }
-    requires amount { amount < 10 ^ 18 }
+    requires near { AreWithin (3 * SUM_LIMIT) accounts.old }
+    requires amount { amount < SUM_LIMIT }
     ensures { accounts.new ≡ map (funded firm.now amount) accounts.old }
 {
     match account_near(accounts, names, guess, firm) {
@@ -322,8 +323,8 @@ fn draw(
 ) -> usize
     requires names { names.now.names ≡ map (λ a. a.firm) accounts.old }
     requires once { FirmsOnce accounts.old }
-    requires near { AreWithin (3 * 10 ^ 18) accounts.old }
-    requires amount { amount < 10 ^ 18 }
+    requires near { AreWithin (3 * SUM_LIMIT) accounts.old }
+    requires amount { amount < SUM_LIMIT }
     ensures { accounts.new ≡ map (drawn firm.now amount) accounts.old }
 {
     match account_near(accounts, names, guess, firm) {
@@ -377,7 +378,7 @@ fn discharge_accounts(
     requires small { AreSmall accounts.old }
     requires one_each { length discharges.now ≡ length cut.now.claims }
     requires formed { WellFormed cut.now }
-    requires total { total_of discharges.now < 10 ^ 18 }
+    requires total { total_of discharges.now < SUM_LIMIT }
     ensures { accounts.new ≡ map (settled_account (record { cut = cut.now; discharges = discharges.now })) accounts.old }
 {
     let parties = cut.parties();

@@ -10,7 +10,7 @@ use Rattle.claim_history.specs.Needs.{FitsPast, IsWithinLimitsPast, is_full}
 use Rattle.claim_history.proofs.Pasts.{all_reverse}
 use Rattle.claim_history.proofs.Room.{full_law}
 use Rattle.round_journal.specs.declared.record.Record.{Record}
-use Rattle.journal_replay.specs.Replays.{AreSound, IsFirstFaulty, call_of, history_of, is_faulty}
+use Rattle.journal_replay.specs.Replays.{AreSound, IsFirstFaulty, recorded_call, history_of, is_faulty}
 use Rattle.journal_replay.specs.Laws.{FirstLaw, SoundLaw}
 use Rattle.journal_replay.proofs.Replays.{more_asked}
 
@@ -29,9 +29,9 @@ sound_first call calls past sound =
     let next = sound_rest calls (ask past call) sound in
     (All-head (λ e. is_accepted e ≡ true) _ past next.accepted, next.within.0)
 
-sound_past : (records : List Record) → AreSound records → IsSoundPast (replay_after [] (map call_of records))
+sound_past : (records : List Record) → AreSound records → IsSoundPast (replay_after [] (map recorded_call records))
 sound_past records sound =
-    let past = replay_after [] (map call_of records) in
+    let past = replay_after [] (map recorded_call records) in
     let same : reverse (reverse past) ≡ past = reverse-reverse past in
     record {
       accepted = subst (All (λ e. is_accepted e ≡ true)) same (all_reverse (λ e. is_accepted e ≡ true) (reverse past) sound.accepted);
@@ -45,9 +45,9 @@ neither false b e f = absurd (true≢false (sym e))
 -- no record of sound ones is faulty
 no_fault : (before after : List Record) (r : Record) → AreSound (before ++ r ∷ after) → is_faulty (history_of before) r.caller r.act ≡ false
 no_fault before after r sound =
-    let past = replay_after [] (map call_of before) in
+    let past = replay_after [] (map recorded_call before) in
     let same : past ≡ reverse (reverse past) = sym (reverse-reverse past) in
-    let here = sound_first (call_of r) (map call_of after) past (subst IsSoundPast (more_asked before after r) (sound_past (before ++ r ∷ after) sound)) in
+    let here = sound_first (recorded_call r) (map recorded_call after) past (subst IsSoundPast (more_asked before after r) (sound_past (before ++ r ∷ after) sound)) in
     neither (is_no_refusal (answer_of (history_of before) r.caller r.act)) (is_full (history_of before) r.caller r.act)
     (subst (λ (p : List Entry). is_no_refusal (answer (state p) r.caller r.act) ≡ true) same here.0)
     ((full_law (history_of before) r.caller r.act).1 (subst (λ (p : List Entry). FitsPast p r.caller r.act) same here.1))

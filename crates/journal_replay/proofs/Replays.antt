@@ -21,7 +21,7 @@ use Rattle.round_journal.specs.declared.record.Record.{Record}
 use Rattle.limited_book.proofs.Limits.{publication_of}
 use Rattle.journal_replay.specs.declared.replay_stop.ReplayStop.{ReplayStop}
 use Rattle.journal_replay.specs.declared.replay_stop.ReplayStop.TheVariants.{Memory, BadAct, Overfull}
-use Rattle.journal_replay.specs.Replays.{AreSound, IsReplayed, StopsFirst, Tells, call_of, history_of, is_faulty}
+use Rattle.journal_replay.specs.Replays.{AreSound, IsReplayed, StopsFirst, Tells, recorded_call, history_of, is_faulty}
 
 -- ---- Closes
 
@@ -61,13 +61,13 @@ replay_append past [] ys = refl
 replay_append past (x ∷ xs) ys = replay_append (ask past x) xs ys
 
 -- the newest entry of the records with one more
-pub more_asked : (before after : List Record) (r : Record) → replay_after [] (map call_of (before ++ r ∷ after)) ≡ replay_after (ask (replay_after [] (map call_of before)) (call_of r)) (map call_of after)
+pub more_asked : (before after : List Record) (r : Record) → replay_after [] (map recorded_call (before ++ r ∷ after)) ≡ replay_after (ask (replay_after [] (map recorded_call before)) (recorded_call r)) (map recorded_call after)
 more_asked before after r =
-    ap (replay_after []) (map-append call_of before (r ∷ after)) ∙ replay_append [] (map call_of before) (map call_of (r ∷ after))
+    ap (replay_after []) (map-append recorded_call before (r ∷ after)) ∙ replay_append [] (map recorded_call before) (map recorded_call (r ∷ after))
 
 pub history_more : (before : List Record) (r : Record) → history_of (before ++ r ∷ []) ≡ with_due (history_of before) r.caller r.act
 history_more before r =
-    let past = replay_after [] (map call_of before) in
+    let past = replay_after [] (map recorded_call before) in
     let reply_in : List Entry → Entry = λ p. entry_of r.caller r.act (answer (state p) r.caller r.act) in
     let asked : history_of (before ++ r ∷ []) ≡ reverse (reply_in past ∷ past) = ap reverse (more_asked before [] r) in
     let last : reverse (reply_in past ∷ past) ≡ reverse past ++ reply_in past ∷ [] = reverse-append (reply_in past ∷ []) past in

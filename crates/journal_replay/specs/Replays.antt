@@ -11,12 +11,12 @@ use Rattle.journal_replay.specs.declared.replay_stop.ReplayStop.TheVariants.{Mem
 -- ---- the history of records
 
 -- who asked what
-abbrev pub call_of : Record → Call
-call_of r = record { caller = r.caller; act = r.act }
+abbrev pub recorded_call : Record → Call
+recorded_call r = record { caller = r.caller; act = r.act }
 
 -- the calls of the records in turn, each with its one reply
 abbrev pub history_of : List Record → List Entry
-history_of records = replay_of (map call_of records)
+history_of records = replay_of (map recorded_call records)
 
 -- each call is accepted, and was within the limits when it was asked
 pub record AreSound (records : List Record) : Type 0 where

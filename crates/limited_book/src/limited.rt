@@ -2,14 +2,13 @@
 ghost use Rattle.std.specs.Prelude.{ℕ, ◌≡◌, ◌<◌, ◌+◌, ◌≤◌, ◌++◌, ◌∷◌, [], IfOk, IfErr, OnOk, OnErr, true, false};
 ghost use Rattle.setoff_model.specs.declared.kind.Kind.{Kind};
 ghost use Rattle.setoff_model.specs.CutView.{WellFormed};
-ghost use Rattle.setoff_model.specs.Limits.{most_entries, most_journal_bytes};
+ghost use Rattle.setoff_model.specs.declared.limits.TheConstants.{MOST_BODY, MOST_ENTRIES, MOST_JOURNAL_BYTES};
 ghost use Rattle.claim_history.specs.declared.act.Act.TheVariants as acts;
 ghost use Rattle.claim_history.specs.Cut.{cut_of};
 ghost use Rattle.claim_history.specs.States.{state_of};
 ghost use Rattle.claim_history.specs.History.{answer_of, IsLegal, AreValid, MayFollow, is_opening, is_no_refusal};
 ghost use Rattle.claim_history.specs.Acts.{is_valid, is_publication};
 ghost use Rattle.claim_history.specs.Needs.{used_entries_of, used_bytes_of, endings_entries, endings_bytes, Fits, is_full, IsWithinLimits};
-ghost use Rattle.act_bodies.specs.Bodies.{most_body};
 ghost use Rattle.claim_book.specs.Book.{ledger_of, room_for, room_needed, KeepsRoom, GivesCut};
 ghost use Rattle.limited_book.specs.Limited.{IsFull, round_after, is_ending_reply};
 
@@ -75,7 +74,7 @@ impl LimitedBook {
     /// opened. It takes no memory.
     pub fn entries(&self) -> u64
         ensures used { result ≡ used_entries_of self.now.history }
-        ensures most { result ≤ most_entries }
+        ensures most { result ≤ MOST_ENTRIES }
         ensures openings { (state_of self.now.history).openings ≤ result }
     {
         self.used().entries
@@ -84,7 +83,7 @@ impl LimitedBook {
     /// The bytes that the history uses: those of a journal of its accepted acts, at most 2^30. It takes no memory.
     pub fn bytes(&self) -> u64
         ensures used { result ≡ used_bytes_of self.now.history }
-        ensures most { result ≤ most_journal_bytes }
+        ensures most { result ≤ MOST_JOURNAL_BYTES }
     {
         self.used().bytes
     }
@@ -93,8 +92,8 @@ impl LimitedBook {
     fn used(&self) -> Need
         ensures entries { result.entries ≡ used_entries_of self.now.history }
         ensures bytes { result.bytes ≡ used_bytes_of self.now.history }
-        ensures few_entries { result.entries ≤ most_entries }
-        ensures few_bytes { result.bytes ≤ most_journal_bytes }
+        ensures few_entries { result.entries ≤ MOST_ENTRIES }
+        ensures few_bytes { result.bytes ≤ MOST_JOURNAL_BYTES }
         ensures openings { (state_of self.now.history).openings ≤ result.entries }
         ensures legal { IsLegal self.now.history }
         ensures valid { AreValid self.now.history }
@@ -154,7 +153,7 @@ impl LimitedBook {
         ensures entries { result.entries ≡ endings_entries (round_after reply (state_of self.now.history).open_round) }
         ensures bytes { result.bytes ≡ endings_bytes (round_after reply (state_of self.now.history).open_round) }
         ensures two { result.entries ≤ 2 }
-        ensures few { result.bytes ≤ most_body + 15 }
+        ensures few { result.bytes ≤ MOST_BODY + 15 }
     {
         if is_ending(reply) {
             return Need {
@@ -170,7 +169,7 @@ impl LimitedBook {
         ensures entries { result.entries ≡ endings_entries (state_of self.now.history).open_round }
         ensures bytes { result.bytes ≡ endings_bytes (state_of self.now.history).open_round }
         ensures two { result.entries ≤ 2 }
-        ensures few { result.bytes ≤ most_body + 15 }
+        ensures few { result.bytes ≤ MOST_BODY + 15 }
     {
         open_cut_is_well_formed();
         let _used = self.used();

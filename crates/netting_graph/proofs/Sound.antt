@@ -4,7 +4,7 @@ use Rattle.std.specs.List.{All}
 use Rattle.std.proofs.Common.{◌≡◌, ℕ, zero, suc, ◌*◌, ◌<◌, ◌≤◌, List, length, get_or, refl, sym, ◌∙◌, ap, inl, inr, subst, arith}
 use Rattle.std.proofs.lemmas.Bool.{cases_eq}
 use Rattle.std.proofs.lemmas.List.{get_or-map}
-use Rattle.setoff_model.specs.Limits.{most_claims, most_amount, most_window}
+use Rattle.setoff_model.specs.declared.limits.TheConstants.{MOST_CLAIMS, MOST_AMOUNT, MOST_WINDOW}
 use Rattle.setoff_model.specs.declared.cut.CutClaim.{CutClaim}
 use Rattle.setoff_model.specs.declared.cut.Party.{Party}
 use Rattle.setoff_model.specs.Sums.{sum_below}
@@ -56,7 +56,7 @@ module _ (cut : CutView) (net : NetView) (formed : WellFormed cut) (is : IsNetOf
       omega (arith, all, ones n, ones m, sum_below-le n (λ _. 1) (λ a. 1 * sum_below m (hit a)) counted, arcs_long net)
 
   -- all arcs have what all claims have
-  small_total : total_of (arc_amounts net.arcs) ≤ most_claims * most_amount
+  small_total : total_of (arc_amounts net.arcs) ≤ MOST_CLAIMS * MOST_AMOUNT
   small_total =
       let same = same_total (obligations cut) (obligations_of_net net) (amounts cut.claims) (arc_amounts net.arcs)
       (net_merged cut net is) (net_merged cut net is).amount refl refl in
@@ -66,7 +66,7 @@ module _ (cut : CutView) (net : NetView) (formed : WellFormed cut) (is : IsNetOf
         same,
         all,
         formed.few_claims,
-        sum_below_limit (length cut.claims) most_amount (λ c. slice_index (amounts cut.claims) c) (λ c l. amount_small cut c formed l),
+        sum_below_limit (length cut.claims) MOST_AMOUNT (λ c. slice_index (amounts cut.claims) c) (λ c l. amount_small cut c formed l),
       )
 
   -- an arc is between the parties of its claims
@@ -113,10 +113,10 @@ module _ (cut : CutView) (net : NetView) (formed : WellFormed cut) (is : IsNetOf
             ∙ sym (get_or-map (λ (a : Arc). a.creditor) net.arcs j d 0 l);
       })
 
-  small_spends : All (λ (f : Party). f.spend ≤ most_window) cut.parties
+  small_spends : All (λ (f : Party). f.spend ≤ MOST_WINDOW) cut.parties
   small_spends k d l = omega (arith, limit_small cut.kind, (formed.windows k d l).0)
 
-  small_rooms : All (λ (f : Party). f.room ≤ most_window) cut.parties
+  small_rooms : All (λ (f : Party). f.room ≤ MOST_WINDOW) cut.parties
   small_rooms k d l = omega (arith, limit_small cut.kind, (formed.windows k d l).1)
 
   pub sound : IsNet net
@@ -126,6 +126,6 @@ module _ (cut : CutView) (net : NetView) (formed : WellFormed cut) (is : IsNetOf
     pairs = pairs_differ;
     arcs = among;
     total = small_total;
-    spends = subst (λ (ps : List Party). All (λ (f : Party). f.spend ≤ most_window) ps) (sym is.parties) small_spends;
-    rooms = subst (λ (ps : List Party). All (λ (f : Party). f.room ≤ most_window) ps) (sym is.parties) small_rooms;
+    spends = subst (λ (ps : List Party). All (λ (f : Party). f.spend ≤ MOST_WINDOW) ps) (sym is.parties) small_spends;
+    rooms = subst (λ (ps : List Party). All (λ (f : Party). f.room ≤ MOST_WINDOW) ps) (sym is.parties) small_rooms;
   }

@@ -1,6 +1,6 @@
 -- What contracts see of a net.
 use Rattle.std.specs.Prelude.{◌≡◌, ◌≢◌, ◌⊎◌, ◌<◌, ◌≤◌, ℕ, ◌+◌, ◌*◌, List, [], ◌∷◌, ◌++◌, length, map, slice_index_or, slice_set, All, AllPairs}
-use Rattle.setoff_model.specs.Limits.{most_firms, most_claims, most_amount, most_window}
+use Rattle.setoff_model.specs.declared.limits.TheConstants.{MOST_FIRMS, MOST_CLAIMS, MOST_AMOUNT, MOST_WINDOW}
 use Rattle.setoff_model.specs.declared.cut.Party.{Party}
 use Rattle.setoff_model.specs.Setoff.{Obligations, total_of}
 use Rattle.setoff_model.specs.CutView.{spends, rooms}
@@ -60,14 +60,14 @@ pub record IsArcAmong (parties : List Party) (a : Arc) : Type 0 where
   pub creditor : a.creditor < length parties
   pub apart : a.debtor ≢ a.creditor
   pub some : 1 ≤ a.amount
-  pub limit : a.amount ≤ most_claims * most_amount
+  pub limit : a.amount ≤ MOST_CLAIMS * MOST_AMOUNT
 
 -- what holds of every net
 pub record IsNet (net : NetView) : Type 0 where
-  pub few_parties : length net.parties ≤ most_firms
-  pub few_arcs : length net.arcs ≤ most_claims
+  pub few_parties : length net.parties ≤ MOST_FIRMS
+  pub few_arcs : length net.arcs ≤ MOST_CLAIMS
   pub pairs : AllPairs (λ a b. a.debtor ≡ b.debtor → a.creditor ≢ b.creditor) net.arcs
   pub arcs : All (IsArcAmong net.parties) net.arcs
-  pub total : total_of (arc_amounts net.arcs) ≤ most_claims * most_amount
-  pub spends : All (λ f. f.spend ≤ most_window) net.parties
-  pub rooms : All (λ f. f.room ≤ most_window) net.parties
+  pub total : total_of (arc_amounts net.arcs) ≤ MOST_CLAIMS * MOST_AMOUNT
+  pub spends : All (λ f. f.spend ≤ MOST_WINDOW) net.parties
+  pub rooms : All (λ f. f.room ≤ MOST_WINDOW) net.parties

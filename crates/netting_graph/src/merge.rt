@@ -1,6 +1,6 @@
 //! The arcs of claims.
 ghost use Rattle.std.specs.Prelude.{◌≡◌, ◌+◌, ◌<◌, ◌≤◌, ◌^◌, List, All, IfOk, OnOk, length};
-ghost use Rattle.setoff_model.specs.Limits.{most_amount, most_claims};
+ghost use Rattle.setoff_model.specs.declared.limits.TheConstants.{MOST_AMOUNT, MOST_CLAIMS};
 ghost use Rattle.setoff_model.specs.CutView.{obligations_of};
 ghost use Rattle.setoff_model.specs.declared.cut.Party.{Party};
 ghost use Rattle.netting_graph.specs.NetView.{obligations_of_arcs, pairs_of, IsAdded};
@@ -13,8 +13,8 @@ use std::alloc::{AllocError, Global};
 
 // One arc for each debtor and creditor of the claims, in order of their first claim.
 pub(crate) fn merge(alloc: Global, claims: &[CutClaim]) -> Result<Vec<Arc>, AllocError>
-    requires few { length claims.now ≤ most_claims }
-    requires small { All (λ c. c.amount ≤ most_amount) claims.now }
+    requires few { length claims.now ≤ MOST_CLAIMS }
+    requires small { All (λ c. c.amount ≤ MOST_AMOUNT) claims.now }
     ensures { IfOk result (λ arcs. (parties : List Party) → IsMerged (length claims.now) (obligations_of parties claims.now) (obligations_of_arcs parties arcs.items)) }
 {
     let mut index = ArcIndex::new(alloc);

@@ -9,7 +9,7 @@ use Rattle.std.proofs.lemmas.List.Concat.{flat_map-append}
 use Rattle.std.proofs.lemmas.List.Elements.{All-from_get_or, All-take, All-weaker}
 use Rattle.setoff_model.specs.declared.cut.Party.{Party}
 use Rattle.setoff_model.specs.declared.cut.CutClaim.{CutClaim}
-use Rattle.setoff_model.specs.Limits.{most_amount, most_window}
+use Rattle.setoff_model.specs.declared.limits.TheConstants.{SUM_LIMIT, MOST_AMOUNT, MOST_WINDOW}
 use Rattle.setoff_model.specs.CutView.{CutView, OutcomeView, WellFormed, obligations}
 use Rattle.setoff_model.specs.Setoff.{IsLawful}
 use Rattle.setoff_model.proofs.Columns.{claims_long, lawful_fits, limit_small, parties_long}
@@ -115,10 +115,10 @@ breaks_at_fourth v w x y z a b c d t₁ t₂ t₃ t₄ all is p₁ p₂ p₃ q =
     (part_then v w z a b t₁ (t₂ ++ (t₃ ++ t₄)) p₁ (part_then w x z b c t₂ (t₃ ++ t₄) p₂ (part_then x y z c d t₃ t₄ p₃ q)))
 
 -- what the writers ask for
-pub spends_fit : (cut : CutView) → WellFormed cut → All (λ f. f.spend ≤ most_window) cut.parties
+pub spends_fit : (cut : CutView) → WellFormed cut → All (λ f. f.spend ≤ MOST_WINDOW) cut.parties
 spends_fit cut formed = λ k none within. omega (arith, limit_small cut.kind, (formed.windows k none within).0)
 
-pub rooms_fit : (cut : CutView) → WellFormed cut → All (λ f. f.room ≤ most_window) cut.parties
+pub rooms_fit : (cut : CutView) → WellFormed cut → All (λ f. f.room ≤ MOST_WINDOW) cut.parties
 rooms_fit cut formed = λ k none within. omega (arith, limit_small cut.kind, (formed.windows k none within).1)
 
 pub prices_fit : (cut : CutView) (outcome : OutcomeView) → IsPrintable cut outcome → All (λ p. unsigned_abs p < 10 ^ 9) outcome.prices
@@ -130,9 +130,9 @@ prices_fit cut outcome is =
 pub price_each : (cut : CutView) (outcome : OutcomeView) → IsPrintable cut outcome → length outcome.prices ≡ length cut.parties
 price_each cut outcome is = is.proved.price_each ∙ parties_long cut
 
-pub discharges_fit : (cut : CutView) (d : List ℕ) → WellFormed cut → IsLawful (obligations cut) d → All (λ d. d < 10 ^ 18) d
+pub discharges_fit : (cut : CutView) (d : List ℕ) → WellFormed cut → IsLawful (obligations cut) d → All (λ d. d < SUM_LIMIT) d
 discharges_fit cut d formed lawful =
-    All-weaker (λ d. d ≤ most_amount) (λ d. d < 10 ^ 18) (λ d le. omega arith) d (lawful_fits.small cut d formed lawful)
+    All-weaker (λ d. d ≤ MOST_AMOUNT) (λ d. d < SUM_LIMIT) (λ d le. omega arith) d (lawful_fits.small cut d formed lawful)
 
 pub discharge_each : (cut : CutView) (d : List ℕ) → IsLawful (obligations cut) d → length d ≡ length cut.claims
 discharge_each cut d lawful = lawful.one_each ∙ claims_long cut

@@ -3,9 +3,6 @@ use Rattle.std.specs.Prelude.{◌≡◌, ℕ, List, ◌++◌, Option}
 use Rattle.std.specs.Io.KnownBytes.{Appends}
 use Rattle.bureau_edge.specs.Streams.{AppendsPart}
 
--- the bytes of the buffer: 2^16
-abbrev pub output_bytes : ℕ
-output_bytes = 65536
 
 -- a text went through the buffer: what was in it and the text are what the sink took and what is in it now
 pub record GoesThrough (held_old held_new : Option (List ℕ)) (old new text : List ℕ) : Type 0 where

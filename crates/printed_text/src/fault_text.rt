@@ -1,6 +1,6 @@
 //! The lines that tell of faults.
 ghost use Rattle.std.specs.Prelude.{◌≡◌, ◌+◌, ◌≤◌, ◌++◌, codes, decimal, length, vec_len, vec_capacity};
-ghost use Rattle.setoff_model.specs.Limits.{line_bytes};
+ghost use Rattle.setoff_model.specs.declared.limits.TheConstants.{LINE_BYTES};
 ghost use Rattle.printed_text.specs.Texts.{memory_line, full_line, room_text, cause_text, bad_line_text, row_cause_text, bad_row_text, statement_cause_text, bad_statement_text};
 
 use firm_notices::RowCause;
@@ -11,9 +11,9 @@ use statement_text::StatementCause;
 
 /// Writes the line `! line N memory` of a line for which there was no memory.
 pub fn write_memory_line(buffer: &mut Vec<u8>, line: u64)
-    requires { vec_len buffer.old + line_bytes ≤ vec_capacity buffer.old }
+    requires { vec_len buffer.old + LINE_BYTES ≤ vec_capacity buffer.old }
     ensures text { buffer.new.items ≡ buffer.old.items ++ memory_line line }
-    ensures len { vec_len buffer.new ≤ vec_len buffer.old + line_bytes }
+    ensures len { vec_len buffer.new ≤ vec_len buffer.old + LINE_BYTES }
     ensures room { vec_capacity buffer.old ≤ vec_capacity buffer.new }
 {
     put(buffer, b"! line ");
@@ -34,9 +34,9 @@ fn full_words(what: Room) -> &'static [u8]
 
 /// Writes the line `! line N full WHAT NEEDED LIMIT` of a line whose act was full.
 pub fn write_full_line(buffer: &mut Vec<u8>, line: u64, what: Room, needed: u64, limit: u64)
-    requires { vec_len buffer.old + line_bytes ≤ vec_capacity buffer.old }
+    requires { vec_len buffer.old + LINE_BYTES ≤ vec_capacity buffer.old }
     ensures text { buffer.new.items ≡ buffer.old.items ++ full_line line what needed limit }
-    ensures len { vec_len buffer.new ≤ vec_len buffer.old + line_bytes }
+    ensures len { vec_len buffer.new ≤ vec_len buffer.old + LINE_BYTES }
     ensures room { vec_capacity buffer.old ≤ vec_capacity buffer.new }
 {
     put(buffer, b"! line ");
@@ -87,9 +87,9 @@ fn write_cause(buffer: &mut Vec<u8>, cause: LineCause)
 /// Writes the line `fault line N CAUSE` of an input of requests that is not in the grammar, whose lines are counted from 1. The caller
 /// gives room for `LINE_BYTES` behind what the buffer has, and so there is no error.
 pub fn write_bad_line(buffer: &mut Vec<u8>, line: u64, cause: LineCause)
-    requires { vec_len buffer.old + line_bytes ≤ vec_capacity buffer.old }
+    requires { vec_len buffer.old + LINE_BYTES ≤ vec_capacity buffer.old }
     ensures text { buffer.new.items ≡ buffer.old.items ++ bad_line_text line cause }
-    ensures len { vec_len buffer.new ≤ vec_len buffer.old + line_bytes }
+    ensures len { vec_len buffer.new ≤ vec_len buffer.old + LINE_BYTES }
     ensures room { vec_capacity buffer.old ≤ vec_capacity buffer.new }
 {
     write_place(buffer, b"fault line ", line);
@@ -113,9 +113,9 @@ fn write_row_cause(buffer: &mut Vec<u8>, cause: RowCause)
 /// Writes the line `fault row N CAUSE` of an input of invoices that is not in the grammar, whose rows are counted from 1, the header
 /// first. The room is as for `write_bad_line`.
 pub fn write_bad_row(buffer: &mut Vec<u8>, row: u64, cause: RowCause)
-    requires { vec_len buffer.old + line_bytes ≤ vec_capacity buffer.old }
+    requires { vec_len buffer.old + LINE_BYTES ≤ vec_capacity buffer.old }
     ensures text { buffer.new.items ≡ buffer.old.items ++ bad_row_text row cause }
-    ensures len { vec_len buffer.new ≤ vec_len buffer.old + line_bytes }
+    ensures len { vec_len buffer.new ≤ vec_len buffer.old + LINE_BYTES }
     ensures room { vec_capacity buffer.old ≤ vec_capacity buffer.new }
 {
     write_place(buffer, b"fault row ", row);
@@ -143,9 +143,9 @@ fn statement_cause(cause: StatementCause) -> &'static [u8]
 /// Writes the line `fault line N CAUSE` of an input that is no statement, whose lines are counted from 1. The room is as for
 /// `write_bad_line`.
 pub fn write_bad_statement(buffer: &mut Vec<u8>, line: u64, cause: StatementCause)
-    requires { vec_len buffer.old + line_bytes ≤ vec_capacity buffer.old }
+    requires { vec_len buffer.old + LINE_BYTES ≤ vec_capacity buffer.old }
     ensures text { buffer.new.items ≡ buffer.old.items ++ bad_statement_text line cause }
-    ensures len { vec_len buffer.new ≤ vec_len buffer.old + line_bytes }
+    ensures len { vec_len buffer.new ≤ vec_len buffer.old + LINE_BYTES }
     ensures room { vec_capacity buffer.old ≤ vec_capacity buffer.new }
 {
     write_place(buffer, b"fault line ", line);

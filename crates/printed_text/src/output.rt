@@ -1,7 +1,7 @@
 //! Output in pieces: text goes through a buffer of `OUTPUT_BYTES` to the sink.
 ghost use Rattle.std.specs.Prelude.{◌≡◌, ℕ, ◌+◌, ◌≤◌, [], ◌++◌, true, All, IfOk, OnOk, OnErr, vec_len, vec_capacity, length, slice_get, take, drop};
-ghost use Rattle.setoff_model.specs.Limits.{line_bytes};
 ghost use Rattle.std.specs.Io.KnownBytes.{Appends};
+ghost use Rattle.setoff_model.specs.declared.limits.TheConstants.{OUTPUT_BYTES};
 ghost use Rattle.fault_count.specs.Counts.{IsCounted};
 ghost use Rattle.bureau_edge.specs.Streams.{AppendsPart};
 ghost use Rattle.claim_history.specs.declared.entry.Reply.TheVariants as reply;
@@ -11,7 +11,7 @@ ghost use Rattle.claim_history.specs.Laws.{IsReplyInRange};
 ghost use Rattle.claim_history.specs.Rounds.{cuts_after};
 ghost use Rattle.entry_text.specs.Entries.{entry_line};
 ghost use Rattle.printed_text.specs.Printing.{added_text, end_text, ends_text, statement_of, IsPrintableAt, rounds_in, printed_of, unanswered};
-ghost use Rattle.printed_text.specs.Writing.{GoesThrough, output_bytes};
+ghost use Rattle.printed_text.specs.Writing.{GoesThrough};
 
 use crate::fault_text::{write_full_line, write_memory_line};
 use crate::statement::print_statement;
@@ -24,14 +24,14 @@ use setoff_model::Cut;
 use setoff_model::limits::LINE_BYTES;
 use std::alloc::{AllocError, Global};
 
-/// The bytes of the buffer, which are `output_bytes` in clauses: 2^16.
+/// The bytes of the buffer, which are `OUTPUT_BYTES` in clauses: 2^16.
 pub const OUTPUT_BYTES: usize = 65_536;
 
 /// An empty buffer with room for `OUTPUT_BYTES`, as each call that prints asks for. The one error is want of memory.
 pub fn output_buffer(alloc: Global) -> Result<Vec<u8>, AllocError>
     ensures empty { IfOk result (λ buffer. buffer.items ≡ []) }
     ensures len { IfOk result (λ buffer. vec_len buffer ≡ 0) }
-    ensures room { IfOk result (λ buffer. output_bytes ≤ vec_capacity buffer) }
+    ensures room { IfOk result (λ buffer. OUTPUT_BYTES ≤ vec_capacity buffer) }
 {
     Vec::with_capacity(alloc, OUTPUT_BYTES)
 }
@@ -52,12 +52,12 @@ pub fn flush<K: Sink>(sink: &mut K, buffer: &mut Vec<u8>) -> Result<(), Failed>
 
 /// Makes room for a line, of `LINE_BYTES`.
 pub fn make_room<K: Sink>(sink: &mut K, buffer: &mut Vec<u8>) -> Result<(), Failed>
-    requires { output_bytes ≤ vec_capacity buffer.old }
+    requires { OUTPUT_BYTES ≤ vec_capacity buffer.old }
     ensures ok { OnOk result (GoesThrough (K.held sink.old) (K.held sink.new) buffer.old.items buffer.new.items []) }
-    ensures spare { OnOk result (vec_len buffer.new + line_bytes ≤ vec_capacity buffer.new) }
+    ensures spare { OnOk result (vec_len buffer.new + LINE_BYTES ≤ vec_capacity buffer.new) }
     ensures part { OnErr result (AppendsPart (K.held sink.old) (K.held sink.new) buffer.old.items) }
     ensures cause { IsCounted (K.faults sink.old) (K.faults sink.new) result }
-    ensures room { output_bytes ≤ vec_capacity buffer.new }
+    ensures room { OUTPUT_BYTES ≤ vec_capacity buffer.new }
 {
     if buffer.len() <= OUTPUT_BYTES - LINE_BYTES {
         return Ok(());
@@ -69,11 +69,11 @@ pub fn make_room<K: Sink>(sink: &mut K, buffer: &mut Vec<u8>) -> Result<(), Fail
 fn print_entry<K: Sink>(sink: &mut K, buffer: &mut Vec<u8>, entry: &Entry) -> Result<(), Failed>
     requires valid { is_valid entry.now.act ≡ true }
     requires range { IsReplyInRange entry.now.reply }
-    requires spare { output_bytes ≤ vec_capacity buffer.old }
+    requires spare { OUTPUT_BYTES ≤ vec_capacity buffer.old }
     ensures ok { OnOk result (GoesThrough (K.held sink.old) (K.held sink.new) buffer.old.items buffer.new.items (entry_line entry.now)) }
     ensures part { OnErr result (AppendsPart (K.held sink.old) (K.held sink.new) (buffer.old.items ++ entry_line entry.now)) }
     ensures cause { IsCounted (K.faults sink.old) (K.faults sink.new) result }
-    ensures room { output_bytes ≤ vec_capacity buffer.new }
+    ensures room { OUTPUT_BYTES ≤ vec_capacity buffer.new }
 {
     make_room(sink, buffer)?;
     write_entry(buffer, entry);
@@ -90,12 +90,12 @@ fn print_publication<K: Sink>(
     next: usize,
 ) -> Result<usize, Failed>
     requires publication { (total : ℕ) → entry.now.reply ≡ reply.Published total → IsPrintableAt rounds.now next entry.now.act }
-    requires spare { output_bytes ≤ vec_capacity buffer.old }
+    requires spare { OUTPUT_BYTES ≤ vec_capacity buffer.old }
     ensures ok { OnOk result (GoesThrough (K.held sink.old) (K.held sink.new) buffer.old.items buffer.new.items (statement_of (slice_get rounds.now next) entry.now.act entry.now.reply)) }
     ensures next { IfOk result (λ place. place ≡ next + rounds_in entry.now.reply) }
     ensures part { OnErr result (AppendsPart (K.held sink.old) (K.held sink.new) (buffer.old.items ++ statement_of (slice_get rounds.now next) entry.now.act entry.now.reply)) }
     ensures cause { IsCounted (K.faults sink.old) (K.faults sink.new) result }
-    ensures room { output_bytes ≤ vec_capacity buffer.new }
+    ensures room { OUTPUT_BYTES ≤ vec_capacity buffer.new }
 {
     let Reply::Published { .. } = entry.reply else {
         return Ok(next);
@@ -118,12 +118,12 @@ fn print_answer<K: Sink>(
     requires valid { is_valid entry.now.act ≡ true }
     requires range { IsReplyInRange entry.now.reply }
     requires publication { (total : ℕ) → entry.now.reply ≡ reply.Published total → IsPrintableAt rounds.now next entry.now.act }
-    requires spare { output_bytes ≤ vec_capacity buffer.old }
+    requires spare { OUTPUT_BYTES ≤ vec_capacity buffer.old }
     ensures ok { OnOk result (GoesThrough (K.held sink.old) (K.held sink.new) buffer.old.items buffer.new.items (entry_line entry.now ++ statement_of (slice_get rounds.now next) entry.now.act entry.now.reply)) }
     ensures next { IfOk result (λ place. place ≡ next + rounds_in entry.now.reply) }
     ensures part { OnErr result (AppendsPart (K.held sink.old) (K.held sink.new) (buffer.old.items ++ (entry_line entry.now ++ statement_of (slice_get rounds.now next) entry.now.act entry.now.reply))) }
     ensures cause { IsCounted (K.faults sink.old) (K.faults sink.new) result }
-    ensures room { output_bytes ≤ vec_capacity buffer.new }
+    ensures room { OUTPUT_BYTES ≤ vec_capacity buffer.new }
 {
     print_entry(sink, buffer, entry)?;
     print_publication(sink, buffer, entry, rounds, next)
@@ -142,11 +142,11 @@ fn print_entries<K: Sink>(
     requires range { All (λ e. IsReplyInRange e.reply) history.now }
     requires from { from ≤ length history.now }
     requires rounds { rounds.now ≡ cuts_after from history.now }
-    requires spare { output_bytes ≤ vec_capacity buffer.old }
+    requires spare { OUTPUT_BYTES ≤ vec_capacity buffer.old }
     ensures ok { OnOk result (GoesThrough (K.held sink.old) (K.held sink.new) buffer.old.items buffer.new.items (added_text (take from history.now) (drop from history.now))) }
     ensures part { OnErr result (AppendsPart (K.held sink.old) (K.held sink.new) (buffer.old.items ++ added_text (take from history.now) (drop from history.now))) }
     ensures cause { IsCounted (K.faults sink.old) (K.faults sink.new) result }
-    ensures room { output_bytes ≤ vec_capacity buffer.new }
+    ensures room { OUTPUT_BYTES ≤ vec_capacity buffer.new }
 {
     let mut next = 0;
     for i in from..history.len() {
@@ -157,11 +157,11 @@ fn print_entries<K: Sink>(
 
 // Prints what is told of a line after its batch.
 fn print_end<K: Sink>(sink: &mut K, buffer: &mut Vec<u8>, answer: &Answer) -> Result<(), Failed>
-    requires { output_bytes ≤ vec_capacity buffer.old }
+    requires { OUTPUT_BYTES ≤ vec_capacity buffer.old }
     ensures ok { OnOk result (GoesThrough (K.held sink.old) (K.held sink.new) buffer.old.items buffer.new.items (end_text answer.now.line answer.now.end)) }
     ensures part { OnErr result (AppendsPart (K.held sink.old) (K.held sink.new) (buffer.old.items ++ end_text answer.now.line answer.now.end)) }
     ensures cause { IsCounted (K.faults sink.old) (K.faults sink.new) result }
-    ensures room { output_bytes ≤ vec_capacity buffer.new }
+    ensures room { OUTPUT_BYTES ≤ vec_capacity buffer.new }
 {
     if let LineEnd::Replied = answer.end {
         return Ok(());
@@ -172,7 +172,7 @@ fn print_end<K: Sink>(sink: &mut K, buffer: &mut Vec<u8>, answer: &Answer) -> Re
 }
 
 fn write_end(buffer: &mut Vec<u8>, line: u64, end: LineEnd)
-    requires { vec_len buffer.old + line_bytes ≤ vec_capacity buffer.old }
+    requires { vec_len buffer.old + LINE_BYTES ≤ vec_capacity buffer.old }
     ensures text { buffer.new.items ≡ buffer.old.items ++ end_text line end }
     ensures room { vec_capacity buffer.old ≤ vec_capacity buffer.new }
 {
@@ -189,11 +189,11 @@ fn write_end(buffer: &mut Vec<u8>, line: u64, end: LineEnd)
 
 // Prints what is told of the lines of a batch.
 fn print_ends<K: Sink>(sink: &mut K, buffer: &mut Vec<u8>, answers: &[Answer]) -> Result<(), Failed>
-    requires spare { output_bytes ≤ vec_capacity buffer.old }
+    requires spare { OUTPUT_BYTES ≤ vec_capacity buffer.old }
     ensures ok { OnOk result (GoesThrough (K.held sink.old) (K.held sink.new) buffer.old.items buffer.new.items (ends_text answers.now)) }
     ensures part { OnErr result (AppendsPart (K.held sink.old) (K.held sink.new) (buffer.old.items ++ ends_text answers.now)) }
     ensures cause { IsCounted (K.faults sink.old) (K.faults sink.new) result }
-    ensures room { output_bytes ≤ vec_capacity buffer.new }
+    ensures room { OUTPUT_BYTES ≤ vec_capacity buffer.new }
 {
     for answer in answers {
         print_end(sink, buffer, answer)?;
@@ -221,12 +221,12 @@ pub fn print_batch<K: Sink>(
     requires from { from ≤ length history.now }
     requires rounds { rounds.now ≡ cuts_after from history.now }
     requires empty { buffer.old.items ≡ [] }
-    requires spare { output_bytes ≤ vec_capacity buffer.old }
+    requires spare { OUTPUT_BYTES ≤ vec_capacity buffer.old }
     ensures ok { OnOk result (Appends (K.held sink.old) (K.held sink.new) (printed_of (take from history.now) (drop from history.now) answers.now)) }
     ensures emptied { OnOk result (buffer.new.items ≡ []) }
     ensures part { OnErr result (AppendsPart (K.held sink.old) (K.held sink.new) (printed_of (take from history.now) (drop from history.now) answers.now)) }
     ensures cause { IsCounted (K.faults sink.old) (K.faults sink.new) result }
-    ensures room { output_bytes ≤ vec_capacity buffer.new }
+    ensures room { OUTPUT_BYTES ≤ vec_capacity buffer.new }
 {
     print_entries(sink, buffer, history, from, rounds)?;
     print_ends(sink, buffer, answers)?;
@@ -239,11 +239,11 @@ fn print_memory_lines<K: Sink>(
     buffer: &mut Vec<u8>,
     requests: &[Request],
 ) -> Result<(), Failed>
-    requires spare { output_bytes ≤ vec_capacity buffer.old }
+    requires spare { OUTPUT_BYTES ≤ vec_capacity buffer.old }
     ensures ok { OnOk result (GoesThrough (K.held sink.old) (K.held sink.new) buffer.old.items buffer.new.items (ends_text (unanswered requests.now))) }
     ensures part { OnErr result (AppendsPart (K.held sink.old) (K.held sink.new) (buffer.old.items ++ ends_text (unanswered requests.now))) }
     ensures cause { IsCounted (K.faults sink.old) (K.faults sink.new) result }
-    ensures room { output_bytes ≤ vec_capacity buffer.new }
+    ensures room { OUTPUT_BYTES ≤ vec_capacity buffer.new }
 {
     for request in requests {
         let answer = Answer {
@@ -263,12 +263,12 @@ pub fn print_unanswered<K: Sink>(
     requests: &[Request],
 ) -> Result<(), Failed>
     requires empty { buffer.old.items ≡ [] }
-    requires spare { output_bytes ≤ vec_capacity buffer.old }
+    requires spare { OUTPUT_BYTES ≤ vec_capacity buffer.old }
     ensures ok { OnOk result (Appends (K.held sink.old) (K.held sink.new) (ends_text (unanswered requests.now))) }
     ensures emptied { OnOk result (buffer.new.items ≡ []) }
     ensures part { OnErr result (AppendsPart (K.held sink.old) (K.held sink.new) (ends_text (unanswered requests.now))) }
     ensures cause { IsCounted (K.faults sink.old) (K.faults sink.new) result }
-    ensures room { output_bytes ≤ vec_capacity buffer.new }
+    ensures room { OUTPUT_BYTES ≤ vec_capacity buffer.new }
 {
     print_memory_lines(sink, buffer, requests)?;
     flush(sink, buffer)

@@ -3,13 +3,13 @@
 ghost use Rattle.std.specs.Prelude.{◌≡◌, ◌<◌, ◌≤◌, ◌^◌, ◌++◌, All, OnOk, OnErr, vec_capacity, length, slice_index_or, unsigned_abs};
 ghost use Rattle.fault_count.specs.Counts.{IsCounted};
 ghost use Rattle.bureau_edge.specs.Streams.{AppendsPart};
-ghost use Rattle.setoff_model.specs.Limits.{most_window};
+ghost use Rattle.setoff_model.specs.declared.limits.TheConstants.{OUTPUT_BYTES, SUM_LIMIT, MOST_WINDOW};
 ghost use Rattle.setoff_model.specs.declared.cut.CutClaim.{CutClaim};
 ghost use Rattle.setoff_model.specs.CutView.{WellFormed};
 ghost use Rattle.statement_text.specs.declared.line.Line.TheVariants as line;
 ghost use Rattle.statement_text.specs.Statements.{party_lines, claim_line, claim_lines, statement_bytes};
 ghost use Rattle.printed_text.specs.Printing.{IsPrintable, line_bytes, lines_bytes};
-ghost use Rattle.printed_text.specs.Writing.{GoesThrough, output_bytes};
+ghost use Rattle.printed_text.specs.Writing.{GoesThrough};
 
 use crate::output::make_room;
 use bureau_edge::{Failed, Sink};
@@ -19,11 +19,11 @@ use statement_text::{write_claim, write_end, write_head, write_party};
 // Prints the line of the round.
 fn print_head<K: Sink>(sink: &mut K, buffer: &mut Vec<u8>, cut: &Cut) -> Result<(), Failed>
     requires round { 1 ≤ cut.now.round }
-    requires spare { output_bytes ≤ vec_capacity buffer.old }
+    requires spare { OUTPUT_BYTES ≤ vec_capacity buffer.old }
     ensures ok { OnOk result (GoesThrough (K.held sink.old) (K.held sink.new) buffer.old.items buffer.new.items (line_bytes (line.Head cut.now.round cut.now.kind))) }
     ensures part { OnErr result (AppendsPart (K.held sink.old) (K.held sink.new) (buffer.old.items ++ line_bytes (line.Head cut.now.round cut.now.kind))) }
     ensures cause { IsCounted (K.faults sink.old) (K.faults sink.new) result }
-    ensures room { output_bytes ≤ vec_capacity buffer.new }
+    ensures room { OUTPUT_BYTES ≤ vec_capacity buffer.new }
 {
     make_room(sink, buffer)?;
     write_head(buffer, cut.round(), cut.kind());
@@ -37,14 +37,14 @@ fn print_party<K: Sink>(
     party: &Party,
     price: i64,
 ) -> Result<(), Failed>
-    requires spend { party.now.spend ≤ most_window }
-    requires room { party.now.room ≤ most_window }
+    requires spend { party.now.spend ≤ MOST_WINDOW }
+    requires room { party.now.room ≤ MOST_WINDOW }
     requires price { unsigned_abs price < 10 ^ 9 }
-    requires spare { output_bytes ≤ vec_capacity buffer.old }
+    requires spare { OUTPUT_BYTES ≤ vec_capacity buffer.old }
     ensures ok { OnOk result (GoesThrough (K.held sink.old) (K.held sink.new) buffer.old.items buffer.new.items (line_bytes (line.Party party.now price))) }
     ensures part { OnErr result (AppendsPart (K.held sink.old) (K.held sink.new) (buffer.old.items ++ line_bytes (line.Party party.now price))) }
     ensures cause { IsCounted (K.faults sink.old) (K.faults sink.new) result }
-    ensures room { output_bytes ≤ vec_capacity buffer.new }
+    ensures room { OUTPUT_BYTES ≤ vec_capacity buffer.new }
 {
     make_room(sink, buffer)?;
     write_party(buffer, party, price);
@@ -58,15 +58,15 @@ fn print_parties<K: Sink>(
     parties: &[Party],
     prices: &[i64],
 ) -> Result<(), Failed>
-    requires spends { All (λ f. f.spend ≤ most_window) parties.now }
-    requires rooms { All (λ f. f.room ≤ most_window) parties.now }
+    requires spends { All (λ f. f.spend ≤ MOST_WINDOW) parties.now }
+    requires rooms { All (λ f. f.room ≤ MOST_WINDOW) parties.now }
     requires prices { All (λ p. unsigned_abs p < 10 ^ 9) prices.now }
     requires price_each { length prices.now ≡ length parties.now }
-    requires spare { output_bytes ≤ vec_capacity buffer.old }
+    requires spare { OUTPUT_BYTES ≤ vec_capacity buffer.old }
     ensures ok { OnOk result (GoesThrough (K.held sink.old) (K.held sink.new) buffer.old.items buffer.new.items (lines_bytes (party_lines parties.now prices.now))) }
     ensures part { OnErr result (AppendsPart (K.held sink.old) (K.held sink.new) (buffer.old.items ++ lines_bytes (party_lines parties.now prices.now))) }
     ensures cause { IsCounted (K.faults sink.old) (K.faults sink.new) result }
-    ensures room { output_bytes ≤ vec_capacity buffer.new }
+    ensures room { OUTPUT_BYTES ≤ vec_capacity buffer.new }
 {
     for i in 0..parties.len() {
         print_party(sink, buffer, &parties[i], prices[i])?;
@@ -84,12 +84,12 @@ fn print_claim<K: Sink>(
 ) -> Result<(), Failed>
     requires cut { WellFormed cut.now }
     requires place { place < length cut.now.claims }
-    requires discharge { discharge < 10 ^ 18 }
-    requires spare { output_bytes ≤ vec_capacity buffer.old }
+    requires discharge { discharge < SUM_LIMIT }
+    requires spare { OUTPUT_BYTES ≤ vec_capacity buffer.old }
     ensures ok { (none : CutClaim) → OnOk result (GoesThrough (K.held sink.old) (K.held sink.new) buffer.old.items buffer.new.items (line_bytes (claim_line cut.now.parties (slice_index_or cut.now.claims place none) discharge))) }
     ensures part { (none : CutClaim) → OnErr result (AppendsPart (K.held sink.old) (K.held sink.new) (buffer.old.items ++ line_bytes (claim_line cut.now.parties (slice_index_or cut.now.claims place none) discharge))) }
     ensures cause { IsCounted (K.faults sink.old) (K.faults sink.new) result }
-    ensures room { output_bytes ≤ vec_capacity buffer.new }
+    ensures room { OUTPUT_BYTES ≤ vec_capacity buffer.new }
 {
     make_room(sink, buffer)?;
     write_claim(buffer, cut, place, discharge);
@@ -104,13 +104,13 @@ fn print_claims<K: Sink>(
     discharges: &[u64],
 ) -> Result<(), Failed>
     requires cut { WellFormed cut.now }
-    requires discharges { All (λ d. d < 10 ^ 18) discharges.now }
+    requires discharges { All (λ d. d < SUM_LIMIT) discharges.now }
     requires discharge_each { length discharges.now ≡ length cut.now.claims }
-    requires spare { output_bytes ≤ vec_capacity buffer.old }
+    requires spare { OUTPUT_BYTES ≤ vec_capacity buffer.old }
     ensures ok { OnOk result (GoesThrough (K.held sink.old) (K.held sink.new) buffer.old.items buffer.new.items (lines_bytes (claim_lines cut.now.parties cut.now.claims discharges.now))) }
     ensures part { OnErr result (AppendsPart (K.held sink.old) (K.held sink.new) (buffer.old.items ++ lines_bytes (claim_lines cut.now.parties cut.now.claims discharges.now))) }
     ensures cause { IsCounted (K.faults sink.old) (K.faults sink.new) result }
-    ensures room { output_bytes ≤ vec_capacity buffer.new }
+    ensures room { OUTPUT_BYTES ≤ vec_capacity buffer.new }
 {
     for i in 0..discharges.len() {
         print_claim(sink, buffer, cut, i as u32, discharges[i])?;
@@ -120,11 +120,11 @@ fn print_claims<K: Sink>(
 
 // Prints the last line.
 fn print_end<K: Sink>(sink: &mut K, buffer: &mut Vec<u8>) -> Result<(), Failed>
-    requires spare { output_bytes ≤ vec_capacity buffer.old }
+    requires spare { OUTPUT_BYTES ≤ vec_capacity buffer.old }
     ensures ok { OnOk result (GoesThrough (K.held sink.old) (K.held sink.new) buffer.old.items buffer.new.items (line_bytes line.End)) }
     ensures part { OnErr result (AppendsPart (K.held sink.old) (K.held sink.new) (buffer.old.items ++ line_bytes line.End)) }
     ensures cause { IsCounted (K.faults sink.old) (K.faults sink.new) result }
-    ensures room { output_bytes ≤ vec_capacity buffer.new }
+    ensures room { OUTPUT_BYTES ≤ vec_capacity buffer.new }
 {
     make_room(sink, buffer)?;
     write_end(buffer);
@@ -143,11 +143,11 @@ pub fn print_statement<K: Sink>(
     outcome: &Outcome,
 ) -> Result<(), Failed>
     requires printable { IsPrintable cut.now outcome.now }
-    requires spare { output_bytes ≤ vec_capacity buffer.old }
+    requires spare { OUTPUT_BYTES ≤ vec_capacity buffer.old }
     ensures ok { OnOk result (GoesThrough (K.held sink.old) (K.held sink.new) buffer.old.items buffer.new.items (statement_bytes cut.now outcome.now)) }
     ensures part { OnErr result (AppendsPart (K.held sink.old) (K.held sink.new) (buffer.old.items ++ statement_bytes cut.now outcome.now)) }
     ensures cause { IsCounted (K.faults sink.old) (K.faults sink.new) result }
-    ensures room { output_bytes ≤ vec_capacity buffer.new }
+    ensures room { OUTPUT_BYTES ≤ vec_capacity buffer.new }
 {
     print_head(sink, buffer, cut)?;
     print_parties(sink, buffer, cut.parties(), outcome.prices())?;

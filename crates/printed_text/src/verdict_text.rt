@@ -1,7 +1,7 @@
 //! The line of a verdict.
 ghost use Rattle.std.specs.Prelude.{◌≡◌, ◌+◌, ◌≤◌, ◌<◌, ◌++◌, length, codes, unsigned_abs, vec_len, vec_capacity};
 ghost use Rattle.printed_text.specs.Texts.{verdict_text, verdict_words, verdict_status, IsPlaced, creditor_at, invoice_at, firm_at};
-ghost use Rattle.setoff_model.specs.Limits.{line_bytes};
+ghost use Rattle.setoff_model.specs.declared.limits.TheConstants.{LINE_BYTES};
 ghost use Rattle.setoff_model.specs.Texts.{cents_text};
 
 use setoff_checker::Verdict;
@@ -102,9 +102,9 @@ fn write_words(buffer: &mut Vec<u8>, cut: &Cut, verdict: Verdict)
 /// caller gives room for `LINE_BYTES` behind what the buffer has, and so there is no error.
 pub fn write_verdict(buffer: &mut Vec<u8>, cut: &Cut, verdict: Verdict)
     requires placed { IsPlaced cut.now verdict }
-    requires spare { vec_len buffer.old + line_bytes ≤ vec_capacity buffer.old }
+    requires spare { vec_len buffer.old + LINE_BYTES ≤ vec_capacity buffer.old }
     ensures text { buffer.new.items ≡ buffer.old.items ++ verdict_text cut.now verdict }
-    ensures len { vec_len buffer.new ≤ vec_len buffer.old + line_bytes }
+    ensures len { vec_len buffer.new ≤ vec_len buffer.old + LINE_BYTES }
     ensures room { vec_capacity buffer.old ≤ vec_capacity buffer.new }
 {
     write_words(buffer, cut, verdict);

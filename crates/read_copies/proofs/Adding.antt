@@ -6,7 +6,7 @@ use mathlib.Core.List.{IsPrefix}
 use prog.Atomic.{either}
 use Rattle.logbook.specs.Pages.{Cell, cell, keeps, no_nib, step, Moves, Goes}
 use Rattle.claim_history.specs.declared.entry.Entry.{Entry}
-use Rattle.read_copies.specs.Shown.{history_of, IsKept, HasAdded}
+use Rattle.read_copies.specs.Shown.{shown_history, IsKept, HasAdded}
 use Rattle.read_copies.proofs.Beginnings.{prefix_whole, prefix_rest, history-append, history_begins}
 
 abbrev pub none_shown : List (List Entry) → List (List Entry)
@@ -18,16 +18,16 @@ none_moved xs ys n = Unit {0}
 abbrev words : ℕ → List Cell
 words n = (n, true) ∷ (0, true) ∷ []
 
-adds_goes : (log v : List (List Entry)) (ask : List Entry) (old new : ℕ) → length (history_of v) ≡ old → old + length ask ≡ new → IsPrefix v log
-    → (b : Bool) → (length (history_of log) == old) ≡ b
-    → Goes IsKept none_shown none_moved 0 (v, (no_nib, None)) (λ n. either (n == old) new n) (HasAdded (step 0 old new ask) (v, (no_nib, None))) (words (length (history_of log))) log
+adds_goes : (log v : List (List Entry)) (ask : List Entry) (old new : ℕ) → length (shown_history v) ≡ old → old + length ask ≡ new → IsPrefix v log
+    → (b : Bool) → (length (shown_history log) == old) ≡ b
+    → Goes IsKept none_shown none_moved 0 (v, (no_nib, None)) (λ n. either (n == old) new n) (HasAdded (step 0 old new ask) (v, (no_nib, None))) (words (length (shown_history log))) log
 adds_goes log v ask old new len sum pre true is =
-    let here : length (history_of log) ≡ old = grind (arith, nat_tests) in
-    let same : history_of v ≡ history_of log = prefix_whole (history_of v) (history_of log) (history_begins v log pre) (omega arith) in
-    let one : history_of (ask ∷ []) ≡ ask = append-nil ask in
-    let all : history_of (log ++ ask ∷ []) ≡ history_of log ++ ask = history-append log (ask ∷ []) ∙ ap (λ es. history_of log ++ es) one in
-    let n : either (length (history_of log) == old) new (length (history_of log)) ≡ length (history_of (log ++ ask ∷ [])) =
-    rw is (omega (arith, ap length all, length-append (history_of log) ask)) in (
+    let here : length (shown_history log) ≡ old = grind (arith, nat_tests) in
+    let same : shown_history v ≡ shown_history log = prefix_whole (shown_history v) (shown_history log) (history_begins v log pre) (omega arith) in
+    let one : shown_history (ask ∷ []) ≡ ask = append-nil ask in
+    let all : shown_history (log ++ ask ∷ []) ≡ shown_history log ++ ask = history-append log (ask ∷ []) ∙ ap (λ es. shown_history log ++ es) one in
+    let n : either (length (shown_history log) == old) new (length (shown_history log)) ≡ length (shown_history (log ++ ask ∷ [])) =
+    rw is (omega (arith, ap length all, length-append (shown_history log) ask)) in (
       keeps,
       ask ∷ [],
       None,
@@ -37,8 +37,8 @@ adds_goes log v ask old new len sum pre true is =
       rw is (all ∙ ap (λ es. es ++ ask) (sym same)),
     )
 adds_goes log v ask old new len sum pre false is =
-    let n : either (length (history_of log) == old) new (length (history_of log)) ≡ length (history_of (log ++ [])) =
-    rw is (ap (λ l. length (history_of l)) (sym (append-nil log))) in (
+    let n : either (length (shown_history log) == old) new (length (shown_history log)) ≡ length (shown_history (log ++ [])) =
+    rw is (ap (λ l. length (shown_history l)) (sym (append-nil log))) in (
       keeps,
       [],
       None,
@@ -49,11 +49,11 @@ adds_goes log v ask old new len sum pre false is =
     )
 
 -- whatever the board has shown, the exchange adds the showing to all that was seen, or finds that more was shown
-pub adds_moves : (v : List (List Entry)) (ask : List Entry) (old new : ℕ) → length (history_of v) ≡ old → old + length ask ≡ new
+pub adds_moves : (v : List (List Entry)) (ask : List Entry) (old new : ℕ) → length (shown_history v) ≡ old → old + length ask ≡ new
     → Moves IsKept none_shown none_moved 0 (v, (no_nib, None)) (λ n. either (n == old) new n) (HasAdded (step 0 old new ask) (v, (no_nib, None)))
 adds_moves v ask old new len sum cs log kept pre away =
     let P : List Cell → Type 0 = λ c. (0 < length c) × ((cell c 0).1 ≡ true) × Goes IsKept none_shown none_moved 0 (v, (no_nib, None)) (λ n. either (n == old) new n) (HasAdded (step 0 old new ask) (v, (no_nib, None))) c log in
-    subst P (sym kept) (omega arith, refl, adds_goes log v ask old new len sum pre (length (history_of log) == old) refl)
+    subst P (sym kept) (omega arith, refl, adds_goes log v ask old new len sum pre (length (shown_history log) == old) refl)
 
 -- what a book has beyond its beginning makes up the length
 pub ask_length : (old all copy shown : List Entry) (n : ℕ) → IsPrefix old all → copy ≡ all → shown ≡ all → n ≡ length old → n + length (drop n copy) ≡ length shown

@@ -14,7 +14,7 @@ use Rattle.std.proofs.lemmas.List.Quantifiers.{position-Some, all_pairs_push}
 use Rattle.std.proofs.lemmas.Map.Made.{IsDistinct-from_AllPairs, length-le_from_is_member}
 use Rattle.std.proofs.Math.ListN.{set}
 use Rattle.std.proofs.Math.Seq.{map-set_same}
-use Rattle.setoff_model.specs.Limits.{most_firms}
+use Rattle.setoff_model.specs.declared.limits.TheConstants.{MOST_FIRMS}
 use Rattle.setoff_model.specs.Same.{same_name}
 use Rattle.setoff_model.proofs.SameNames.{name_same, same_name_is}
 use Rattle.setoff_model.proofs.Lists.{position_none, list_any-map}
@@ -99,14 +99,14 @@ known_more l names firm q known new any = by (list_any (same_name q) names) (sam
     by false true old e = subst (λ n. is_registered l n ≡ true) (sym (name_is q firm e)) new
     by false false old e = absurd (true≢false (sym any ∙ list_any-append (same_name q) names (firm ∷ []) ∙ rw (old, e) refl))
 
-has_room : (l : Ledger) (rows : List Row) (firm : List ℕ) → length (firms l) ≤ most_firms → Fits l rows → is_registered l firm ≡ true → list_any (same_name firm) (map firm_of rows) ≡ false → length rows < most_firms
+has_room : (l : Ledger) (rows : List Row) (firm : List ℕ) → length (firms l) ≤ MOST_FIRMS → Fits l rows → is_registered l firm ≡ true → list_any (same_name firm) (map firm_of rows) ≡ false → length rows < MOST_FIRMS
 has_room l rows firm few fits known none =
     let names : List (List ℕ) = map firm_of rows ++ firm ∷ [] in
     let once = all_pairs_push (λ (f g : List ℕ). f ≢ g) (map firm_of rows) firm fits.once (new_name (map firm_of rows) firm none) in
     let le = length-le_from_is_member names_equivalent names (firms l) (IsDistinct-from_AllPairs same_name_is names once) (λ q there. known_more l (map firm_of rows) firm q fits.known known there) in
     omega (arith, le, few, length-append (map firm_of rows) (firm ∷ []), length-map rows firm_of)
 
-put_fits : (l : Ledger) (rows : List Row) (r : Row) → length (firms l) ≤ most_firms → Fits l rows → is_registered l (firm_of r) ≡ true → (o : Option ℕ) → position (is_of (firm_of r)) rows ≡ o
+put_fits : (l : Ledger) (rows : List Row) (r : Row) → length (firms l) ≤ MOST_FIRMS → Fits l rows → is_registered l (firm_of r) ≡ true → (o : Option ℕ) → position (is_of (firm_of r)) rows ≡ o
     → IsPut rows (put_at rows r o) r × Fits l (put_at rows r o)
 put_fits l rows r few fits known (Some place) at =
     let found = position-Some (is_of (firm_of r)) rows place r at in
@@ -121,7 +121,7 @@ put_fits l rows r few fits known None at =
     let none : list_any (same_name (firm_of r)) (map firm_of rows) ≡ false = list_any-map (same_name (firm_of r)) firm_of rows ∙ position_none (is_of (firm_of r)) rows at in
     let room = has_room l rows (firm_of r) few fits known none in
     let more : map firm_of rows ++ firm_of r ∷ [] ≡ map firm_of (rows ++ r ∷ []) = longer firm_of (map firm_of rows) rows refl r in
-    let put : rows ++ r ∷ [] ≡ put_at rows r None = ap (λ (b : Bool). if b then rows ++ r ∷ [] else rows) (sym (lt-ltb (length rows) most_firms room)) in
+    let put : rows ++ r ∷ [] ≡ put_at rows r None = ap (λ (b : Bool). if b then rows ++ r ∷ [] else rows) (sym (lt-ltb (length rows) MOST_FIRMS room)) in
     subst (λ after. IsPut rows after r × Fits l after) put (
       is_pushed rows r at,
       record {
@@ -143,7 +143,7 @@ row_known l r is = by (is_registered l (firm_of r)) refl is
     by false e h = absurd (none-some r (ap (λ (b : Bool). if b then Some (row_of l (firm_of r)) else None) (sym e) ∙ h))
 
 -- a firm that is settled has its row once all changes are put
-pub put_right : (l : Ledger) (rows changes : List Row) (firm : List ℕ) → length (firms l) ≤ most_firms → Fits l rows → All (IsRowIn l) changes → IsSettled l rows changes firm → IsRight l firm (put_all rows changes)
+pub put_right : (l : Ledger) (rows changes : List Row) (firm : List ℕ) → length (firms l) ≤ MOST_FIRMS → Fits l rows → All (IsRowIn l) changes → IsSettled l rows changes firm → IsRight l firm (put_all rows changes)
 put_right l rows [] firm few fits each settled = ⊎_elim (λ e. absurd (true≢false (sym e))) (λ h. h) settled
 put_right l rows (r ∷ rs) firm few fits each settled =
     let is = All-head (IsRowIn l) r rs each in

@@ -8,7 +8,7 @@ use Rattle.std.proofs.Math.ListN.{set}
 use Rattle.std.proofs.Math.Seq.{map-set_same}
 use Rattle.std.proofs.lemmas.List.Quantifiers.{position-Some, all_pairs_push}
 use Rattle.std.proofs.lemmas.List.Folds.{list_any_at}
-use Rattle.setoff_model.specs.Limits.{most_firms}
+use Rattle.setoff_model.specs.declared.limits.TheConstants.{MOST_FIRMS}
 use Rattle.setoff_model.specs.Same.{same_name}
 use Rattle.setoff_model.proofs.SameNames.{name_same}
 use Rattle.name_index.proofs.Rows.{row_place, longer}
@@ -26,12 +26,12 @@ pub put_found : (rows : List Row) (r : Row) (place : ℕ) → position (λ x. sa
 put_found rows r place at = ap (put_at rows r) (sym at)
 
 -- a row put at the end
-pub put_last : (rows : List Row) (r : Row) → position (λ x. same_name (firm_of r) (firm_of x)) rows ≡ None → length rows < most_firms → rows ++ r ∷ [] ≡ put_row rows r
-put_last rows r at room = ap (λ (b : Bool). if b then rows ++ r ∷ [] else rows) (sym (lt-ltb (length rows) most_firms room)) ∙ ap (put_at rows r) (sym at)
+pub put_last : (rows : List Row) (r : Row) → position (λ x. same_name (firm_of r) (firm_of x)) rows ≡ None → length rows < MOST_FIRMS → rows ++ r ∷ [] ≡ put_row rows r
+put_last rows r at room = ap (λ (b : Bool). if b then rows ++ r ∷ [] else rows) (sym (lt-ltb (length rows) MOST_FIRMS room)) ∙ ap (put_at rows r) (sym at)
 
 -- no room for a row
-pub put_none : (rows : List Row) (r : Row) → position (λ x. same_name (firm_of r) (firm_of x)) rows ≡ None → most_firms ≤ length rows → rows ≡ put_row rows r
-put_none rows r at full = ap (λ (b : Bool). if b then rows ++ r ∷ [] else rows) (sym (le-ltb (length rows) most_firms full)) ∙ ap (put_at rows r) (sym at)
+pub put_none : (rows : List Row) (r : Row) → position (λ x. same_name (firm_of r) (firm_of x)) rows ≡ None → MOST_FIRMS ≤ length rows → rows ≡ put_row rows r
+put_none rows r at full = ap (λ (b : Bool). if b then rows ++ r ∷ [] else rows) (sym (le-ltb (length rows) MOST_FIRMS full)) ∙ ap (put_at rows r) (sym at)
 
 -- ---- the index stays
 

@@ -1,7 +1,7 @@
 -- The row of a firm, and how rows are put into a table.
 use Rattle.std.specs.Prelude.{◌≡◌, ◌⊎◌, ℕ, true, nat_lt, List, [], ◌∷◌, ◌++◌, length, fold, find, position, slice_set, All, Option, Some, None, if◌then◌else◌}
 use Rattle.std.specs.List.{list_any}
-use Rattle.setoff_model.specs.Limits.{most_firms}
+use Rattle.setoff_model.specs.declared.limits.TheConstants.{MOST_FIRMS}
 use Rattle.setoff_model.specs.Same.{same_name}
 use Rattle.claim_history.specs.Facts.{Ledger, is_registered, account_fact, position_of}
 use Rattle.read_copies.specs.declared.row.Row.{Row}
@@ -35,7 +35,7 @@ HasRows l rows = (firm : List ℕ) → row_at rows firm ≡ row_in l firm
 -- a row at a place, or at the end, where there is room
 abbrev pub put_at : List Row → Row → Option ℕ → List Row
 put_at rows r (Some place) = slice_set rows place r
-put_at rows r None = if nat_lt (length rows) most_firms then rows ++ r ∷ [] else rows
+put_at rows r None = if nat_lt (length rows) MOST_FIRMS then rows ++ r ∷ [] else rows
 
 -- a row in the place of its firm's, or at the end where the firm has none
 abbrev pub put_row : List Row → Row → List Row

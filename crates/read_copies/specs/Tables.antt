@@ -3,7 +3,7 @@ use Rattle.std.specs.Prelude.{◌≡◌, ◌≤◌, ◌+◌, ℕ, List, length, 
 use mathlib.Core.Option.{some}
 use lib.ListN.{get_elem?}
 use Rattle.logbook.specs.Pages.{Book}
-use Rattle.setoff_model.specs.Limits.{most_firms}
+use Rattle.setoff_model.specs.declared.limits.TheConstants.{MOST_FIRMS}
 use Rattle.claim_history.specs.declared.entry.Entry.{Entry}
 use Rattle.claim_book.specs.Book.{ledger_of}
 use Rattle.read_copies.specs.declared.row.Row.{Row}
@@ -22,8 +22,8 @@ pub record TableView : Type 0 where
 pub record IsTable (names : List (List ℕ)) (room capacity : ℕ) (rows : List Row) : Type 0 where
   pub names_are : names ≡ map firm_of rows
   pub once : AllPairs (λ (f g : List ℕ). f ≢ g) names
-  pub room_is : most_firms ≤ length rows + room
-  pub capacity_is : most_firms ≤ capacity
+  pub room_is : MOST_FIRMS ≤ length rows + room
+  pub capacity_is : MOST_FIRMS ≤ capacity
 
 -- a table stands for a history: its number of entries is the length, and the row of each firm is that of the history
 pub record Shows (history : List Entry) (entries : ℕ) (rows : List Row) : Type 0 where

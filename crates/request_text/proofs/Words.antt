@@ -3,7 +3,7 @@ use Rattle.std.proofs.Common.{◌≡◌, ℕ, ◌<◌, ◌≤◌, ◌+◌, ◌/�
 use Rattle.std.specs.Prelude.{◌&&◌, nat_le, codes, Result, Ok, Err, IfOk, IfErr}
 use Rattle.std.specs.List.{AllByRecursion}
 use Rattle.std.proofs.lemmas.Bool.{leb-true, and_parts}
-use Rattle.setoff_model.specs.Limits.{most_amount}
+use Rattle.setoff_model.specs.declared.limits.TheConstants.{MOST_AMOUNT}
 use Rattle.setoff_model.specs.declared.name.Key.{Key}
 use Rattle.setoff_model.specs.Names.{is_name}
 use Rattle.setoff_model.specs.declared.kind.Kind.{Kind}
@@ -22,10 +22,10 @@ use Rattle.request_text.specs.Lanes.{IsLane}
 use Rattle.request_text.specs.Causes.{HasCause, HasForm, some_cents}
 use Rattle.request_text.specs.Grammar.{AreFields, IsLine, line_fields}
 
-amount_within : (cents : ℕ) → is_claim_amount cents ≡ true → (1 ≤ cents) × (cents ≤ most_amount)
+amount_within : (cents : ℕ) → is_claim_amount cents ≡ true → (1 ≤ cents) × (cents ≤ MOST_AMOUNT)
 amount_within cents h =
-    let p : (nat_le 1 cents ≡ true) × (nat_le cents most_amount ≡ true) = and_parts _ _ h in
-    (leb-true 1 cents p.0, leb-true cents most_amount p.1)
+    let p : (nat_le 1 cents ≡ true) × (nat_le cents MOST_AMOUNT ≡ true) = and_parts _ _ h in
+    (leb-true 1 cents p.0, leb-true cents MOST_AMOUNT p.1)
 
 -- nothing is no amount of a claim
 pub nothing : (field : List ℕ) (cents : ℕ) → cents ≡ 0 → field ≡ cents_text cents → HasForm some_cents field → ⊥
@@ -57,7 +57,7 @@ key_visible law key h =
     (law.names key.creditor k.0, law.names key.invoice k.1)
 
 amount_visible : VisibleLaw → (cents : ℕ) → is_amount cents ≡ true → IsVisible (cents_text cents)
-amount_visible law cents h = law.cents cents (omega (arith, leb-true cents most_amount h))
+amount_visible law cents h = law.cents cents (omega (arith, leb-true cents MOST_AMOUNT h))
 
 claim_amount_visible : VisibleLaw → (cents : ℕ) → is_claim_amount cents ≡ true → IsVisible (cents_text cents)
 claim_amount_visible law cents h = amount_visible law cents (and_parts (nat_le 1 cents) (is_amount cents) h).1

@@ -11,7 +11,7 @@ ghost use Rattle.request_text.specs.Causes.{HasArgsCause, HasCause, HasForm, Has
 ghost use Rattle.request_text.specs.declared.verb.Verb.TheVariants as verbs;
 
 use crate::error::LineCause;
-use crate::request::MOST_LANES;
+use setoff_model::limits::MOST_LANES;
 use crate::verb::{Verb, verb_of};
 use claim_history::{Act, Day};
 use setoff_model::{Key, Kind, Name, read_amount, read_claim_amount, read_kind, read_number};

@@ -1,6 +1,6 @@
 //! Writing requests.
 ghost use Rattle.std.specs.Prelude.{◌≡◌, ◌+◌, ◌≤◌, ◌++◌, true, vec_len, vec_capacity};
-ghost use Rattle.setoff_model.specs.Limits.{line_bytes};
+ghost use Rattle.setoff_model.specs.declared.limits.TheConstants.{LINE_BYTES};
 ghost use Rattle.claim_history.specs.Acts.{is_request};
 ghost use Rattle.request_text.specs.Grammar.{request_line};
 ghost use Rattle.request_text.specs.Lanes.{IsLane};
@@ -13,9 +13,9 @@ use setoff_model::{put, write_whole};
 pub fn write_request(buffer: &mut Vec<u8>, lane: u32, act: &Act)
     requires lane { IsLane lane }
     requires valid { is_request act.now ≡ true }
-    requires spare { vec_len buffer.old + line_bytes ≤ vec_capacity buffer.old }
+    requires spare { vec_len buffer.old + LINE_BYTES ≤ vec_capacity buffer.old }
     ensures text { buffer.new.items ≡ buffer.old.items ++ request_line lane act.now }
-    ensures len { vec_len buffer.new ≤ vec_len buffer.old + line_bytes }
+    ensures len { vec_len buffer.new ≤ vec_len buffer.old + LINE_BYTES }
     ensures room { vec_capacity buffer.old ≤ vec_capacity buffer.new }
 {
     write_whole(buffer, u64::from(lane));

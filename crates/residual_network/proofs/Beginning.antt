@@ -5,7 +5,7 @@ use Rattle.std.proofs.lemmas.Int.{ints}
 use Rattle.std.proofs.lemmas.Bool.{cases_lt}
 use Rattle.std.proofs.lemmas.Bool.Decides.{nat_tests}
 use Rattle.std.proofs.lemmas.List.{length-replicate, get_or-replicate, get_or_append_left, get_or-append-add}
-use Rattle.setoff_model.specs.Limits.{most_weight}
+use Rattle.setoff_model.specs.declared.limits.TheConstants.{MOST_WEIGHT}
 use Rattle.setoff_model.specs.Sums.{sum_below}
 use Rattle.setoff_model.specs.Setoff.{Obligations, flow_at, price_at}
 use Rattle.setoff_model.proofs.Circulation.{sum_below-same, sum_below-all, sum_below-none}
@@ -37,7 +37,7 @@ are_among o net is among = record {
       (λ c lt s. among.apart c lt (sym (is.tail c lt) ∙ s ∙ is.head c lt))
       (λ f lt s. let t = is.party f lt in let h = is.ground f lt in omega (arith, t, h, s, lt)) a (omega (arith, is.arcs, in'));
   reward = λ a in'. by_kind (length o.amounts) (length o.spends)
-      (λ k. slice_index net.arcs.rewards k ≤ most_weight)
+      (λ k. slice_index net.arcs.rewards k ≤ MOST_WEIGHT)
       is.counts (λ f lt. let z = is.free f lt in omega (arith, z)) a (omega (arith, is.arcs, in'));
 }
 

@@ -3,7 +3,7 @@ use Rattle.std.specs.Prelude.{ℤ, pos, ◌+ℤ◌, ◌-ℤ◌, ◌<ℤ◌, ◌�
 use Rattle.std.proofs.Common.{◌≡◌, ℕ, ◌<◌, ◌≤◌, List, length, sym, ◌∙◌, inl, inr, arith}
 use Rattle.std.proofs.lemmas.Int.{ints}
 use Rattle.std.proofs.lemmas.Bool.{cases_lt}
-use Rattle.setoff_model.specs.Limits.{most_weight}
+use Rattle.setoff_model.specs.declared.limits.TheConstants.{MOST_WEIGHT}
 use Rattle.setoff_model.specs.Squeezing.{IsSqueezedTo}
 use Rattle.setoff_model.proofs.Narrowed.{gain_above_back, gain_below_back, gain_even}
 use Rattle.residual_network.specs.Network.{Arcs, arc_gain, IsFlow, ArcSlack, AreArcsAmong}
@@ -91,18 +91,18 @@ raise_law = record { slack = raise_slack; inside = gain_inside; out = gain_out; 
 
 -- ---- the gains after squeezing
 
-pub squeezing_slack : (arcs : Arcs) (x : List ℕ) (p q : List ℤ) (n : ℕ) → AreArcsAmong n arcs → IsSqueezedTo most_weight p q
+pub squeezing_slack : (arcs : Arcs) (x : List ℕ) (p q : List ℤ) (n : ℕ) → AreArcsAmong n arcs → IsSqueezedTo MOST_WEIGHT p q
     → ArcSlack arcs x p → ArcSlack arcs x q
 squeezing_slack arcs x p q n is squeezed facts = record {
-  full = λ a in' h. facts.full a in' (gain_above_back most_weight p q squeezed (slice_index arcs.rewards a)
+  full = λ a in' h. facts.full a in' (gain_above_back MOST_WEIGHT p q squeezed (slice_index arcs.rewards a)
       (slice_index arcs.tails a) (slice_index arcs.heads a) (is.reward a in') h);
-  empty = λ a in' h. facts.empty a in' (gain_below_back most_weight p q squeezed (slice_index arcs.rewards a)
+  empty = λ a in' h. facts.empty a in' (gain_below_back MOST_WEIGHT p q squeezed (slice_index arcs.rewards a)
       (slice_index arcs.tails a) (slice_index arcs.heads a) (is.reward a in') h);
 }
 
 pub squeezing_law : SqueezingLaw
 squeezing_law = record {
   slack = squeezing_slack;
-  even = λ arcs p q n a is squeezed in' h. gain_even most_weight p q squeezed (slice_index arcs.rewards a)
+  even = λ arcs p q n a is squeezed in' h. gain_even MOST_WEIGHT p q squeezed (slice_index arcs.rewards a)
       (slice_index arcs.tails a) (slice_index arcs.heads a) (is.reward a in') h;
 }

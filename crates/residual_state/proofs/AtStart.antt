@@ -4,7 +4,7 @@ use Rattle.std.specs.List.{All}
 use Rattle.std.proofs.Common.{◌≡◌, ℕ, ◌+◌, ◌<◌, ◌≤◌, List, [], ◌∷◌, ◌++◌, length, sym, ◌∙◌, ap, arith, length-append}
 use Rattle.std.proofs.lemmas.Int.{ints}
 use Rattle.std.proofs.lemmas.List.{length-map}
-use Rattle.setoff_model.specs.Limits.{most_firms, most_claims}
+use Rattle.setoff_model.specs.declared.limits.TheConstants.{MOST_FIRMS, MOST_CLAIMS}
 use Rattle.setoff_model.specs.declared.cut.Party.{Party}
 use Rattle.setoff_model.specs.Setoff.{Obligations, price_at, flow_at}
 use Rattle.setoff_model.specs.CutView.{spends}
@@ -67,7 +67,7 @@ among_of edges n m e are =
       reward = λ a lt. are.reward a (omega (arith, caps));
     }
 
-pub started : (parties : List Party) (claims windows : List Edge) (w : State) → length parties ≤ most_firms → length claims ≤ most_claims → All (IsClaimEdge (length parties)) claims →
+pub started : (parties : List Party) (claims windows : List Edge) (w : State) → length parties ≤ MOST_FIRMS → length claims ≤ MOST_CLAIMS → All (IsClaimEdge (length parties)) claims →
     AreWindows parties (length parties) windows → w.edges.items ≡ claims ++ windows → w.flows.items ≡ full_flow (obligations_of_edges parties claims) → length w.excess.items ≡ length parties + 1 →
     IsDifference claims w.excess.items (length claims) → length w.prices.items ≡ length parties → ((f : ℕ) → price_at w.prices.items f ≡ pos 0) → IsStateOf (weighed_edges parties claims) w
 started parties claims windows w few_parties few_claims are of edges flows nodes differ prices zeros =

@@ -5,7 +5,7 @@ use Rattle.std.proofs.lemmas.Bool.{cases_lt}
 use Rattle.std.proofs.lemmas.Int.{ints}
 use Rattle.std.proofs.lemmas.List.{length-map}
 use Rattle.setoff_model.specs.Setoff.{Obligations, price_at}
-use Rattle.setoff_model.specs.Limits.{most_weight, most_price}
+use Rattle.setoff_model.specs.declared.limits.TheConstants.{MOST_WEIGHT, MOST_PRICE}
 use Rattle.setoff_model.specs.Squeezing.{IsSqueezedTo, IsNear}
 use Rattle.setoff_model.proofs.Circulation.{price_past}
 use Rattle.residual_network.specs.Network.{arc_gain}
@@ -29,14 +29,14 @@ next_of es es' xs xs' ps ps' ls ls' next ee ex ep el is = rw (← ee, ← ex, �
 pub none_of : (es es' : List Edge) (xs xs' : List ℕ) (ls ls' : List Bool) → es ≡ es' → xs ≡ xs' → ls ≡ ls' → ((a : ℕ) → a < length es → LeadsOut (graph es) xs ls a → ⊥) → (a : ℕ) → a < length es' → LeadsOut (graph es') xs' ls' a → ⊥
 none_of es es' xs xs' ls ls' ee ex el is = rw (← ee, ← ex, ← el) is
 
-price_small : (p : List ℤ) (f : ℕ) → IsNear most_price p → unsigned_abs (price_at p f) ≤ most_price
+price_small : (p : List ℤ) (f : ℕ) → IsNear MOST_PRICE p → unsigned_abs (price_at p f) ≤ MOST_PRICE
 price_small p f near =
-    elim (cases_lt f (length p)) as (λ _. unsigned_abs (price_at p f) ≤ most_price) [
+    elim (cases_lt f (length p)) as (λ _. unsigned_abs (price_at p f) ≤ MOST_PRICE) [
       | inl lt ↦ near f lt
       | inr past ↦ let z = price_past p f past in omega (arith, ints, z)
     ]
 
-gain_small : (edges : List Edge) (p : List ℤ) (n a : ℕ) → AreAmong n edges → IsNear most_price p → a < length edges → unsigned_abs (arc_gain (graph edges) p a) ≤ 294921
+gain_small : (edges : List Edge) (p : List ℤ) (n a : ℕ) → AreAmong n edges → IsNear MOST_PRICE p → a < length edges → unsigned_abs (arc_gain (graph edges) p a) ≤ 294921
 gain_small edges p n a among near lt =
     let t = price_small p (slice_index (tails edges) a) near in
     let h = price_small p (slice_index (heads edges) a) near in
@@ -65,7 +65,7 @@ module _ (w : State) (labelled : List Bool) (next : Next) (sound : IsSound w) (i
   }
 
 -- a search stays one at raised and squeezed prices
-module _ (w v : State) (labels : Labels) (q : List ℤ) (d : ℕ) (sound : IsSound w) (is : IsSearchOf w labels) (raised : IsRaised w.prices.items q labels.labelled.items d) (squeezed : IsSqueezedTo most_weight q v.prices.items) (kept : IsRepriced w v) where
+module _ (w v : State) (labels : Labels) (q : List ℤ) (d : ℕ) (sound : IsSound w) (is : IsSearchOf w labels) (raised : IsRaised w.prices.items q labels.labelled.items d) (squeezed : IsSqueezedTo MOST_WEIGHT q v.prices.items) (kept : IsRepriced w v) where
   link_even : (k : ℕ) → k < length labels.found.items → IsLink (graph w.edges.items) w.flows.items (columns labels.found.items) k → arc_gain (graph w.edges.items) w.prices.items (slice_index (arcs labels.found.items) k) ≡ pos 0 → arc_gain (graph w.edges.items) v.prices.items (slice_index (arcs labels.found.items) k) ≡ pos 0
   link_even k lt link even =
       let a = slice_index (arcs labels.found.items) k in

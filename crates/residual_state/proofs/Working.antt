@@ -5,7 +5,7 @@ use Rattle.std.proofs.lemmas.Bool.{cases_eq}
 use Rattle.std.proofs.lemmas.Int.{ints}
 use Rattle.std.proofs.lemmas.List.{length-map, get_or-set_other}
 use Rattle.setoff_model.specs.Setoff.{price_at}
-use Rattle.setoff_model.specs.Limits.{most_weight}
+use Rattle.setoff_model.specs.declared.limits.TheConstants.{MOST_WEIGHT}
 use Rattle.setoff_model.specs.Squeezing.{IsSqueezedTo}
 use Rattle.residual_network.specs.Network.{arc_gain, ArcSlack, AreArcsAmong}
 use Rattle.residual_network.specs.Labels.{mark, one_if, IsRaised, IsBelowRaises}
@@ -82,7 +82,7 @@ arcs_among edges n among =
       reward = λ a lt. among.reward a (omega (arith, caps));
     }
 
-module _ (w : State) (q r : List ℤ) (labelled : List Bool) (d : ℕ) (sound : IsSound w) (each : length labelled ≡ length w.excess.items) (raised : IsRaised w.prices.items q labelled d) (squeezed : IsSqueezedTo most_weight q r) where
+module _ (w : State) (q r : List ℤ) (labelled : List Bool) (d : ℕ) (sound : IsSound w) (each : length labelled ≡ length w.excess.items) (raised : IsRaised w.prices.items q labelled d) (squeezed : IsSqueezedTo MOST_WEIGHT q r) where
   marked : AreArcsAmong (length labelled) (graph w.edges.items)
   marked = rw each (arcs_among w.edges.items (length w.excess.items) sound.among)
 

@@ -1,6 +1,6 @@
 -- Solutions that are taken whole.
 use Rattle.std.specs.Prelude.{◌≡◌, ◌⊎◌, ℕ, Bool, true, false, ◌<◌, ◌≤◌, ◌^◌, List, length, slice_index, ℤ, pos, ◌+ℤ◌}
-use Rattle.setoff_model.specs.Limits.{most_price}
+use Rattle.setoff_model.specs.declared.limits.TheConstants.{MOST_PRICE}
 use Rattle.setoff_model.specs.Setoff.{flow_at}
 use Rattle.setoff_model.specs.Squeezing.{IsNear}
 use Rattle.residual_network.specs.Network.{ArcSlack}
@@ -22,7 +22,7 @@ pub record CanAdopt (w : State) (flows : List ℕ) (prices : List ℤ) : Type 0 
   pub few : length w.edges.items < 2 ^ 32
   pub within : (a : ℕ) → a < length w.edges.items → slice_index flows a ≤ slice_index (capacities w.edges.items) a
   pub price_each : length prices ≡ length w.prices.items
-  pub near : IsNear most_price prices
+  pub near : IsNear MOST_PRICE prices
   pub slack : ArcSlack (graph w.edges.items) flows prices
   pub rest : (v : ℕ) → v < length w.excess.items →
       ((excess_of w.excess.items v +ℤ pos (flow_at (length w.edges.items) (heads w.edges.items) flows v))

@@ -1,6 +1,6 @@
 -- A solver's state: the arcs with a flow on each, the excess of each node and the price of each party.
 use Rattle.std.specs.Prelude.{◌≡◌, ℕ, ◌+◌, ◌<◌, ◌≤◌, ◌^◌, List, length, slice_index, ℤ, unsigned_abs}
-use Rattle.setoff_model.specs.Limits.{most_firms, most_price}
+use Rattle.setoff_model.specs.declared.limits.TheConstants.{MOST_FIRMS, MOST_PRICE}
 use Rattle.setoff_model.specs.Sums.{sum_below, above_zero}
 use Rattle.setoff_model.specs.declared.cut.Party.{Party}
 use Rattle.setoff_model.specs.Setoff.{Obligations, IsLawful}
@@ -21,8 +21,8 @@ pub record IsSound (w : State) : Type 0 where
   pub flow : IsFlow (graph w.edges.items) w.flows.items
   pub slack : ArcSlack (graph w.edges.items) w.flows.items w.prices.items
   pub price_each : length w.excess.items ≡ length w.prices.items + 1
-  pub few : length w.prices.items ≤ most_firms
-  pub near : IsNear most_price w.prices.items
+  pub few : length w.prices.items ≤ MOST_FIRMS
+  pub near : IsNear MOST_PRICE w.prices.items
   pub small : (v : ℕ) → v < length w.excess.items → unsigned_abs (excess_of w.excess.items v) ≤ 2 ^ 100
 
 -- obligations, and what a cent of each claim counts
@@ -54,7 +54,7 @@ StaysOn old new = (g : Weighed) → IsStateOf g old → IsStateOf g new
 pub record IsFound (g : Weighed) (flows : List ℕ) (prices : List ℤ) : Type 0 where
   pub lawful : IsLawful g.obligations flows
   pub price_each : length prices ≡ length g.obligations.spends
-  pub near : IsNear most_price prices
+  pub near : IsNear MOST_PRICE prices
   pub tight : weighted_total_of g.weights flows ≡ weighted_bound_of g.obligations g.weights prices
 
 -- the parties and the arcs of their claims, on which a cent counts what the arc says

@@ -1,6 +1,6 @@
 //! The state of a search for a greatest set-off.
 ghost use Rattle.std.specs.Prelude.{◌≡◌, ◌<◌, ◌≤◌, ℕ, List, length, pos, ◌≤ℤ◌, All, IfOk};
-ghost use Rattle.setoff_model.specs.Limits.{most_firms, most_claims, most_window};
+ghost use Rattle.setoff_model.specs.declared.limits.TheConstants.{MOST_FIRMS, MOST_CLAIMS, MOST_WINDOW};
 ghost use Rattle.setoff_model.specs.Setoff.{Obligations};
 ghost use Rattle.residual_state.specs.Edges.{IsClaimEdge, obligations_of_edges, rewards};
 ghost use Rattle.residual_state.specs.Excesses.{excess_of};
@@ -40,11 +40,11 @@ pub fn state_at_start(
     parties: &[Party],
     claims: Vec<Edge>,
 ) -> Result<State, AllocError>
-    requires few_parties { length parties.now ≤ most_firms }
-    requires few_claims { length claims.items ≤ most_claims }
+    requires few_parties { length parties.now ≤ MOST_FIRMS }
+    requires few_claims { length claims.items ≤ MOST_CLAIMS }
     requires claims { All (IsClaimEdge (length parties.now)) claims.items }
-    requires spends { All (λ f. f.spend ≤ most_window) parties.now }
-    requires rooms { All (λ f. f.room ≤ most_window) parties.now }
+    requires spends { All (λ f. f.spend ≤ MOST_WINDOW) parties.now }
+    requires rooms { All (λ f. f.room ≤ MOST_WINDOW) parties.now }
     ensures { IfOk result (IsStateOf (weighed_edges parties.now claims.items)) }
 {
     let nodes = parties.len() + 1;

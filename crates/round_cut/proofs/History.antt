@@ -10,7 +10,7 @@ use Rattle.std.proofs.lemmas.List.{length-map, length-reverse, reverse-append}
 use Rattle.std.proofs.lemmas.List.Folds.{flat_map-map, list_any-append}
 use Rattle.std.proofs.lemmas.List.Elements.{All-head, All-tail, All-map, All-filter}
 use Rattle.setoff_model.proofs.Lists.{filter-map, find-map, list_any-map}
-use Rattle.setoff_model.specs.Limits.{most_amount}
+use Rattle.setoff_model.specs.declared.limits.TheConstants.{MOST_AMOUNT}
 use Rattle.setoff_model.specs.declared.name.Key.{Key}
 use Rattle.setoff_model.specs.declared.kind.Kind.{Kind}
 use Rattle.setoff_model.specs.declared.cut.Party.{Party}
@@ -34,7 +34,7 @@ use Rattle.setoff_model.proofs.Windowed.{window_by_balance, window_law}
 use Rattle.setoff_model.proofs.SumsBounded.{above_zero_is}
 use Rattle.round_cut.specs.Windows.{KeepsLimits, window_of, WindowsLaw}
 use Rattle.round_cut.specs.CutOfFacts.{takes_part, claims_due, firms_in, window_or_none, window_in, party_in, claim_among, parties_in, claims_in, cut_of_facts, has_account, IsClaimOf, AreFacts}
-use Rattle.round_cut.specs.CutLaw.{CutLaw, FactsLaw, FormedLaw}
+use Rattle.round_cut.specs.CutLaw.{BuiltCutLaw, FactsLaw, FormedLaw}
 use Rattle.round_cut.proofs.Growth.{two_names, map_same}
 use Rattle.round_cut.proofs.Pairs.{pairs_map, pairs_reverse}
 use Rattle.claim_history.proofs.Pasts.{all_reverse}
@@ -107,7 +107,7 @@ found_amount : (p : Filing → Bool) (fs : List Filing) (m : ℕ) → All (λ (f
 found_amount p [] m all = omega arith
 found_amount p (f ∷ fs) m all = amount_step (p f) f (find p fs) m (All-head (λ (g : Filing). g.amount ≤ m) f fs all) (found_amount p fs m (All-tail (λ (g : Filing). g.amount ≤ m) f fs all))
 
-claim_is : (l : Ledger) (f : Filing) → IsFiling (firms l) f → left_of l f.key ≤ most_amount → IsClaimOf (account_facts l) (claim_fact l f)
+claim_is : (l : Ledger) (f : Filing) → IsFiling (firms l) f → left_of l f.key ≤ MOST_AMOUNT → IsClaimOf (account_facts l) (claim_fact l f)
 claim_is l f is left = record { debtor = accounts_are l f.debtor ∙ is.debtor; creditor = accounts_are l f.key.creditor ∙ is.creditor; apart = is.apart; left = left }
 
 no_filing : Filing
@@ -130,7 +130,7 @@ facts_are l is limited =
       firms = pairs_map (λ (a b : AccountFact). a.firm ≢ b.firm) (account_fact l) names [] (pairs_reverse (λ (f g : List ℕ). f ≢ g) (λ f g apart e. apart (sym e)) (firms l) is.firms);
       each_claim = All-map (IsClaimOf (account_facts l)) (claim_fact l) claims (λ k d lt.
           let f = slice_index_or claims k d in
-          claim_is l f (each k d lt) (left_le l f.key most_amount (found_amount (λ g. same_key f.key g.key) (filings l) most_amount (λ i e within. (is.each i e within).amount))));
+          claim_is l f (each k d lt) (left_le l f.key MOST_AMOUNT (found_amount (λ g. same_key f.key g.key) (filings l) MOST_AMOUNT (λ i e within. (is.each i e within).amount))));
       each_account = All-map KeepsLimits (account_fact l) names (λ k d lt. limited (slice_index_or names k d));
     }
 
@@ -188,7 +188,7 @@ limited history legal valid firm = record {
 pub facts_law : FactsLaw
 facts_law history legal valid = facts_are (state_of history).ledger (history_orderly history legal valid).0 (limited history legal valid)
 
-pub cut_law : CutLaw
+pub cut_law : BuiltCutLaw
 cut_law history round kind horizon legal valid = cut_is (state_of history).ledger round kind horizon (history_orderly history legal valid).0.each
 
 pub formed_law : FormedLaw

@@ -10,8 +10,8 @@ use Rattle.claim_history.specs.Cut.{cut_of}
 use Rattle.round_cut.specs.CutOfFacts.{cut_of_facts, AreFacts}
 
 -- after a legal history of valid acts the cut of its facts is its cut
-abbrev pub CutLaw : Type 0
-CutLaw = (history : List Entry) (round : ℕ) (kind : Kind) (horizon : ℕ) → IsLegal history → AreValid history →
+abbrev pub BuiltCutLaw : Type 0
+BuiltCutLaw = (history : List Entry) (round : ℕ) (kind : Kind) (horizon : ℕ) → IsLegal history → AreValid history →
     cut_of_facts round (claim_facts (state_of history).ledger) (account_facts (state_of history).ledger) kind horizon ≡ cut_of round (state_of history).ledger kind horizon
 
 -- and its facts are such that a cut is made of them

@@ -1,7 +1,7 @@
 -- The cut of a round, read off what is known of claims and accounts.
 use Rattle.std.specs.Prelude.{◌≡◌, ◌≢◌, ℕ, ◌≤◌, Bool, true, ◌&&◌, nat_le, List, [], ◌∷◌, length, map, filter, flat_map, find, All, AllPairs, Option, Some, None}
 use Rattle.std.specs.List.{list_any, position_or_len}
-use Rattle.setoff_model.specs.Limits.{most_amount, most_claims, most_firms}
+use Rattle.setoff_model.specs.declared.limits.TheConstants.{MOST_AMOUNT, MOST_CLAIMS, MOST_FIRMS}
 use Rattle.setoff_model.specs.declared.kind.Kind.{Kind}
 use Rattle.setoff_model.specs.declared.cut.Party.{Party}
 use Rattle.setoff_model.specs.declared.cut.CutClaim.{CutClaim}
@@ -82,12 +82,12 @@ pub record IsClaimOf (accounts : List AccountFact) (c : ClaimFact) : Type 0 wher
   pub debtor : has_account accounts c.debtor ≡ true
   pub creditor : has_account accounts c.key.creditor ≡ true
   pub apart : c.debtor ≢ c.key.creditor
-  pub left : c.left ≤ most_amount
+  pub left : c.left ≤ MOST_AMOUNT
 
 -- claims with their own keys, between firms that each have one account
 pub record AreFacts (claims : List ClaimFact) (accounts : List AccountFact) : Type 0 where
-  pub few_claims : length claims ≤ most_claims
-  pub few_accounts : length accounts ≤ most_firms
+  pub few_claims : length claims ≤ MOST_CLAIMS
+  pub few_accounts : length accounts ≤ MOST_FIRMS
   pub keys : AllPairs (λ c d. c.key ≢ d.key) claims
   pub firms : AllPairs (λ a b. a.firm ≢ b.firm) accounts
   pub each_claim : All (IsClaimOf accounts) claims

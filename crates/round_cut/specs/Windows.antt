@@ -3,7 +3,7 @@ use Rattle.std.specs.Prelude.{◌≡◌, ◌≤◌, pos, neg_ℤ, ◌+ℤ◌, �
 use Rattle.std.specs.Int.{int_min}
 use Rattle.setoff_model.specs.declared.kind.Kind.{Kind}
 use Rattle.setoff_model.specs.declared.kind.Kind.TheVariants.{Funded}
-use Rattle.setoff_model.specs.Limits.{first_ceiling, most_amount}
+use Rattle.setoff_model.specs.declared.limits.TheConstants.{FIRST_CEILING, MOST_AMOUNT}
 use Rattle.setoff_model.specs.Sums.{above_zero}
 use Rattle.setoff_model.specs.Windows.{Window, window}
 use Rattle.claim_history.specs.declared.fact.AccountFact.{AccountFact}
@@ -12,8 +12,8 @@ use Rattle.claim_history.specs.Laws.{IsWithin}
 -- -credit <= balance <= ceiling, with limits that an account may have
 pub record KeepsLimits (a : AccountFact) : Type 0 where
   pub balance : IsWithin a.credit a.ceiling a.balance
-  pub credit : a.credit ≤ most_amount
-  pub ceiling : a.ceiling ≤ first_ceiling
+  pub credit : a.credit ≤ MOST_AMOUNT
+  pub ceiling : a.ceiling ≤ FIRST_CEILING
 
 -- the window of an account: what it has gained less what it has spent is its balance, of which one is 0
 abbrev pub window_of : Kind → AccountFact → Window

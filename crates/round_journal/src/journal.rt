@@ -1,7 +1,6 @@
 //! An open journal.
 ghost use Rattle.std.specs.Prelude.{◌≡◌, ◌+◌, ◌≤◌, length, IfErr, IfOk, OnOk, OnErr};
-ghost use Rattle.setoff_model.specs.Limits.{most_journal_bytes};
-ghost use Rattle.act_bodies.specs.Bodies.{most_body};
+ghost use Rattle.setoff_model.specs.declared.limits.TheConstants.{MOST_JOURNAL_BYTES};
 ghost use Rattle.round_journal.specs.Appends.{HasAppended, HasNotAppended, HasTried, IsFaultOf};
 ghost use Rattle.round_journal.specs.Opened.{IsOpen, IsRefused};
 
@@ -11,7 +10,7 @@ use crate::log::Log;
 use crate::open_refused::OpenRefused;
 use crate::opening::{Opening, open_disk};
 use crate::record::Record;
-use act_bodies::MOST_BODY;
+use setoff_model::limits::MOST_BODY;
 use disk_model::Disk;
 use std::alloc::Global;
 use std::marker::Model;
@@ -25,8 +24,7 @@ pub struct Journal<D: Disk> {
 }
 
 impl<D: Disk> Model for Journal<D> {
-    ghost use Rattle.setoff_model.specs.Limits.{most_journal_bytes};
-    ghost use Rattle.act_bodies.specs.Bodies.{most_body};
+    ghost use Rattle.setoff_model.specs.declared.limits.TheConstants.{MOST_JOURNAL_BYTES};
     ghost use Rattle.round_journal.specs.Kept.{JournalView};
 
     ghost Value = { JournalView D };
@@ -80,8 +78,8 @@ impl<D: Disk> Journal<D> {
     /// they were, and an image may have the new one behind them, or the one of the append that failed before. Where it
     /// failed before it began to open the gate, and with none to close first, nothing is left to settle.
     pub fn append(&mut self, body: &[u8]) -> Result<(), Device>
-        requires short { length body.now ≤ most_body }
-        requires near { self.old.gate + 5 + length body.now ≤ most_journal_bytes }
+        requires short { length body.now ≤ MOST_BODY }
+        requires near { self.old.gate + 5 + length body.now ≤ MOST_JOURNAL_BYTES }
         ensures done { OnOk result (HasAppended D.seen self.old self.new body.now) }
         ensures failed { OnErr result (HasNotAppended D.seen self.old self.new body.now) }
         ensures tried { HasTried D.seen self.old self.new body.now }

@@ -1,9 +1,8 @@
 //! The bytes of a journal on its disk, and the writes of an append.
 ghost use Rattle.std.specs.Prelude.{◌≡◌, ◌+◌, ◌<◌, ◌≤◌, ℕ, true, false, List, [], ◌∷◌, ◌++◌, length, Option, Some, None, IsTrue, OnOk, OnErr, vec_capacity};
 ghost use Rattle.disk_model.specs.Calls.{Passes};
-ghost use Rattle.setoff_model.specs.Limits.{most_journal_bytes};
+ghost use Rattle.setoff_model.specs.declared.limits.TheConstants.{MOST_BODY, MOST_JOURNAL_BYTES};
 ghost use Rattle.fault_count.specs.Counts.{IsCounted};
-ghost use Rattle.act_bodies.specs.Bodies.{most_body};
 ghost use Rattle.round_journal.specs.Bytes.{front};
 ghost use Rattle.round_journal.specs.Kept.{staged, HasBodies, HasFailedIn, HasStaged, IsKeptAt, IsStaged, IsLast, HoldsOne};
 
@@ -18,15 +17,15 @@ pub(crate) struct Log<D: Disk> {
     pub(crate) gate: u64,
     pub(crate) unsettled: bool,
     pub(crate) staging: Vec<u8>,
-    ghost room: { most_body + 5 ≤ vec_capacity staging },
+    ghost room: { MOST_BODY + 5 ≤ vec_capacity staging },
     ghost safe: { IsTrue (D.seen disk).tells → gate < length (D.seen disk).reads },
 }
 
 impl<D: Disk> Log<D> {
     /// Settles the gate where that is due, writes a record behind it, and opens it.
     pub(crate) fn append(&mut self, body: &[u8]) -> Result<(), DiskFailed>
-        requires short { length body.now ≤ most_body }
-        requires near { self.old.gate + 5 + length body.now ≤ most_journal_bytes }
+        requires short { length body.now ≤ MOST_BODY }
+        requires near { self.old.gate + 5 + length body.now ≤ MOST_JOURNAL_BYTES }
         ensures done { OnOk result ((bodies : List (List ℕ)) (last : Option (List ℕ)) → IsKeptAt (D.seen self.old.disk) self.old.gate self.old.unsettled bodies last
             → IsKeptAt (D.seen self.new.disk) self.new.gate self.new.unsettled (bodies ++ body.now ∷ []) None) }
         ensures failed { OnErr result ((bodies : List (List ℕ)) (last : Option (List ℕ)) → IsKeptAt (D.seen self.old.disk) self.old.gate self.old.unsettled bodies last
@@ -48,7 +47,7 @@ impl<D: Disk> Log<D> {
 
     // Closes a gate that an append has begun to open and may not have opened.
     fn settle(&mut self) -> Result<(), DiskFailed>
-        requires { self.old.gate ≤ most_journal_bytes }
+        requires { self.old.gate ≤ MOST_JOURNAL_BYTES }
         ensures done { OnOk result ((bodies : List (List ℕ)) (last : Option (List ℕ)) → IsKeptAt (D.seen self.old.disk) self.old.gate self.old.unsettled bodies last
             → IsKeptAt (D.seen self.new.disk) self.new.gate self.new.unsettled bodies None) }
         ensures failed { OnErr result ((bodies : List (List ℕ)) (last : Option (List ℕ)) → IsKeptAt (D.seen self.old.disk) self.old.gate self.old.unsettled bodies last
@@ -71,8 +70,8 @@ impl<D: Disk> Log<D> {
 
     // Writes the record and the next gate behind the gate, which stays closed.
     fn stage(&mut self, body: &[u8]) -> Result<(), DiskFailed>
-        requires short { length body.now ≤ most_body }
-        requires near { self.old.gate ≤ most_journal_bytes }
+        requires short { length body.now ≤ MOST_BODY }
+        requires near { self.old.gate ≤ MOST_JOURNAL_BYTES }
         requires settled { self.old.unsettled ≡ false }
         ensures done { OnOk result ((bodies : List (List ℕ)) → IsKeptAt (D.seen self.old.disk) self.old.gate false bodies None
             → IsStaged (D.seen self.new.disk) self.new.gate bodies body.now) }
@@ -93,7 +92,7 @@ impl<D: Disk> Log<D> {
 
     // Opens the gate before the record that stands behind it.
     fn open_gate(&mut self, len: u64) -> Result<(), DiskFailed>
-        requires near { self.old.gate + 5 + len ≤ most_journal_bytes }
+        requires near { self.old.gate + 5 + len ≤ MOST_JOURNAL_BYTES }
         requires long { IsTrue (D.seen self.old.disk).tells → self.old.gate + 5 + len < length (D.seen self.old.disk).reads }
         ensures done { OnOk result ((bodies : List (List ℕ)) (body : List ℕ) → length body ≡ len → IsStaged (D.seen self.old.disk) self.old.gate bodies body
             → IsKeptAt (D.seen self.new.disk) self.new.gate self.new.unsettled (bodies ++ body ∷ []) None) }
@@ -116,10 +115,10 @@ impl<D: Disk> Log<D> {
 
 // Puts the length, the body and a closed gate into the buffer.
 fn fill(staging: &mut Vec<u8>, body: &[u8])
-    requires room { most_body + 5 ≤ vec_capacity staging.old }
-    requires short { length body.now ≤ most_body }
+    requires room { MOST_BODY + 5 ≤ vec_capacity staging.old }
+    requires short { length body.now ≤ MOST_BODY }
     ensures items { staging.new.items ≡ staged body.now }
-    ensures room { most_body + 5 ≤ vec_capacity staging.new }
+    ensures room { MOST_BODY + 5 ≤ vec_capacity staging.new }
 {
     staging.clear();
     let _ = staging.extend_from_slice(&(body.len() as u32).to_be_bytes());

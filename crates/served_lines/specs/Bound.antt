@@ -1,6 +1,6 @@
 -- How many requests may come after a history so that no line of them is full.
 use Rattle.std.specs.Prelude.{◌≡◌, ℕ, ◌+◌, ◌*◌, ◌≤◌, true, false, List, All, ◌++◌, length, count_by}
-use Rattle.setoff_model.specs.Limits.{most_entries, most_journal_bytes}
+use Rattle.setoff_model.specs.declared.limits.TheConstants.{MOST_ENTRIES, MOST_JOURNAL_BYTES}
 use Rattle.claim_history.specs.declared.entry.Entry.{Entry}
 use Rattle.claim_history.specs.Acts.{is_close, is_filing, is_registration, is_request}
 use Rattle.claim_history.specs.History.{AreValid, IsLegal}
@@ -37,8 +37,8 @@ most_request_bytes = 73
 -- After the history there is room for all of the requests: for an entry and a record of each, for a publication of each Close, and
 -- for both endings of one round more. No round has more claims and firms than are asked for.
 pub record IsWithinBound (history : List Entry) (requests : List Request) : Type 0 where
-  pub entries : used_entries_of history + (length requests + closes requests) + 2 ≤ most_entries
-  pub bytes : used_bytes_of history + most_request_bytes * length requests + endings_with (claims_with history requests) (firms_with history requests) * (closes requests + 1) ≤ most_journal_bytes
+  pub entries : used_entries_of history + (length requests + closes requests) + 2 ≤ MOST_ENTRIES
+  pub bytes : used_bytes_of history + most_request_bytes * length requests + endings_with (claims_with history requests) (firms_with history requests) * (closes requests + 1) ≤ MOST_JOURNAL_BYTES
 
 -- Where a batch and the requests of later ones are within the bound, none of its lines is full, and after what it added the later
 -- ones are within the bound.

@@ -2,7 +2,7 @@
 use Rattle.std.specs.Prelude.{ℤ, pos, ◌+ℤ◌, ◌-ℤ◌, ◌<ℤ◌, ◌≤ℤ◌, slice_index}
 use Rattle.std.proofs.Common.{◌≡◌, ℕ, ◌≤◌, List, length, ◌∙◌, inl, inr, ◌⊎◌, arith}
 use Rattle.std.proofs.lemmas.Int.{ints}
-use Rattle.setoff_model.specs.Limits.{most_weight}
+use Rattle.setoff_model.specs.declared.limits.TheConstants.{MOST_WEIGHT}
 use Rattle.setoff_model.specs.Setoff.{Obligations, IsLawful, price_at}
 use Rattle.setoff_model.specs.Weighted.{AreWeights, WeightedSlack, weighted_total_of, weighted_bound_of}
 use Rattle.setoff_model.specs.Squeezing.{IsSqueezedTo, NarrowingKeeps}
@@ -74,15 +74,15 @@ module _ (widest : ℕ) (p q : List ℤ) (to : IsSqueezedTo widest p q) where
       let was = gain_below_back 0 f (length p) (omega arith) (omega (arith, ints, ground_q, h)) in
       omega (arith, ints, ground_p, was)
 
-slack_kept : (o : Obligations) (weights d : List ℕ) (p q : List ℤ) → AreWeights o weights → IsSqueezedTo most_weight p q → WeightedSlack o weights d p → WeightedSlack o weights d q
+slack_kept : (o : Obligations) (weights d : List ℕ) (p q : List ℤ) → AreWeights o weights → IsSqueezedTo MOST_WEIGHT p q → WeightedSlack o weights d p → WeightedSlack o weights d q
 slack_kept o weights d p q are to facts = record {
-  full = λ c in' h. facts.full c in' (gain_above_back most_weight p q to (slice_index weights c) (slice_index o.debtors c) (slice_index o.creditors c) (are.limit c in') h);
-  empty = λ c in' h. facts.empty c in' (gain_below_back most_weight p q to (slice_index weights c) (slice_index o.debtors c) (slice_index o.creditors c) (are.limit c in') h);
-  at_room = λ f in' h. facts.at_room f in' (above_back most_weight p q to f h);
-  at_spend = λ f in' h. facts.at_spend f in' (below_back most_weight p q to f h);
+  full = λ c in' h. facts.full c in' (gain_above_back MOST_WEIGHT p q to (slice_index weights c) (slice_index o.debtors c) (slice_index o.creditors c) (are.limit c in') h);
+  empty = λ c in' h. facts.empty c in' (gain_below_back MOST_WEIGHT p q to (slice_index weights c) (slice_index o.debtors c) (slice_index o.creditors c) (are.limit c in') h);
+  at_room = λ f in' h. facts.at_room f in' (above_back MOST_WEIGHT p q to f h);
+  at_spend = λ f in' h. facts.at_spend f in' (below_back MOST_WEIGHT p q to f h);
 }
 
-tight_kept : (o : Obligations) (weights d : List ℕ) (p q : List ℤ) → AreWeights o weights → IsSqueezedTo most_weight p q → IsLawful o d → length p ≡ length o.spends →
+tight_kept : (o : Obligations) (weights d : List ℕ) (p q : List ℤ) → AreWeights o weights → IsSqueezedTo MOST_WEIGHT p q → IsLawful o d → length p ≡ length o.spends →
     weighted_total_of weights d ≡ weighted_bound_of o weights p → weighted_total_of weights d ≡ weighted_bound_of o weights q
 tight_kept o weights d p q are to lawful each tight =
     weighted_tight o weights d q lawful.one_each (to.one_each ∙ each) (slack_kept o weights d p q are to (weighted_slack o weights d p lawful each tight))

@@ -1,6 +1,6 @@
 -- What squeezing does to a list of prices.
 use Rattle.std.specs.Prelude.{◌≡◌, ◌*◌, ◌<◌, ◌≤◌, ℕ, List, length, ℤ, pos, ◌+ℤ◌, ◌-ℤ◌, ◌<ℤ◌, ◌≤ℤ◌, unsigned_abs}
-use Rattle.setoff_model.specs.Limits.{most_weight}
+use Rattle.setoff_model.specs.declared.limits.TheConstants.{MOST_WEIGHT}
 use Rattle.setoff_model.specs.Setoff.{Obligations, IsLawful, Proves, price_at, total_of, bound_of}
 use Rattle.setoff_model.specs.Slackness.{Slack}
 use Rattle.setoff_model.specs.Weighted.{AreWeights, ProvesWeighted, weighted_total_of, weighted_bound_of}
@@ -43,9 +43,9 @@ pub record IsSqueezedTo (widest : ℕ) (p q : List ℤ) : Type 0 where
 
 -- prices that are squeezed to the largest weight prove what the prices prove
 pub record NarrowingKeeps : Type 0 where
-  pub tight : (o : Obligations) (weights d : List ℕ) (p q : List ℤ) → AreWeights o weights → IsSqueezedTo most_weight p q →
+  pub tight : (o : Obligations) (weights d : List ℕ) (p q : List ℤ) → AreWeights o weights → IsSqueezedTo MOST_WEIGHT p q →
       IsLawful o d → length p ≡ length o.spends → weighted_total_of weights d ≡ weighted_bound_of o weights p →
       weighted_total_of weights d ≡ weighted_bound_of o weights q
   pub proves : (o : Obligations) (weights d : List ℕ) (p q : List ℤ) → AreWeights o weights →
-      IsSqueezedTo most_weight p q → IsNear (most_weight * length p) q → IsLawful o d → length p ≡ length o.spends →
+      IsSqueezedTo MOST_WEIGHT p q → IsNear (MOST_WEIGHT * length p) q → IsLawful o d → length p ≡ length o.spends →
       weighted_total_of weights d ≡ weighted_bound_of o weights p → ProvesWeighted o weights d q

@@ -1,6 +1,6 @@
 -- A set-off where a cent of one claim counts more than a cent of another, which one is greatest, and how prices prove it.
 use Rattle.std.specs.Prelude.{◌≡◌, ◌↔◌, ℕ, ◌+◌, ◌*◌, ◌<◌, ◌≤◌, ◌^◌, List, length, slice_index, ℤ, pos, ◌+ℤ◌, ◌-ℤ◌, ◌<ℤ◌, unsigned_abs}
-use Rattle.setoff_model.specs.Limits.{most_weight}
+use Rattle.setoff_model.specs.declared.limits.TheConstants.{MOST_WEIGHT}
 use Rattle.setoff_model.specs.Sums.{sum_below, above_zero}
 use Rattle.setoff_model.specs.Setoff.{Obligations, inflow, outflow, IsLawful, IsGreatest, InRange, Proves, price_at, parties_bound, total_of, bound_of}
 use Rattle.setoff_model.specs.CutView.{CutView, WellFormed, obligations, spends, rooms}
@@ -9,7 +9,7 @@ use Rattle.setoff_model.specs.CutView.{CutView, WellFormed, obligations, spends,
 pub record AreWeights (o : Obligations) (weights : List ℕ) : Type 0 where
   pub one_each : length weights ≡ length o.amounts
   pub some : (c : ℕ) → c < length o.amounts → 1 ≤ slice_index weights c
-  pub limit : (c : ℕ) → c < length o.amounts → slice_index weights c ≤ most_weight
+  pub limit : (c : ℕ) → c < length o.amounts → slice_index weights c ≤ MOST_WEIGHT
 
 -- the sum of weight * discharge
 abbrev pub weighted_total_of : List ℕ → List ℕ → ℕ
@@ -37,7 +37,7 @@ pub record IsWeightedGreatest (o : Obligations) (weights d : List ℕ) : Type 0 
 
 -- the price of the party at place f is from -9n to 9n for n parties
 abbrev pub InWeightedRange : Obligations → List ℤ → ℕ → Type 0
-InWeightedRange o p f = unsigned_abs (price_at p f) ≤ most_weight * length o.spends
+InWeightedRange o p f = unsigned_abs (price_at p f) ≤ MOST_WEIGHT * length o.spends
 
 -- the prices show that the discharges are greatest by these weights
 pub record ProvesWeighted (o : Obligations) (weights d : List ℕ) (p : List ℤ) : Type 0 where

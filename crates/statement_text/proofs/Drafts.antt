@@ -4,7 +4,7 @@ use Rattle.std.proofs.Common.{◌≡◌, ℕ, ◌<◌, ◌≤◌, ◌^◌, true,
 use Rattle.std.proofs.lemmas.List.{map-append, length_push, length-map, nil_from_length}
 use Rattle.std.proofs.lemmas.List.Elements.{All-nil, All-push, All-same, All-map}
 use Rattle.std.proofs.lemmas.List.Quantifiers.{all_pairs_push}
-use Rattle.setoff_model.specs.Limits.{most_amount, most_claims, most_firms}
+use Rattle.setoff_model.specs.declared.limits.TheConstants.{SUM_LIMIT, MOST_AMOUNT, MOST_CLAIMS, MOST_FIRMS}
 use Rattle.setoff_model.specs.declared.name.Key.{Key}
 use Rattle.setoff_model.specs.declared.cut.Party.{Party}
 use Rattle.setoff_model.specs.declared.cut.CutClaim.{CutClaim}
@@ -35,7 +35,7 @@ party_stated d f price s may named small = record {
   discharges = s.discharges;
 }
 
-pub claim_stated : (d : Drafted) (c : CutClaim) (discharge : ℕ) → CanBeStated d.cut d.outcome → MayBeClaim d c → is_name c.key.invoice ≡ true → discharge < 10 ^ 18
+pub claim_stated : (d : Drafted) (c : CutClaim) (discharge : ℕ) → CanBeStated d.cut d.outcome → MayBeClaim d c → is_name c.key.invoice ≡ true → discharge < SUM_LIMIT
     → CanBeStated (with_claim d c discharge).cut (with_claim d c discharge).outcome
 claim_stated d c discharge s may named small = record {
   well_formed = record {
@@ -53,7 +53,7 @@ claim_stated d c discharge s may named small = record {
   price_each = s.price_each;
   discharge_each = omega (arith, length_push d.cut.claims c, length_push d.outcome.discharges discharge, s.discharge_each);
   prices = s.prices;
-  discharges = All-push (λ x. x < 10 ^ 18) d.outcome.discharges discharge s.discharges small;
+  discharges = All-push (λ x. x < SUM_LIMIT) d.outcome.discharges discharge s.discharges small;
 }
 
 pub party_kept : (firms more : List (List ℕ)) (keys : List Key) (d : Drafted) (f : Party) (price : ℤ) → IsDraft firms keys d.cut d.outcome → MayBeParty d f → is_name f.firm ≡ true → unsigned_abs price < 10 ^ 9
@@ -64,7 +64,7 @@ party_kept firms more keys d f price i may named small e = record {
   keys_are = i.keys_are;
 }
 
-pub claim_kept : (firms : List (List ℕ)) (keys more : List Key) (d : Drafted) (c : CutClaim) (discharge : ℕ) → IsDraft firms keys d.cut d.outcome → MayBeClaim d c → is_name c.key.invoice ≡ true → discharge < 10 ^ 18
+pub claim_kept : (firms : List (List ℕ)) (keys more : List Key) (d : Drafted) (c : CutClaim) (discharge : ℕ) → IsDraft firms keys d.cut d.outcome → MayBeClaim d c → is_name c.key.invoice ≡ true → discharge < SUM_LIMIT
     → more ≡ keys ++ c.key ∷ [] → IsDraft firms more (with_claim d c discharge).cut (with_claim d c discharge).outcome
 claim_kept firms keys more d c discharge i may named small e = record {
   stated = claim_stated d c discharge i.stated may named small;
@@ -82,7 +82,7 @@ pub old_firm : (firms : List (List ℕ)) (firm : List ℕ) (r : Option ℕ) → 
 old_firm firms firm None h e new = absurd cc
 old_firm firms firm (Some p) h e new = new p [] h.0 (h.1 [])
 
-pub may_be_party : (firms : List (List ℕ)) (keys : List Key) (d : Drafted) (f : Party) (r : Option ℕ) → IsDraft firms keys d.cut d.outcome → length d.cut.claims ≡ 0 → length d.cut.parties < most_firms
+pub may_be_party : (firms : List (List ℕ)) (keys : List Key) (d : Drafted) (f : Party) (r : Option ℕ) → IsDraft firms keys d.cut d.outcome → length d.cut.claims ≡ 0 → length d.cut.parties < MOST_FIRMS
     → MatchOption r (All (λ g. g ≢ f.firm) firms) (λ p. (p < length firms) × ((e : List ℕ) → get_or firms p e ≡ f.firm)) → is_some r ≡ false → IsWindowOf d.cut.kind f → MayBeParty d f
 may_be_party firms keys d f r i first few place e window = record {
   first = nil_from_length d.cut.claims first;
@@ -110,8 +110,8 @@ firms_of firms keys d i p lt =
 abbrev claim_of : Key → ℕ → ℕ → ℕ → CutClaim
 claim_of key debtor creditor amount = record { key = key; debtor = debtor; creditor = creditor; amount = amount }
 
-pub may_be_claim : (firms : List (List ℕ)) (keys : List Key) (d : Drafted) (key : Key) (debtor : List ℕ) (amount p q : ℕ) → IsDraft firms keys d.cut d.outcome → length d.cut.claims < most_claims
-    → All (λ k. k ≢ key) keys → (q < length firms) × ((e : List ℕ) → get_or firms q e ≡ key.creditor) → (p < length firms) × ((e : List ℕ) → get_or firms p e ≡ debtor) → p ≢ q → 1 ≤ amount → amount ≤ most_amount
+pub may_be_claim : (firms : List (List ℕ)) (keys : List Key) (d : Drafted) (key : Key) (debtor : List ℕ) (amount p q : ℕ) → IsDraft firms keys d.cut d.outcome → length d.cut.claims < MOST_CLAIMS
+    → All (λ k. k ≢ key) keys → (q < length firms) × ((e : List ℕ) → get_or firms q e ≡ key.creditor) → (p < length firms) × ((e : List ℕ) → get_or firms p e ≡ debtor) → p ≢ q → 1 ≤ amount → amount ≤ MOST_AMOUNT
     → MayBeClaim d (claim_of key p q amount) × IsClaimOf d.cut.parties key debtor amount (claim_of key p q amount)
 may_be_claim firms keys d key debtor amount p q i few new creditor_at debtor_at apart some small =
     let creditor = firms_of firms keys d i q creditor_at.0 in

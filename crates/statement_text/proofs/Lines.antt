@@ -2,7 +2,7 @@
 use Rattle.std.specs.Prelude.{ℤ, unsigned_abs, All}
 use Rattle.std.proofs.Common.{◌≡◌, ℕ, ◌<◌, ◌≤◌, ◌^◌, true, List, [], ◌∷◌, ◌++◌, get_or, drop, map, refl, sym, ap, subst, ◌∙◌, arith, append_assoc}
 use Rattle.std.specs.List.{AllByRecursion}
-use Rattle.setoff_model.specs.Limits.{most_window}
+use Rattle.setoff_model.specs.declared.limits.TheConstants.{SUM_LIMIT, MOST_WINDOW}
 use Rattle.setoff_model.specs.declared.kind.Kind.{Kind}
 use Rattle.setoff_model.specs.declared.kind.Kind.TheVariants.{Plain, Funded}
 use Rattle.setoff_model.specs.declared.name.Key.{Key}
@@ -93,7 +93,7 @@ begins (x ∷ front) (y ∷ all) later h i e =
 
 -- ---- each line of a statement is in its range
 
-plain_or_funded : (kind : Kind) (f : Party) → IsWindowOf kind f → (f.spend ≤ most_window) × (f.room ≤ most_window)
+plain_or_funded : (kind : Kind) (f : Party) → IsWindowOf kind f → (f.spend ≤ MOST_WINDOW) × (f.room ≤ MOST_WINDOW)
 plain_or_funded Plain f h = (omega (arith, h.0), omega (arith, h.1))
 plain_or_funded Funded f h = h
 
@@ -114,13 +114,13 @@ debtor_named : (parties : List Party) (c : CutClaim) → All (λ f. is_name f.fi
 debtor_named parties c n h = ap is_name (firm_is parties c.debtor no_party h.debtor) ∙ n c.debtor no_party h.debtor
 
 claims_in_range : (parties : List Party) (cs : List CutClaim) (ds : List ℕ) (rest : List Line) → All (λ f. is_name f.firm ≡ true) parties → All (IsClaimAmong parties) cs → All (λ c. is_name c.key.invoice ≡ true) cs
-    → All (λ d. d < 10 ^ 18) ds → AllByRecursion IsInRange rest → AllByRecursion IsInRange (claim_lines parties cs ds ++ rest)
+    → All (λ d. d < SUM_LIMIT) ds → AllByRecursion IsInRange rest → AllByRecursion IsInRange (claim_lines parties cs ds ++ rest)
 claims_in_range parties [] ds rest n a i s h = h
 claims_in_range parties (c ∷ cs) [] rest n a i s h = h
 claims_in_range parties (c ∷ cs) (d ∷ ds) rest n a i s h =
     let among = All-head (IsClaimAmong parties) c cs a in (
-      (creditor_named parties c n among, All-head (λ c. is_name c.key.invoice ≡ true) c cs i, debtor_named parties c n among, among.some, omega (arith, among.limit), All-head (λ d. d < 10 ^ 18) d ds s),
-      claims_in_range parties cs ds rest n (All-tail (IsClaimAmong parties) c cs a) (All-tail (λ c. is_name c.key.invoice ≡ true) c cs i) (All-tail (λ d. d < 10 ^ 18) d ds s) h,
+      (creditor_named parties c n among, All-head (λ c. is_name c.key.invoice ≡ true) c cs i, debtor_named parties c n among, among.some, omega (arith, among.limit), All-head (λ d. d < SUM_LIMIT) d ds s),
+      claims_in_range parties cs ds rest n (All-tail (IsClaimAmong parties) c cs a) (All-tail (λ c. is_name c.key.invoice ≡ true) c cs i) (All-tail (λ d. d < SUM_LIMIT) d ds s) h,
     )
 
 pub statement_in_range : (cut : CutView) (outcome : OutcomeView) → CanBeStated cut outcome → AllByRecursion IsInRange (front_of cut outcome ++ line.End ∷ [])

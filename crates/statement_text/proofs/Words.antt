@@ -1,7 +1,7 @@
 -- A line and its fields.
 use Rattle.std.specs.Prelude.{codes, ℤ, pos, negsuc, unsigned_abs, Option, Some, None, IfNone}
 use Rattle.std.proofs.Common.{◌≡◌, ℕ, suc, ◌<◌, ◌≤◌, ◌^◌, List, [], ◌∷◌, get_or, refl, sym, ap, ◌∙◌, arith, decimal}
-use Rattle.setoff_model.specs.Limits.{most_window}
+use Rattle.setoff_model.specs.declared.limits.TheConstants.{SUM_LIMIT, MOST_WINDOW}
 use Rattle.setoff_model.specs.declared.kind.Kind.{Kind}
 use Rattle.setoff_model.specs.declared.kind.Kind.TheVariants.{Plain, Funded}
 use Rattle.setoff_model.specs.Texts.{cents_text, integer_text, kind_text}
@@ -17,7 +17,7 @@ use Rattle.statement_text.specs.Lines.{line_fields, line_text, IsInRange, AreNoF
 pub same_number : (text : List ℕ) (a b : ℕ) → text ≡ decimal a → text ≡ decimal b → a < 2 ^ 64 → b < 2 ^ 32 → a ≡ b
 same_number text a b e f la lb = spelling_law.whole a b la (omega arith) (sym e ∙ f)
 
-pub same_cents : (text : List ℕ) (a b : ℕ) → text ≡ cents_text a → text ≡ cents_text b → a < 10 ^ 18 → b < 10 ^ 18 → a ≡ b
+pub same_cents : (text : List ℕ) (a b : ℕ) → text ≡ cents_text a → text ≡ cents_text b → a < SUM_LIMIT → b < SUM_LIMIT → a ≡ b
 same_cents text a b e f la lb = spelling_law.cents a b la lb (sym e ∙ f)
 
 -- ---- fields that are no line's
@@ -26,13 +26,13 @@ pub none : {A : Type 0} {P : Type 0} (r : Option A) → P → IfNone r P
 none None h = h
 none (Some x) h = tt
 
-pub no_room : (firm spend room price : List ℕ) → ((c : ℕ) → c ≤ most_window → room ≡ cents_text c → ⊥) → AreNoFields (codes "PARTY" ∷ firm ∷ spend ∷ room ∷ price ∷ [])
+pub no_room : (firm spend room price : List ℕ) → ((c : ℕ) → c ≤ MOST_WINDOW → room ≡ cents_text c → ⊥) → AreNoFields (codes "PARTY" ∷ firm ∷ spend ∷ room ∷ price ∷ [])
 no_room firm spend room price bad (line.Head round kind) r e = absurd cc
 no_room firm spend room price bad (line.Party f p) r e = bad f.room r.2 (ap (λ (fs : List (List ℕ)). get_or fs 3 []) e)
 no_room firm spend room price bad (line.Claim key debtor amount d) r e = absurd cc
 no_room firm spend room price bad line.End r e = absurd cc
 
-pub no_discharge : (creditor invoice debtor amount discharge : List ℕ) → ((c : ℕ) → c < 10 ^ 18 → discharge ≡ cents_text c → ⊥) → AreNoFields (codes "CLAIM" ∷ creditor ∷ invoice ∷ debtor ∷ amount ∷ discharge ∷ [])
+pub no_discharge : (creditor invoice debtor amount discharge : List ℕ) → ((c : ℕ) → c < SUM_LIMIT → discharge ≡ cents_text c → ⊥) → AreNoFields (codes "CLAIM" ∷ creditor ∷ invoice ∷ debtor ∷ amount ∷ discharge ∷ [])
 no_discharge creditor invoice debtor amount discharge bad (line.Head round kind) r e = absurd cc
 no_discharge creditor invoice debtor amount discharge bad (line.Party f p) r e = absurd cc
 no_discharge creditor invoice debtor amount discharge bad (line.Claim key name cents d) r e = bad d r.5 (ap (λ (fs : List (List ℕ)). get_or fs 5 []) e)

@@ -10,6 +10,7 @@ use Rattle.std.proofs.lemmas.Fmt.{decimal_by_steps}
 use Rattle.std.proofs.lemmas.List.{length-append, get_or_append_left}
 use Rattle.std.proofs.lemmas.List.Elements.{All-append, All-nil, All-cons, All-weaker}
 use Rattle.std.proofs.lemmas.List.Sums.{AllPass-from_list_all}
+use Rattle.setoff_model.specs.declared.limits.TheConstants.{SUM_LIMIT}
 use Rattle.setoff_model.specs.declared.kind.Kind.{Kind}
 use Rattle.setoff_model.specs.declared.kind.Kind.TheVariants.{Plain, Funded}
 use Rattle.setoff_model.specs.Names.{is_name, is_letter, is_name_byte}
@@ -83,7 +84,7 @@ name_plain (c ∷ cs) h =
 decimal_plain : (n : ℕ) → n < 2 ^ 64 → IsPlain (decimal n)
 decimal_plain n lt = decimal_by_steps (λ m ds. IsPlain ds) (λ m small. one_plain (48 + m) (omega arith)) (λ m ds large h. append_plain ds ((48 + m % 10) ∷ []) h (one_plain (48 + m % 10) (omega arith))) n lt
 
-cents_plain : (n : ℕ) → n < 10 ^ 18 → IsPlain (cents_text n)
+cents_plain : (n : ℕ) → n < SUM_LIMIT → IsPlain (cents_text n)
 cents_plain n lt =
     append_plain (decimal (n / 100) ++ codes ".") ((48 + n % 100 / 10) ∷ (48 + n % 10) ∷ [])
     (append_plain (decimal (n / 100)) (codes ".") (decimal_plain (n / 100) (omega arith)) (known_plain (codes ".") refl))

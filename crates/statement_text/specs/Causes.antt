@@ -1,6 +1,6 @@
 -- What is wrong with a line of a statement: the first of the causes that applies.
 use Rattle.std.specs.Prelude.{◌≡◌, ◌≢◌, ◌⊎◌, ℕ, ◌+◌, ◌<◌, ◌≤◌, List, [], ◌∷◌, ◌++◌, length, All}
-use Rattle.setoff_model.specs.Limits.{most_claims, most_firms}
+use Rattle.setoff_model.specs.declared.limits.TheConstants.{MOST_CLAIMS, MOST_FIRMS}
 use Rattle.setoff_model.specs.declared.kind.Kind.{Kind}
 use Rattle.setoff_model.specs.declared.name.Key.{Key}
 use Rattle.setoff_model.specs.declared.cut.Party.{Party}
@@ -26,19 +26,19 @@ IsNoKey d key = All (λ c. c.key ≢ key) d.cut.claims
 -- before, or its window is none of the kind.
 abbrev pub HasPartyCause : Drafted → Party → StatementCause → Type 0
 HasPartyCause d f causes.Shape = d.cut.claims ≡ [] → ⊥
-HasPartyCause d f causes.Limit = (d.cut.claims ≡ []) × (most_firms ≤ length d.cut.parties)
-HasPartyCause d f causes.Repeat = (d.cut.claims ≡ []) × (length d.cut.parties < most_firms) × (IsNoFirm d f.firm → ⊥)
-HasPartyCause d f causes.Window = (d.cut.claims ≡ []) × (length d.cut.parties < most_firms) × IsNoFirm d f.firm × (IsWindowOf d.cut.kind f → ⊥)
+HasPartyCause d f causes.Limit = (d.cut.claims ≡ []) × (MOST_FIRMS ≤ length d.cut.parties)
+HasPartyCause d f causes.Repeat = (d.cut.claims ≡ []) × (length d.cut.parties < MOST_FIRMS) × (IsNoFirm d f.firm → ⊥)
+HasPartyCause d f causes.Window = (d.cut.claims ≡ []) × (length d.cut.parties < MOST_FIRMS) × IsNoFirm d f.firm × (IsWindowOf d.cut.kind f → ⊥)
 HasPartyCause d f _ = ⊥
 
 -- Why a CLAIM line may not stand next: there are as many claims as there may be, or its key stood before, or its creditor or its
 -- debtor is no party, or they are one firm.
 abbrev pub HasClaimCause : Drafted → Key → List ℕ → StatementCause → Type 0
-HasClaimCause d key debtor causes.Limit = most_claims ≤ length d.cut.claims
-HasClaimCause d key debtor causes.Repeat = (length d.cut.claims < most_claims) × (IsNoKey d key → ⊥)
-HasClaimCause d key debtor causes.NoParty = (length d.cut.claims < most_claims) × IsNoKey d key × (IsNoFirm d key.creditor ⊎ IsNoFirm d debtor)
+HasClaimCause d key debtor causes.Limit = MOST_CLAIMS ≤ length d.cut.claims
+HasClaimCause d key debtor causes.Repeat = (length d.cut.claims < MOST_CLAIMS) × (IsNoKey d key → ⊥)
+HasClaimCause d key debtor causes.NoParty = (length d.cut.claims < MOST_CLAIMS) × IsNoKey d key × (IsNoFirm d key.creditor ⊎ IsNoFirm d debtor)
 HasClaimCause d key debtor causes.SameFirm =
-    (length d.cut.claims < most_claims) × IsNoKey d key × (IsNoFirm d key.creditor → ⊥) × (IsNoFirm d debtor → ⊥) × (key.creditor ≡ debtor)
+    (length d.cut.claims < MOST_CLAIMS) × IsNoKey d key × (IsNoFirm d key.creditor → ⊥) × (IsNoFirm d debtor → ⊥) × (key.creditor ≡ debtor)
 HasClaimCause d key debtor _ = ⊥
 
 -- why a line after the first may not stand next

@@ -1,6 +1,6 @@
 -- Statements as far as they are read.
 use Rattle.std.specs.Prelude.{◌≡◌, ◌≢◌, ℕ, ◌<◌, List, [], ◌∷◌, ◌++◌, length, map, All, ℤ}
-use Rattle.setoff_model.specs.Limits.{most_claims, most_firms}
+use Rattle.setoff_model.specs.declared.limits.TheConstants.{MOST_CLAIMS, MOST_FIRMS}
 use Rattle.setoff_model.specs.declared.kind.Kind.{Kind}
 use Rattle.setoff_model.specs.declared.name.Key.{Key}
 use Rattle.setoff_model.specs.declared.cut.Party.{Party}
@@ -44,13 +44,13 @@ with_claim d c discharge = record {
 -- the party may stand next
 pub record MayBeParty (d : Drafted) (f : Party) : Type 0 where
   pub first : d.cut.claims ≡ []
-  pub few : length d.cut.parties < most_firms
+  pub few : length d.cut.parties < MOST_FIRMS
   pub new : All (λ g. g.firm ≢ f.firm) d.cut.parties
   pub window : IsWindowOf d.cut.kind f
 
 -- the claim may stand next
 pub record MayBeClaim (d : Drafted) (c : CutClaim) : Type 0 where
-  pub few : length d.cut.claims < most_claims
+  pub few : length d.cut.claims < MOST_CLAIMS
   pub new : All (λ b. b.key ≢ c.key) d.cut.claims
   pub among : IsClaimAmong d.cut.parties c
 

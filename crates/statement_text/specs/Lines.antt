@@ -1,6 +1,6 @@
 -- The lines of a statement: a word and its fields.
 use Rattle.std.specs.Prelude.{◌≡◌, ℕ, ◌<◌, ◌≤◌, ◌^◌, true, List, [], ◌∷◌, codes, decimal, ℤ, unsigned_abs}
-use Rattle.setoff_model.specs.Limits.{most_amount, most_rounds, most_window}
+use Rattle.setoff_model.specs.declared.limits.TheConstants.{SUM_LIMIT, MOST_AMOUNT, MOST_ROUNDS, MOST_WINDOW}
 use Rattle.setoff_model.specs.declared.kind.Kind.{Kind}
 use Rattle.setoff_model.specs.declared.name.Key.{Key}
 use Rattle.setoff_model.specs.declared.cut.Party.{Party}
@@ -35,9 +35,9 @@ line_text l = line_of (line_fields l)
 
 -- each field is in its range
 abbrev pub IsInRange : Line → Type 0
-IsInRange (line.Head round kind) = (1 ≤ round) × (round ≤ most_rounds)
-IsInRange (line.Party f price) = (is_name f.firm ≡ true) × (f.spend ≤ most_window) × (f.room ≤ most_window) × (unsigned_abs price < 10 ^ 9)
-IsInRange (line.Claim key debtor amount discharge) = (is_name key.creditor ≡ true) × (is_name key.invoice ≡ true) × (is_name debtor ≡ true) × (1 ≤ amount) × (amount ≤ most_amount) × (discharge < 10 ^ 18)
+IsInRange (line.Head round kind) = (1 ≤ round) × (round ≤ MOST_ROUNDS)
+IsInRange (line.Party f price) = (is_name f.firm ≡ true) × (f.spend ≤ MOST_WINDOW) × (f.room ≤ MOST_WINDOW) × (unsigned_abs price < 10 ^ 9)
+IsInRange (line.Claim key debtor amount discharge) = (is_name key.creditor ≡ true) × (is_name key.invoice ≡ true) × (is_name debtor ≡ true) × (1 ≤ amount) × (amount ≤ MOST_AMOUNT) × (discharge < SUM_LIMIT)
 IsInRange line.End = Unit {0}
 
 -- fields that are a line's, and fields that are no line's

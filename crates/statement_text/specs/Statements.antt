@@ -1,7 +1,7 @@
 -- Statements: a cut and its outcome as lines of text.
 use Rattle.std.specs.Prelude.{◌≡◌, ℕ, ◌+◌, ◌<◌, ◌≤◌, ◌^◌, ◌⊎◌, true, List, [], ◌∷◌, ◌++◌, length, map, slice_index_or, flat_map, codes, All, ℤ, unsigned_abs}
 use Rattle.std.specs.Str.Lines.{lines}
-use Rattle.setoff_model.specs.Limits.{most_rounds}
+use Rattle.setoff_model.specs.declared.limits.TheConstants.{SUM_LIMIT, MOST_ROUNDS}
 use Rattle.setoff_model.specs.declared.cut.Party.{Party}
 use Rattle.setoff_model.specs.declared.cut.CutClaim.{CutClaim}
 use Rattle.setoff_model.specs.Names.{is_name}
@@ -48,13 +48,13 @@ statement_bytes cut outcome = flat_map (λ text. text ++ codes "\n") (statement_
 pub record CanBeStated (cut : CutView) (outcome : OutcomeView) : Type 0 where
   pub well_formed : WellFormed cut
   pub round_from : 1 ≤ cut.round
-  pub round_below : cut.round ≤ most_rounds
+  pub round_below : cut.round ≤ MOST_ROUNDS
   pub firms : All (λ f. is_name f.firm ≡ true) cut.parties
   pub invoices : All (λ c. is_name c.key.invoice ≡ true) cut.claims
   pub price_each : length outcome.prices ≡ length cut.parties
   pub discharge_each : length outcome.discharges ≡ length cut.claims
   pub prices : All (λ p. unsigned_abs p < 10 ^ 9) outcome.prices
-  pub discharges : All (λ d. d < 10 ^ 18) outcome.discharges
+  pub discharges : All (λ d. d < SUM_LIMIT) outcome.discharges
 
 -- the lines state this cut and this outcome
 pub record IsStatement (lines : List (List ℕ)) (cut : CutView) (outcome : OutcomeView) : Type 0 where

@@ -1,6 +1,6 @@
 //! A statement as far as it is read.
 ghost use Rattle.std.specs.Prelude.{◌≡◌, ◌≢◌, ◌↔◌, ◌++◌, ◌∷◌, [], All, OnOk, ◌<◌, ◌≤◌, ◌^◌, true, IfErr, IfOk, IfSome, OnErr, IsNone, IsTrue, unsigned_abs};
-ghost use Rattle.setoff_model.specs.Limits.{most_amount, most_window};
+ghost use Rattle.setoff_model.specs.declared.limits.TheConstants.{SUM_LIMIT, MOST_AMOUNT, MOST_WINDOW};
 ghost use Rattle.setoff_model.specs.CutView.{IsWindowOf};
 
 use crate::error::StatementCause;
@@ -36,8 +36,8 @@ impl Model for Draft {
 
 // Whether a party's window, of at most 2 * 10^15 cents either way, is one of the kind.
 fn has_window_of(kind: Kind, party: &Party) -> bool
-    requires spend { party.now.spend ≤ most_window }
-    requires room { party.now.room ≤ most_window }
+    requires spend { party.now.spend ≤ MOST_WINDOW }
+    requires room { party.now.room ≤ MOST_WINDOW }
     ensures { IsTrue result ↔ IsWindowOf kind party.now }
 {
     match kind {
@@ -111,8 +111,8 @@ impl Draft {
 
     /// Why a party may not stand next; None exactly where it may. Its spend and room are at most 2 * 10^15 cents.
     pub(crate) fn party_refusal(&self, party: &Party) -> Option<StatementCause>
-        requires spend { party.now.spend ≤ most_window }
-        requires room { party.now.room ≤ most_window }
+        requires spend { party.now.spend ≤ MOST_WINDOW }
+        requires room { party.now.room ≤ MOST_WINDOW }
         ensures refused { IsNone result ↔ MayBeParty self.now party.now }
         ensures cause { IfSome result (HasPartyCause self.now party.now) }
         ensures stated { CanBeStated self.now.cut self.now.outcome }
@@ -156,7 +156,7 @@ impl Draft {
         amount: u64,
     ) -> Result<CutClaim, StatementCause>
         requires some { 1 ≤ amount }
-        requires amount { amount ≤ most_amount }
+        requires amount { amount ≤ MOST_AMOUNT }
         ensures found { IfOk result (λ c. MayBeClaim self.now c × IsClaimOf self.now.cut.parties key.now debtor.now amount c) }
         ensures refused { OnErr result ((c : CutClaim) → MayBeClaim self.now c → IsClaimOf self.now.cut.parties key.now debtor.now amount c → ⊥) }
         ensures cause { IfErr result (HasClaimCause self.now key.now debtor.now) }
@@ -189,7 +189,7 @@ impl Draft {
     pub(crate) fn with_claim(mut self, claim: CutClaim, discharge: u64) -> Result<Draft, AllocError>
         requires next { MayBeClaim self claim }
         requires named { is_name claim.key.invoice ≡ true }
-        requires discharge { discharge < 10 ^ 18 }
+        requires discharge { discharge < SUM_LIMIT }
         ensures more { IfOk result (λ d. d ≡ with_claim self claim discharge) }
         ensures stated { IfOk result (λ d. CanBeStated d.cut d.outcome) }
     {

@@ -1,6 +1,5 @@
 //! The line that a text is, read by its fields.
 ghost use Rattle.std.specs.Prelude.{◌≡◌, ◌∷◌, ◌<◌, ◌≤◌, ℕ, [], codes, decimal, map, IfOk, IfSome, IfNone};
-ghost use Rattle.setoff_model.specs.Limits.{most_rounds, most_window};
 ghost use Rattle.setoff_model.specs.Texts.{cents_text};
 ghost use Rattle.statement_text.specs.Lines.{AreFields, AreNoFields, IsLine, IsNoLine};
 
@@ -16,7 +15,7 @@ use text_lines::{fields_of, joined_fields_are_cut_again};
 #[tactic(auto, using(crate::proofs::Words::same_number))]
 fn round_at(field: &[u8]) -> Option<u32>
     ensures found { IfSome result (λ n. (field.now ≡ decimal n) × (1 ≤ n)) }
-    ensures none { IfNone result ((n : ℕ) → 1 ≤ n → n ≤ most_rounds → field.now ≡ decimal n → ⊥) }
+    ensures none { IfNone result ((n : ℕ) → 1 ≤ n → n ≤ MOST_ROUNDS → field.now ≡ decimal n → ⊥) }
 {
     match read_number(field) {
         Some(number) if 1 <= number && number <= u64::from(MOST_ROUNDS) => Some(number as u32),
@@ -27,8 +26,8 @@ fn round_at(field: &[u8]) -> Option<u32>
 // The spend or the room that a field is.
 #[tactic(auto, using(crate::proofs::Words::same_cents))]
 fn window_at(field: &[u8]) -> Option<u64>
-    ensures found { IfSome result (λ c. (field.now ≡ cents_text c) × (c ≤ most_window)) }
-    ensures none { IfNone result ((c : ℕ) → c ≤ most_window → field.now ≡ cents_text c → ⊥) }
+    ensures found { IfSome result (λ c. (field.now ≡ cents_text c) × (c ≤ MOST_WINDOW)) }
+    ensures none { IfNone result ((c : ℕ) → c ≤ MOST_WINDOW → field.now ≡ cents_text c → ⊥) }
 {
     match read_sum(field) {
         Some(cents) if cents <= MOST_WINDOW => Some(cents),

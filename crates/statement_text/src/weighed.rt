@@ -1,7 +1,7 @@
 //! Writing weighted set-offs.
 ghost use Rattle.std.specs.Prelude.{◌≡◌, ◌+◌, ◌^◌, ◌<◌, ◌≤◌, ◌++◌, length, codes, slice_index_or, vec_len, vec_capacity};
 ghost use Rattle.text_lines.specs.Fields.{line_of};
-ghost use Rattle.setoff_model.specs.Limits.{line_bytes};
+ghost use Rattle.setoff_model.specs.declared.limits.TheConstants.{SUM_LIMIT, LINE_BYTES};
 ghost use Rattle.setoff_model.specs.declared.cut.CutClaim.{CutClaim};
 ghost use Rattle.setoff_model.specs.CutView.{WellFormed};
 ghost use Rattle.statement_text.specs.Statements.{firm_at};
@@ -12,7 +12,7 @@ use setoff_model::{Cut, Kind, put, write_cents, write_whole};
 
 /// Writes the line `WEIGHED KIND`, with its line feed, into a buffer that has `LINE_BYTES` spare.
 pub fn write_weighed_head(buffer: &mut Vec<u8>, kind: Kind)
-    requires { vec_len buffer.old + line_bytes ≤ vec_capacity buffer.old }
+    requires { vec_len buffer.old + LINE_BYTES ≤ vec_capacity buffer.old }
     ensures text { buffer.new.items ≡ buffer.old.items ++ line_of (weighed_head_fields kind) ++ codes "\n" }
     ensures room { vec_capacity buffer.old ≤ vec_capacity buffer.new }
 {
@@ -27,8 +27,8 @@ pub fn write_weighed_head(buffer: &mut Vec<u8>, kind: Kind)
 pub fn write_weighed_claim(buffer: &mut Vec<u8>, cut: &Cut, place: u32, discharge: u64, weight: u32)
     requires cut { WellFormed cut.now }
     requires place { place < length cut.now.claims }
-    requires discharge { discharge < 10 ^ 18 }
-    requires spare { vec_len buffer.old + line_bytes ≤ vec_capacity buffer.old }
+    requires discharge { discharge < SUM_LIMIT }
+    requires spare { vec_len buffer.old + LINE_BYTES ≤ vec_capacity buffer.old }
     ensures text { (none : CutClaim) → let c = slice_index_or cut.now.claims place none in buffer.new.items ≡ buffer.old.items ++ line_of (weighed_claim_fields c.key (firm_at cut.now.parties c.debtor) c.amount discharge weight) ++ codes "\n" }
     ensures room { vec_capacity buffer.old ≤ vec_capacity buffer.new }
 {
@@ -40,7 +40,7 @@ pub fn write_weighed_claim(buffer: &mut Vec<u8>, cut: &Cut, place: u32, discharg
 
 /// Writes the line `TOTAL total`, with its line feed, into a buffer that has `LINE_BYTES` spare.
 pub fn write_total(buffer: &mut Vec<u8>, total: u64)
-    requires { vec_len buffer.old + line_bytes ≤ vec_capacity buffer.old }
+    requires { vec_len buffer.old + LINE_BYTES ≤ vec_capacity buffer.old }
     ensures text { buffer.new.items ≡ buffer.old.items ++ line_of (total_fields total) ++ codes "\n" }
     ensures room { vec_capacity buffer.old ≤ vec_capacity buffer.new }
 {

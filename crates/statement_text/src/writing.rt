@@ -1,7 +1,7 @@
 //! Writing statements.
 ghost use Rattle.std.specs.Prelude.{◌≡◌, ◌+◌, ◌^◌, ◌<◌, ◌≤◌, ◌++◌, ◌∷◌, [], length, codes, slice_index_or, unsigned_abs, vec_len, vec_capacity};
 ghost use Rattle.text_lines.specs.Fields.{line_of};
-ghost use Rattle.setoff_model.specs.Limits.{line_bytes, most_window};
+ghost use Rattle.setoff_model.specs.declared.limits.TheConstants.{SUM_LIMIT, LINE_BYTES, MOST_WINDOW};
 ghost use Rattle.setoff_model.specs.declared.cut.CutClaim.{CutClaim};
 ghost use Rattle.setoff_model.specs.CutView.{WellFormed};
 ghost use Rattle.setoff_model.specs.Texts.{cents_text};
@@ -15,9 +15,9 @@ use setoff_model::{Cut, Key, Kind, Name, Party, put, write_number, write_sum, wr
 /// Rounds are numbered from 1.
 pub fn write_head(buffer: &mut Vec<u8>, round: u32, kind: Kind)
     requires round { 1 ≤ round }
-    requires spare { vec_len buffer.old + line_bytes ≤ vec_capacity buffer.old }
+    requires spare { vec_len buffer.old + LINE_BYTES ≤ vec_capacity buffer.old }
     ensures text { buffer.new.items ≡ buffer.old.items ++ line_of (head_fields round kind) ++ codes "\n" }
-    ensures len { vec_len buffer.new ≤ vec_len buffer.old + line_bytes }
+    ensures len { vec_len buffer.new ≤ vec_len buffer.old + LINE_BYTES }
     ensures room { vec_capacity buffer.old ≤ vec_capacity buffer.new }
 {
     put(buffer, b"ROUND ");
@@ -33,12 +33,12 @@ pub fn write_head(buffer: &mut Vec<u8>, round: u32, kind: Kind)
 ///
 /// Spend and room are at most 2 * 10^15 cents, and the price has at most 9 digits.
 pub fn write_party(buffer: &mut Vec<u8>, party: &Party, price: i64)
-    requires spend { party.now.spend ≤ most_window }
-    requires room { party.now.room ≤ most_window }
+    requires spend { party.now.spend ≤ MOST_WINDOW }
+    requires room { party.now.room ≤ MOST_WINDOW }
     requires price { unsigned_abs price < 10 ^ 9 }
-    requires spare { vec_len buffer.old + line_bytes ≤ vec_capacity buffer.old }
+    requires spare { vec_len buffer.old + LINE_BYTES ≤ vec_capacity buffer.old }
     ensures text { buffer.new.items ≡ buffer.old.items ++ line_of (party_fields party.now price) ++ codes "\n" }
-    ensures len { vec_len buffer.new ≤ vec_len buffer.old + line_bytes }
+    ensures len { vec_len buffer.new ≤ vec_len buffer.old + LINE_BYTES }
     ensures room { vec_capacity buffer.old ≤ vec_capacity buffer.new }
 {
     put(buffer, b"PARTY ");
@@ -55,10 +55,10 @@ pub fn write_party(buffer: &mut Vec<u8>, party: &Party, price: i64)
 pub fn write_claim(buffer: &mut Vec<u8>, cut: &Cut, place: u32, discharge: u64)
     requires cut { WellFormed cut.now }
     requires place { place < length cut.now.claims }
-    requires discharge { discharge < 10 ^ 18 }
-    requires spare { vec_len buffer.old + line_bytes ≤ vec_capacity buffer.old }
+    requires discharge { discharge < SUM_LIMIT }
+    requires spare { vec_len buffer.old + LINE_BYTES ≤ vec_capacity buffer.old }
     ensures text { (none : CutClaim) → let c = slice_index_or cut.now.claims place none in buffer.new.items ≡ buffer.old.items ++ line_of (claim_fields c.key (firm_at cut.now.parties c.debtor) c.amount discharge) ++ codes "\n" }
-    ensures len { vec_len buffer.new ≤ vec_len buffer.old + line_bytes }
+    ensures len { vec_len buffer.new ≤ vec_len buffer.old + LINE_BYTES }
     ensures room { vec_capacity buffer.old ≤ vec_capacity buffer.new }
 {
     put_claim_at(buffer, cut, place, discharge);
@@ -67,9 +67,9 @@ pub fn write_claim(buffer: &mut Vec<u8>, cut: &Cut, place: u32, discharge: u64)
 
 /// Writes the line `END`, with its line feed, into a buffer that has `LINE_BYTES` spare.
 pub fn write_end(buffer: &mut Vec<u8>)
-    requires { vec_len buffer.old + line_bytes ≤ vec_capacity buffer.old }
+    requires { vec_len buffer.old + LINE_BYTES ≤ vec_capacity buffer.old }
     ensures text { buffer.new.items ≡ buffer.old.items ++ codes "END\n" }
-    ensures len { vec_len buffer.new ≤ vec_len buffer.old + line_bytes }
+    ensures len { vec_len buffer.new ≤ vec_len buffer.old + LINE_BYTES }
     ensures room { vec_capacity buffer.old ≤ vec_capacity buffer.new }
 {
     put(buffer, b"END\n");
@@ -79,8 +79,8 @@ pub fn write_end(buffer: &mut Vec<u8>)
 pub(crate) fn put_claim_at(buffer: &mut Vec<u8>, cut: &Cut, place: u32, discharge: u64)
     requires cut { WellFormed cut.now }
     requires place { place < length cut.now.claims }
-    requires discharge { discharge < 10 ^ 18 }
-    requires spare { vec_len buffer.old + line_bytes ≤ vec_capacity buffer.old }
+    requires discharge { discharge < SUM_LIMIT }
+    requires spare { vec_len buffer.old + LINE_BYTES ≤ vec_capacity buffer.old }
     ensures text { (none : CutClaim) → let c = slice_index_or cut.now.claims place none in buffer.new.items ≡ buffer.old.items ++ line_of (claim_fields c.key (firm_at cut.now.parties c.debtor) c.amount discharge) }
     ensures len { vec_len buffer.new ≤ vec_len buffer.old + 100 }
     ensures room { vec_capacity buffer.old ≤ vec_capacity buffer.new }
@@ -91,9 +91,9 @@ pub(crate) fn put_claim_at(buffer: &mut Vec<u8>, cut: &Cut, place: u32, discharg
 }
 
 fn put_claim(buffer: &mut Vec<u8>, key: &Key, debtor: &Name, amount: u64, discharge: u64)
-    requires amount { amount < 10 ^ 18 }
-    requires discharge { discharge < 10 ^ 18 }
-    requires spare { vec_len buffer.old + line_bytes ≤ vec_capacity buffer.old }
+    requires amount { amount < SUM_LIMIT }
+    requires discharge { discharge < SUM_LIMIT }
+    requires spare { vec_len buffer.old + LINE_BYTES ≤ vec_capacity buffer.old }
     ensures text { buffer.new.items ≡ buffer.old.items ++ line_of (claim_fields key.now debtor.now amount discharge) }
     ensures len { vec_len buffer.new ≤ vec_len buffer.old + 100 }
     ensures room { vec_capacity buffer.old ≤ vec_capacity buffer.new }
@@ -120,8 +120,8 @@ fn put_names(buffer: &mut Vec<u8>, key: &Key, debtor: &Name)
 
 // Two sums.
 fn put_sums(buffer: &mut Vec<u8>, first: u64, second: u64)
-    requires first { first < 10 ^ 18 }
-    requires second { second < 10 ^ 18 }
+    requires first { first < SUM_LIMIT }
+    requires second { second < SUM_LIMIT }
     requires spare { vec_len buffer.old + 80 ≤ vec_capacity buffer.old }
     ensures text { buffer.new.items ≡ buffer.old.items ++ line_of (cents_text first ∷ cents_text second ∷ []) }
     ensures len { vec_len buffer.new ≤ vec_len buffer.old + 39 }

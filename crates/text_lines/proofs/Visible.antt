@@ -8,6 +8,7 @@ use Rattle.std.proofs.lemmas.List.Sums.{AllPass-from_list_all}
 use Rattle.std.proofs.lemmas.List.Elements.{All-append, All-nil, All-cons}
 use Rattle.std.proofs.lemmas.List.Splits.{slice_split_at}
 use Rattle.std.proofs.lemmas.Fmt.{decimal_by_steps}
+use Rattle.setoff_model.specs.declared.limits.TheConstants.{SUM_LIMIT}
 use Rattle.setoff_model.specs.Names.{is_name, is_letter, is_name_byte}
 use Rattle.setoff_model.specs.Texts.{cents_text, integer_text}
 use Rattle.text_lines.specs.Fields.{line_of, IsVisible, VisibleLaw, EndedLaw}
@@ -58,7 +59,7 @@ decimal_visible n lt = decimal_by_steps (λ m ds. IsVisible ds) (λ m small. one
 pub two : (a b : ℕ) → 32 < a → 32 < b → IsVisible (a ∷ b ∷ [])
 two a b ha hb = join (a ∷ []) (b ∷ []) (one a ha) (one b hb)
 
-cents_visible : (n : ℕ) → n < 10 ^ 18 → IsVisible (cents_text n)
+cents_visible : (n : ℕ) → n < SUM_LIMIT → IsVisible (cents_text n)
 cents_visible n lt =
     join (decimal (n / 100) ++ codes ".") ((48 + n % 100 / 10) ∷ (48 + n % 10) ∷ [])
     (join (decimal (n / 100)) (codes ".") (decimal_visible (n / 100) (omega arith)) (one 46 (omega arith)))

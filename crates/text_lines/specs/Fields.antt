@@ -3,6 +3,7 @@ use Rattle.std.specs.Prelude.{Bool, List, codes, decimal, false, true, unsigned_
 use Rattle.std.specs.Str.Lines.{lines}
 use Rattle.std.specs.List.{slice_split, join_with_byte, All, AllByRecursion}
 use Rattle.std.proofs.Common.{eqb}
+use Rattle.setoff_model.specs.declared.limits.TheConstants.{SUM_LIMIT}
 use Rattle.setoff_model.specs.Names.{is_name}
 use Rattle.setoff_model.specs.Texts.{cents_text, integer_text}
 
@@ -28,7 +29,7 @@ pub record JoinLaw : Type 0 where
 pub record NoSpaceLaw : Type 0 where
   pub names : (text : List ℕ) → is_name text ≡ true → HasNoSpace text
   pub whole : (n : ℕ) → n < 2 ^ 64 → HasNoSpace (decimal n)
-  pub cents : (n : ℕ) → n < 10 ^ 18 → HasNoSpace (cents_text n)
+  pub cents : (n : ℕ) → n < SUM_LIMIT → HasNoSpace (cents_text n)
 
 -- each byte is above a space, so it is neither a space nor a byte that ends lines
 abbrev pub IsVisible : List ℕ → Type 0
@@ -38,7 +39,7 @@ IsVisible text = All (λ (b : ℕ). 32 < b) text
 pub record VisibleLaw : Type 0 where
   pub names : (text : List ℕ) → is_name text ≡ true → IsVisible text
   pub whole : (n : ℕ) → n < 2 ^ 64 → IsVisible (decimal n)
-  pub cents : (n : ℕ) → n < 10 ^ 18 → IsVisible (cents_text n)
+  pub cents : (n : ℕ) → n < SUM_LIMIT → IsVisible (cents_text n)
   pub integers : (z : ℤ) → unsigned_abs z < 10 ^ 9 → IsVisible (integer_text z)
 
 -- a line of visible fields that is ended by a line feed is the first line

@@ -2,7 +2,7 @@
 use Rattle.std.proofs.Common.{◌≡◌, ℕ, zero, suc, ◌+◌, ◌-◌, ◌*◌, ◌%◌, ◌<◌, ◌≤◌, Bool, true, false, [], ◌∷◌, ◌++◌, map, refl, ap₂, arith, All}
 use Rattle.std.specs.Prelude.{◌&&◌, nat_le, if◌then◌else◌}
 use Rattle.std.proofs.lemmas.List.Elements.{All-append, All-nil, All-cons, All-map}
-use Rattle.setoff_model.specs.Limits.{most_claims, most_firms}
+use Rattle.setoff_model.specs.declared.limits.TheConstants.{MOST_CLAIMS, MOST_FIRMS}
 use Rattle.setoff_model.specs.Names.{is_name}
 use Rattle.claim_history.specs.declared.act.Act.{Act}
 use Rattle.claim_history.specs.declared.act.Act.TheVariants as act
@@ -17,7 +17,7 @@ use Rattle.trial_round.proofs.Claims.{cents_valid}
 abbrev pub IsAskable : Act → Type 0
 IsAskable a = is_request a ≡ true
 
-firms_asked : (firms : ℕ) → firms ≤ most_firms → All IsAskable (firm_acts firms)
+firms_asked : (firms : ℕ) → firms ≤ MOST_FIRMS → All IsAskable (firm_acts firms)
 unfolding firm_acts
 firms_asked zero few = All-nil IsAskable
 firms_asked (suc number) few =
@@ -44,7 +44,7 @@ all_three true true false p q r = r
 all_three true false c p q r = q
 all_three false b c p q r = p
 
-claim_asked : (firms seed claim : ℕ) → 2 ≤ firms → firms ≤ most_firms → claim ≤ most_claims → All IsAskable (filed_and_confirmed firms seed claim)
+claim_asked : (firms seed claim : ℕ) → 2 ≤ firms → firms ≤ MOST_FIRMS → claim ≤ MOST_CLAIMS → All IsAskable (filed_and_confirmed firms seed claim)
 unfolding filed_and_confirmed
 claim_asked firms seed claim some few small =
     let creditor = firm_is_named (creditor_place firms seed claim + 1) (omega (arith, creditor_below firms seed claim some, few)) in
@@ -57,7 +57,7 @@ claim_asked firms seed claim some few small =
     All-cons IsAskable filing (confirmation ∷ []) (ap₂ (λ (a b : Bool). a && b && true) named (cents_valid seed claim (claim_cents seed claim) refl))
     (All-cons IsAskable confirmation [] named (All-nil IsAskable))
 
-claims_asked : (firms seed claims : ℕ) → 2 ≤ firms → firms ≤ most_firms → claims ≤ most_claims → All IsAskable (claim_acts firms seed claims)
+claims_asked : (firms seed claims : ℕ) → 2 ≤ firms → firms ≤ MOST_FIRMS → claims ≤ MOST_CLAIMS → All IsAskable (claim_acts firms seed claims)
 unfolding claim_acts
 claims_asked firms seed zero some few small = All-nil IsAskable
 claims_asked firms seed (suc claim) some few small =

@@ -4,7 +4,7 @@ use Rattle.std.proofs.Common.{◌≡◌, ◌∙◌, ℕ, zero, suc, ◌+◌, ◌
 use Rattle.std.proofs.lemmas.List.{append-nil, length-map}
 use Rattle.std.proofs.lemmas.List.Elements.{All-nil, All-cons, All-head, All-tail}
 use Rattle.std.proofs.lemmas.List.Sums.{count_by-le-length}
-use Rattle.setoff_model.specs.Limits.{most_claims, most_firms, most_journal_bytes}
+use Rattle.setoff_model.specs.declared.limits.TheConstants.{MOST_CLAIMS, MOST_FIRMS, MOST_JOURNAL_BYTES}
 use Rattle.claim_history.specs.declared.act.Act.{Act}
 use Rattle.claim_history.specs.declared.act.Act.TheVariants as act
 use Rattle.claim_history.specs.declared.entry.Entry.{Entry}
@@ -75,12 +75,12 @@ are_requests firms claims seed size = acts_are_requests 1 (trial_acts firms clai
 
 -- the most lines of a trial: one for each firm, two for each claim, and the Close
 abbrev most_trial_lines : ℕ
-most_trial_lines = most_firms + 2 * most_claims + 1
+most_trial_lines = MOST_FIRMS + 2 * MOST_CLAIMS + 1
 
 few_bytes : (lines filings registrations one : ℕ) → lines ≤ most_trial_lines → filings ≤ lines → registrations ≤ lines → one ≡ 1
-    → used_bytes_of [] + most_request_bytes * lines + endings_with filings registrations * (one + 1) ≤ most_journal_bytes
+    → used_bytes_of [] + most_request_bytes * lines + endings_with filings registrations * (one + 1) ≤ MOST_JOURNAL_BYTES
 few_bytes lines filings registrations one few p q is =
-    subst (λ (n : ℕ). used_bytes_of [] + most_request_bytes * lines + endings_with filings registrations * (n + 1) ≤ most_journal_bytes) (sym is)
+    subst (λ (n : ℕ). used_bytes_of [] + most_request_bytes * lines + endings_with filings registrations * (n + 1) ≤ MOST_JOURNAL_BYTES) (sym is)
     (omega (arith, few, p, q))
 
 within : (batch : List Request) (firms claims : ℕ) → IsTrialSize firms claims → length batch ≡ firms + 2 * claims + 1 → closes batch ≡ 1 → IsWithinBound [] batch

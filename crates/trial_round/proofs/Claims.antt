@@ -1,6 +1,6 @@
 -- The draws of one claim.
 use Rattle.std.proofs.Common.{◌≡◌, ◌∙◌, ℕ, ◌+◌, ◌-◌, ◌*◌, ◌%◌, ◌<◌, List, refl, ap, ap₂, subst, arith}
-use Rattle.setoff_model.specs.Limits.{most_amount}
+use Rattle.setoff_model.specs.declared.limits.TheConstants.{MOST_AMOUNT}
 use Rattle.setoff_model.specs.declared.name.Key.{Key}
 use Rattle.std.proofs.lemmas.Bool.{le-leb}
 use Rattle.std.specs.Prelude.{true}
@@ -39,4 +39,4 @@ pub cents_valid : (seed number cents : ℕ) → cents ≡ claim_cents seed numbe
 unfolding claim_cents
 cents_valid seed number cents is =
     let short : draw seed (3 * (number - 1) + 3) < 65536 = subst (λ (n : ℕ). draw seed n < 65536) (omega arith) (draw_short seed (3 * (number - 1) + 2)) in
-    rw (le-leb 1 cents (omega (arith, is)), le-leb cents most_amount (omega (arith, is, short))) refl
+    rw (le-leb 1 cents (omega (arith, is)), le-leb cents MOST_AMOUNT (omega (arith, is, short))) refl

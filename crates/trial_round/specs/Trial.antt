@@ -1,6 +1,6 @@
 -- What a trial tells of its round.
 use Rattle.std.specs.Prelude.{◌≡◌, ◌≤◌, ℕ, List, ◌++◌, length, map, codes, decimal}
-use Rattle.setoff_model.specs.Limits.{most_claims, most_firms}
+use Rattle.setoff_model.specs.declared.limits.TheConstants.{MOST_CLAIMS, MOST_FIRMS}
 use Rattle.setoff_model.specs.declared.kind.Kind.TheVariants.{Plain}
 use Rattle.setoff_model.specs.CutView.{CutView, obligations}
 use Rattle.setoff_model.specs.Setoff.{IsGreatest, total_of}
@@ -15,9 +15,9 @@ use Rattle.trial_round.specs.Input.{acts_before_close, by_lane_one, call_by_one,
 -- there are 2 to 16,384 firms and 1 to 262,144 claims
 pub record IsTrialSize (firms claims : ℕ) : Type 0 where
   pub some_firms : 2 ≤ firms
-  pub few_firms : firms ≤ most_firms
+  pub few_firms : firms ≤ MOST_FIRMS
   pub some_claims : 1 ≤ claims
-  pub few_claims : claims ≤ most_claims
+  pub few_claims : claims ≤ MOST_CLAIMS
 
 -- the requests of the input, one on each line
 unfoldable pub trial_batch : ℕ → ℕ → ℕ → List Request

@@ -1,6 +1,6 @@
 //! The input of a trial: firms, claims that are drawn among them, and a round.
 ghost use Rattle.std.specs.Prelude.{◌≡◌, ◌+◌, ◌-◌, ◌*◌, ◌<◌, ◌≤◌, ◌^◌, ◌++◌, ◌∷◌, decimal, true, OnOk, IfOk, vec_capacity};
-ghost use Rattle.setoff_model.specs.Limits.{most_claims, most_firms};
+ghost use Rattle.setoff_model.specs.declared.limits.TheConstants.{MOST_CLAIMS, MOST_FIRMS};
 ghost use Rattle.setoff_model.specs.Names.{is_letter, is_name};
 ghost use Rattle.claim_history.specs.Acts.{is_claim_amount, is_key, is_request};
 ghost use Rattle.claim_history.specs.declared.act.Act.TheVariants as acts;
@@ -84,9 +84,9 @@ struct DrawnClaim {
 // Draws the claim of a number, from 1, among the firms: its debtor, its creditor and its amount.
 fn draw_claim(room: &mut Vec<u8>, draws: &mut Draws, firms: u32, number: u32) -> DrawnClaim
     requires firms { 2 ≤ firms }
-    requires few { firms ≤ most_firms }
+    requires few { firms ≤ MOST_FIRMS }
     requires number { 1 ≤ number }
-    requires claims { number ≤ most_claims }
+    requires claims { number ≤ MOST_CLAIMS }
     requires draws { draws.old.made ≡ 3 * (number - 1) }
     requires room { 80 ≤ vec_capacity room.old }
     ensures key { result.key ≡ claim_key firms draws.old.seed number }
@@ -142,9 +142,9 @@ fn write_claim(
     number: u32,
 ) -> Result<(), AllocError>
     requires firms { 2 ≤ firms }
-    requires few { firms ≤ most_firms }
+    requires few { firms ≤ MOST_FIRMS }
     requires number { 1 ≤ number }
-    requires claims { number ≤ most_claims }
+    requires claims { number ≤ MOST_CLAIMS }
     requires draws { draws.old.made ≡ 3 * (number - 1) }
     requires room { 80 ≤ vec_capacity room.old }
     ensures text { OnOk result (text.new.items ≡ text.old.items ++ text_of_acts (filed_and_confirmed firms draws.old.seed number)) }

@@ -2,7 +2,7 @@
 use Rattle.std.proofs.Common.{◌≡◌, ◌∙◌, ℕ, zero, suc, ◌-◌, ◌/◌, ◌<◌, ◌≤◌, List, [], ◌∷◌, length, map, ap, ap₂, subst, sym, arith}
 use Rattle.std.specs.Prelude.{min, slice_index}
 use Rattle.std.proofs.lemmas.List.{length-map}
-use Rattle.setoff_model.specs.Limits.{most_weight}
+use Rattle.setoff_model.specs.declared.limits.TheConstants.{MOST_WEIGHT}
 use Rattle.setoff_model.specs.declared.kind.Kind.{Kind}
 use Rattle.setoff_model.specs.CutView.{CutView, OutcomeView, obligations}
 use Rattle.setoff_model.specs.Weighted.{AreWeights, ProvesWeighted}
@@ -14,7 +14,7 @@ use Rattle.claim_history.specs.Facts.{Filing, Ledger, account_facts, claim_fact,
 use Rattle.claim_history.specs.History.{AreValid, IsLegal}
 use Rattle.claim_history.specs.Cut.{cut_claim, due_claims, firms_of}
 use Rattle.claim_book.specs.Book.{ledger_of}
-use Rattle.round_cut.specs.CutLaw.{CutLaw}
+use Rattle.round_cut.specs.CutLaw.{BuiltCutLaw}
 use Rattle.round_cut.specs.CutOfFacts.{claims_due, cut_of_facts}
 use Rattle.round_cut.proofs.History.{due_is, map-map}
 use Rattle.weighed_round.specs.Weighed.{IsWeighedText, cut_by, weighed_text, weight_at, weights_of}
@@ -35,7 +35,7 @@ weight_some today due = omega arith
 min_at_most : (n : ℕ) → min 8 n ≤ 8
 min_at_most n = omega arith
 
-weight_limit : (today due : ℕ) → weight_at today due ≤ most_weight
+weight_limit : (today due : ℕ) → weight_at today due ≤ MOST_WEIGHT
 weight_limit today due = omega (arith, min_at_most ((today - due) / 30))
 
 -- what holds of each weight holds of each place of the list
@@ -52,12 +52,12 @@ are_weights l kind today =
     record {
       one_each = long;
       some = λ c lt. each_weight (λ n. 1 ≤ n) today (weight_some today) (due_claims l today) c (omega (arith, lt, long, due));
-      limit = λ c lt. each_weight (λ n. n ≤ most_weight) today (weight_limit today) (due_claims l today) c (omega (arith, lt, long, due));
+      limit = λ c lt. each_weight (λ n. n ≤ MOST_WEIGHT) today (weight_limit today) (due_claims l today) c (omega (arith, lt, long, due));
     }
 
 -- ---- the cut and the text
 
-pub cut_is : CutLaw → (history : List Entry) → IsLegal history → AreValid history → (kind : Kind) (today : ℕ) (claims : List ClaimFact) (accounts : List AccountFact) (cut : CutView)
+pub cut_is : BuiltCutLaw → (history : List Entry) → IsLegal history → AreValid history → (kind : Kind) (today : ℕ) (claims : List ClaimFact) (accounts : List AccountFact) (cut : CutView)
     → claims ≡ claim_facts (ledger_of history) → accounts ≡ account_facts (ledger_of history) → cut ≡ cut_of_facts 0 claims accounts kind today → cut ≡ cut_by (ledger_of history) kind today
 cut_is law history legal valid kind today claims accounts cut of_claims of_accounts made =
     made ∙ ap₂ (λ (c : List ClaimFact) (a : List AccountFact). cut_of_facts 0 c a kind today) of_claims of_accounts ∙ law history 0 kind today legal valid

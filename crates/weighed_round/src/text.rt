@@ -1,6 +1,6 @@
 //! The text of a weighted set-off.
 ghost use Rattle.std.specs.Prelude.{◌≡◌, ◌<◌, ◌≤◌, ◌^◌, ◌++◌, All, OnOk, IfOk, length, unsigned_abs};
-ghost use Rattle.setoff_model.specs.Limits.{most_window};
+ghost use Rattle.setoff_model.specs.declared.limits.TheConstants.{SUM_LIMIT, MOST_WINDOW};
 ghost use Rattle.setoff_model.specs.CutView.{WellFormed, obligations};
 ghost use Rattle.setoff_model.specs.Weighted.{AreWeights, ProvesWeighted};
 ghost use Rattle.statement_text.specs.Statements.{party_lines};
@@ -17,8 +17,8 @@ use weighted_setoff::weighted_total;
 
 // Writes the lines of the parties, each with its price.
 fn put_parties(text: &mut Vec<u8>, parties: &[Party], prices: &[i64]) -> Result<(), AllocError>
-    requires spends { All (λ f. f.spend ≤ most_window) parties.now }
-    requires rooms { All (λ f. f.room ≤ most_window) parties.now }
+    requires spends { All (λ f. f.spend ≤ MOST_WINDOW) parties.now }
+    requires rooms { All (λ f. f.room ≤ MOST_WINDOW) parties.now }
     requires prices { All (λ p. unsigned_abs p < 10 ^ 9) prices.now }
     requires price_each { length prices.now ≡ length parties.now }
     ensures { OnOk result (text.new.items ≡ text.old.items ++ lines_bytes (party_lines parties.now prices.now)) }
@@ -38,7 +38,7 @@ fn put_claims(
     weights: &[u32],
 ) -> Result<(), AllocError>
     requires cut { WellFormed cut.now }
-    requires discharges { All (λ d. d < 10 ^ 18) discharges.now }
+    requires discharges { All (λ d. d < SUM_LIMIT) discharges.now }
     requires discharge_each { length discharges.now ≡ length cut.now.claims }
     requires weight_each { length weights.now ≡ length cut.now.claims }
     ensures { OnOk result (text.new.items ≡ text.old.items ++ weighed_lines cut.now.parties cut.now.claims discharges.now weights.now) }

@@ -4,7 +4,7 @@ use Rattle.std.specs.List.{All}
 use Rattle.std.proofs.Common.{◌≡◌, ℕ, ◌*◌, ◌<◌, List, length, get_or, sym, ◌∙◌, ap, subst, arith}
 use Rattle.std.proofs.lemmas.List.{length-map, get_or-map}
 use Rattle.std.proofs.lemmas.List.Elements.{All-from_get_or}
-use Rattle.setoff_model.specs.Limits.{most_weight}
+use Rattle.setoff_model.specs.declared.limits.TheConstants.{MOST_WEIGHT}
 use Rattle.setoff_model.specs.declared.cut.CutClaim.{CutClaim}
 use Rattle.setoff_model.specs.declared.cut.Party.{Party}
 use Rattle.setoff_model.specs.CutView.{CutView, WellFormed, obligations, debtors, creditors, amounts, spends, rooms}
@@ -60,7 +60,7 @@ module _ (cut : CutView) (weights : List ℕ) (edges : List Edge) (formed : Well
         reward = omega (arith, r, weight);
       })
 
-pub proved : (cut : CutView) (weights d : List ℕ) (p q : List ℤ) → AreWeights (obligations cut) weights → IsFound (weighed_cut cut weights) d p → IsSqueezedTo most_weight p q →
-    IsNear (most_weight * length p) q → ProvesWeighted (obligations cut) weights d q
+pub proved : (cut : CutView) (weights d : List ℕ) (p q : List ℤ) → AreWeights (obligations cut) weights → IsFound (weighed_cut cut weights) d p → IsSqueezedTo MOST_WEIGHT p q →
+    IsNear (MOST_WEIGHT * length p) q → ProvesWeighted (obligations cut) weights d q
 proved cut weights d p q weigh found squeezed near =
     narrowing_keeps.proves (obligations cut) weights d p q weigh squeezed near found.lawful found.price_each found.tight

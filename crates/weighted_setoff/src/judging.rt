@@ -1,6 +1,6 @@
 //! The sums of a weighted set-off.
 ghost use Rattle.std.specs.Prelude.{◌≡◌, ◌+◌, ◌*◌, ◌<◌, ◌≤◌, ◌^◌, ℕ, List, pos, ◌+ℤ◌, ◌-ℤ◌, length, slice_index, unsigned_abs, All};
-ghost use Rattle.setoff_model.specs.Limits.{most_claims, most_amount, most_weight, most_price};
+ghost use Rattle.setoff_model.specs.declared.limits.TheConstants.{MOST_CLAIMS, MOST_AMOUNT, MOST_WEIGHT, MOST_PRICE};
 ghost use Rattle.setoff_model.specs.Sums.{above_zero};
 ghost use Rattle.setoff_model.specs.Setoff.{price_at};
 ghost use Rattle.setoff_model.specs.CutView.{obligations_of};
@@ -13,9 +13,9 @@ use setoff_model::CutClaim;
 /// 999,999,999,999 cents. Takes no memory.
 pub fn weighted_total(weights: &[u32], discharges: &[u64]) -> u64
     requires one_each { length weights.now ≡ length discharges.now }
-    requires few { length discharges.now ≤ most_claims }
-    requires weights { (c : ℕ) → c < length discharges.now → slice_index weights.now c ≤ most_weight }
-    requires discharges { (c : ℕ) → c < length discharges.now → slice_index discharges.now c ≤ most_amount }
+    requires few { length discharges.now ≤ MOST_CLAIMS }
+    requires weights { (c : ℕ) → c < length discharges.now → slice_index weights.now c ≤ MOST_WEIGHT }
+    requires discharges { (c : ℕ) → c < length discharges.now → slice_index discharges.now c ≤ MOST_AMOUNT }
     ensures { result ≡ weighted_total_of weights.now discharges.now }
 {
     let mut total: u64 = 0;
@@ -28,12 +28,12 @@ pub fn weighted_total(weights: &[u32], discharges: &[u64]) -> u64
 // The part of the bound that the claims add.
 pub(crate) fn bound_of_claims(claims: &[CutClaim], weights: &[u32], prices: &[i64]) -> u128
     requires one_each { length weights.now ≡ length claims.now }
-    requires few { length claims.now ≤ most_claims }
-    requires amounts { All (λ c. c.amount ≤ most_amount) claims.now }
+    requires few { length claims.now ≤ MOST_CLAIMS }
+    requires amounts { All (λ c. c.amount ≤ MOST_AMOUNT) claims.now }
     requires creditors { All (λ c. c.creditor < length prices.now) claims.now }
     requires debtors { All (λ c. c.debtor < length prices.now) claims.now }
-    requires weights { (c : ℕ) → c < length claims.now → slice_index weights.now c ≤ most_weight }
-    requires prices { (f : ℕ) → f < length prices.now → unsigned_abs (price_at prices.now f) ≤ most_price }
+    requires weights { (c : ℕ) → c < length claims.now → slice_index weights.now c ≤ MOST_WEIGHT }
+    requires prices { (f : ℕ) → f < length prices.now → unsigned_abs (price_at prices.now f) ≤ MOST_PRICE }
     ensures value { (parties : List Party) →
         result ≡ weighted_claims_bound (length claims.now) (obligations_of parties claims.now) weights.now prices.now }
     ensures limit { result < 2 ^ 77 }
@@ -52,9 +52,9 @@ pub(crate) fn bound_of_claims(claims: &[CutClaim], weights: &[u32], prices: &[i6
 
 // weight + the debtor's price - the creditor's, or 0 where that is negative.
 fn factor_of(weight: u32, debtor: i64, creditor: i64) -> u64
-    requires weight { weight ≤ most_weight }
-    requires debtor { unsigned_abs debtor ≤ most_price }
-    requires creditor { unsigned_abs creditor ≤ most_price }
+    requires weight { weight ≤ MOST_WEIGHT }
+    requires debtor { unsigned_abs debtor ≤ MOST_PRICE }
+    requires creditor { unsigned_abs creditor ≤ MOST_PRICE }
     ensures value { result ≡ above_zero ((pos weight +ℤ debtor) -ℤ creditor) }
     ensures limit { result ≤ 294921 }
 {

@@ -1,6 +1,5 @@
 //! Which weights the claims of a cut may have.
 ghost use Rattle.std.specs.Prelude.{◌↔◌, ◌≤◌, IsTrue, All};
-ghost use Rattle.setoff_model.specs.Limits.{most_weight};
 ghost use Rattle.setoff_model.specs.CutView.{obligations};
 ghost use Rattle.setoff_model.specs.Weighted.{AreWeights};
 
@@ -15,7 +14,7 @@ pub fn are_weights(cut: &Cut, weights: &[u32]) -> bool
 }
 
 fn are_in_range(weights: &[u32]) -> bool
-    ensures { IsTrue result ↔ All (λ w. (1 ≤ w) × (w ≤ most_weight)) weights.now }
+    ensures { IsTrue result ↔ All (λ w. (1 ≤ w) × (w ≤ MOST_WEIGHT)) weights.now }
 {
     weights
         .iter()

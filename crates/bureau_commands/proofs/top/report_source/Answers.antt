@@ -1,13 +1,13 @@
 use Rattle.std.proofs.Common.{subst, sym}
 use Rattle.bureau_edge.specs.Streams.{TakesAll}
-use Rattle.setoff_model.specs.Limits.{most_input_bytes}
+use Rattle.setoff_model.specs.declared.limits.TheConstants.{MOST_INPUT_BYTES}
 use Rattle.bureau_reports.specs.Inputs.{IsInputDue}
 use Rattle.bureau_commands.proofs.Reading.{wrote_read, wrote_unread}
 use Rattle.bureau_commands.proofs.top.report_source.Goals as goal
 
 pub returns-in-Ok-clause-wrote : goal.returns-in-Ok-clause-wrote
 returns-in-Ok-clause-wrote g c =
-    let taken = subst (TakesAll most_input_bytes (g.S.Source.left c.args.source.now) (g.S.Source.left c.read_whole.new.source)) (sym c.as_slice.ensures.value) c.in-Ok.ensures.all in
+    let taken = subst (TakesAll MOST_INPUT_BYTES (g.S.Source.left c.args.source.now) (g.S.Source.left c.read_whole.new.source)) (sym c.as_slice.ensures.value) c.in-Ok.ensures.all in
     wrote_read (IsInputDue c.args.report) (Unit {0}) _ _ _ _ c.as_slice.result.now c.report_input.result taken c.report_input.ensures.wrote
 
 pub returns-in-Ok-clause-read_fault : goal.returns-in-Ok-clause-read_fault

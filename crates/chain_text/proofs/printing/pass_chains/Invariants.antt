@@ -1,6 +1,7 @@
 use Rattle.std.proofs.Common.{◌≤◌, List, vec_capacity}
+use Rattle.setoff_model.specs.declared.limits.TheConstants.{OUTPUT_BYTES}
 use Rattle.setoff_model.specs.CutView.{obligations}
-use Rattle.printed_text.specs.Writing.{GoesThrough, output_bytes}
+use Rattle.printed_text.specs.Writing.{GoesThrough}
 use Rattle.chain_explain.specs.Chains.{ChainView}
 use Rattle.chain_explain.specs.Explained.{Gives, measure}
 use Rattle.chain_text.specs.Texts.{chains_text}
@@ -10,7 +11,7 @@ abbrev pub invariant-loop-chain : goal.invariant-loop-chain
 invariant-loop-chain g l = record {
   passed : (xs : List ChainView) × Gives (obligations l.fn.explainer.cut) l.fn.explainer xs l.explainer
       × GoesThrough (g.K.Sink.held l.fn.sink) (g.K.Sink.held l.sink) l.fn.buffer.items l.buffer.items (chains_text l.fn.explainer.cut xs);
-  room : output_bytes ≤ vec_capacity l.buffer;
+  room : OUTPUT_BYTES ≤ vec_capacity l.buffer;
   later : g.K.Sink.faults l.fn.sink ≤ g.K.Sink.faults l.sink;
 }
 

@@ -1,6 +1,7 @@
 use Rattle.std.specs.Prelude.{map, slice_index}
 use Rattle.std.proofs.Common.{List, ◌+◌, ◌*◌, ◌^◌, ◌<◌, ◌≤◌, length, get_or, sym, ◌∙◌, ap, subst, arith}
 use Rattle.std.proofs.lemmas.List.Sums.{get_or-le-sum_by}
+use Rattle.setoff_model.specs.declared.limits.TheConstants.{SUM_LIMIT}
 use Rattle.setoff_model.specs.declared.cut.Party.{Party}
 use Rattle.setoff_model.specs.declared.cut.CutClaim.{CutClaim}
 use Rattle.setoff_model.specs.CutView.{IsClaimAmong}
@@ -22,7 +23,7 @@ fund-to-requires-clause-once c = firms_once c.args.accounts.now c.loop-i.account
 pub fund-to-requires-clause-near : goal.fund-to-requires-clause-near
 fund-to-requires-clause-near c =
     let le = subst (λ (cs : List CutClaim). c.loop-i.i ≤ length cs) c.claims-claim-items.ensures (omega (arith, c.loop-i-test.true)) in
-    nearer c.loop-i.accounts (subst (AreWithin (2 * 10 ^ 18)) (sym c.loop-i.invariant) (accounts_near c.args.cut.now c.args.discharges.now c.loop-i.i c.args.accounts.now c.requires.one_each c.requires.total le c.requires.small))
+    nearer c.loop-i.accounts (subst (AreWithin (2 * SUM_LIMIT)) (sym c.loop-i.invariant) (accounts_near c.args.cut.now c.args.discharges.now c.loop-i.i c.args.accounts.now c.requires.one_each c.requires.total le c.requires.small))
 
 pub draw-by-requires-clause-names : goal.draw-by-requires-clause-names
 draw-by-requires-clause-names c =
@@ -45,8 +46,8 @@ draw-by-requires-clause-near c =
     let x = slice_index d c.loop-i.i in
     let lt = subst (λ (cs : List CutClaim). c.loop-i.i < length cs) c.claims-claim-items.ensures c.loop-i-test.true in
     let low = get_or-le-sum_by (λ n. n) d c.loop-i.i 0 (omega (arith, lt, c.requires.one_each)) in
-    let near = subst (AreWithin (2 * 10 ^ 18)) (sym c.loop-i.invariant) (accounts_near c.args.cut.now d c.loop-i.i c.args.accounts.now c.requires.one_each c.requires.total (omega (arith, lt)) c.requires.small) in
-    subst (AreWithin (3 * 10 ^ 18)) (sym c.fund-to.ensures) (near_funded c.index-parties-claim.result.firm x c.loop-i.accounts (omega (arith, low, c.requires.total)) near)
+    let near = subst (AreWithin (2 * SUM_LIMIT)) (sym c.loop-i.invariant) (accounts_near c.args.cut.now d c.loop-i.i c.args.accounts.now c.requires.one_each c.requires.total (omega (arith, lt)) c.requires.small) in
+    subst (AreWithin (3 * SUM_LIMIT)) (sym c.fund-to.ensures) (near_funded c.index-parties-claim.result.firm x c.loop-i.accounts (omega (arith, low, c.requires.total)) near)
 
 pub loop-i-preserved : goal.loop-i-preserved
 loop-i-preserved c =

@@ -1,6 +1,6 @@
 use Rattle.std.proofs.Common.{◌≡◌, ℕ, ◌<◌, ◌≤◌, ◌^◌, ◌++◌, All, refl, sym, subst}
 use Rattle.std.specs.Prelude.{unsigned_abs}
-use Rattle.setoff_model.specs.Limits.{most_window}
+use Rattle.setoff_model.specs.declared.limits.TheConstants.{SUM_LIMIT, MOST_WINDOW}
 use Rattle.statement_text.specs.declared.line.Line.TheVariants as line
 use Rattle.statement_text.specs.Statements.{party_lines, claim_lines, statement_bytes}
 use Rattle.printed_text.specs.Printing.{line_bytes, lines_bytes}
@@ -11,11 +11,11 @@ use Rattle.printed_text.proofs.statement.print_statement.Goals as goal
 
 pub print_parties-requires-clause-spends : goal.print_parties-requires-clause-spends
 print_parties-requires-clause-spends g c =
-    subst (All (λ f. f.spend ≤ most_window)) (sym c.parties.ensures) (spends_fit c.args.cut.now c.requires.printable.well_formed)
+    subst (All (λ f. f.spend ≤ MOST_WINDOW)) (sym c.parties.ensures) (spends_fit c.args.cut.now c.requires.printable.well_formed)
 
 pub print_parties-requires-clause-rooms : goal.print_parties-requires-clause-rooms
 print_parties-requires-clause-rooms g c =
-    subst (All (λ f. f.room ≤ most_window)) (sym c.parties.ensures) (rooms_fit c.args.cut.now c.requires.printable.well_formed)
+    subst (All (λ f. f.room ≤ MOST_WINDOW)) (sym c.parties.ensures) (rooms_fit c.args.cut.now c.requires.printable.well_formed)
 
 pub print_parties-requires-clause-price_each : goal.print_parties-requires-clause-price_each
 print_parties-requires-clause-price_each g c = rw (c.prices.ensures, c.parties.ensures) (price_each c.args.cut.now c.args.outcome.now c.requires.printable)
@@ -26,7 +26,7 @@ print_parties-requires-clause-prices g c =
 
 pub print_claims-requires-clause-discharges : goal.print_claims-requires-clause-discharges
 print_claims-requires-clause-discharges g c =
-    subst (All (λ (d : ℕ). d < 10 ^ 18)) (sym c.discharges.ensures) (discharges_fit c.args.cut.now c.args.outcome.now.discharges c.requires.printable.well_formed c.requires.printable.proved.lawful)
+    subst (All (λ (d : ℕ). d < SUM_LIMIT)) (sym c.discharges.ensures) (discharges_fit c.args.cut.now c.args.outcome.now.discharges c.requires.printable.well_formed c.requires.printable.proved.lawful)
 
 pub print_claims-requires-clause-discharge_each : goal.print_claims-requires-clause-discharge_each
 print_claims-requires-clause-discharge_each g c = rw c.discharges.ensures (discharge_each c.args.cut.now c.args.outcome.now.discharges c.requires.printable.proved.lawful)

@@ -1,4 +1,5 @@
 use Rattle.std.proofs.Common.{◌<◌, ◌≤◌, ◌^◌, ◌++◌, ◌∷◌, [], length, sym, ◌∙◌, ap, subst, arith}
+use Rattle.setoff_model.specs.declared.limits.TheConstants.{SUM_LIMIT}
 use Rattle.setoff_model.specs.Setoff.{total_of}
 use Rattle.claim_history.specs.States.{state_of}
 use Rattle.claim_history.specs.History.{MayFollow}
@@ -47,7 +48,7 @@ pub discharge-requires-2-clause-total : goal.discharge-requires-2-clause-total
 discharge-requires-2-clause-total c =
     let next = subst (λ (b : BookView). MayFollow b.history c.args.entry) (sym c.self.view_is) c.requires.next in
     let is = settles _ c.args.entry c.outcome_in.ensures.0 c.outcome_in.result.now c.take_cut-cut.result c.self.invariant c.requires.valid (sym c.accepted.ensures ∙ c.if-not-accepted.false) c.outcome_in.ensures.1 next c.take_cut-cut.ensures.cut in
-    subst (λ d. total_of d < 10 ^ 18) (sym c.discharges-discharges.ensures) is.total
+    subst (λ d. total_of d < SUM_LIMIT) (sym c.discharges-discharges.ensures) is.total
 
 pub invariant_of-self-2 : goal.invariant_of-self-2
 invariant_of-self-2 c =

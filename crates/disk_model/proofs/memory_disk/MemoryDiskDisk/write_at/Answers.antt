@@ -4,7 +4,7 @@ use Rattle.disk_model.specs.declared.step.Step.{Step}
 use Rattle.disk_model.specs.declared.step.Step.TheVariants.{Waited, Wrote}
 use Rattle.disk_model.specs.Memory.{MemoryState, after_refused}
 use Rattle.disk_model.specs.Calls.{Torn, After}
-use Rattle.disk_model.specs.MemoryState.{state_of}
+use Rattle.disk_model.specs.MemoryState.{memory_state}
 use Rattle.disk_model.proofs.Moments.{torn_same}
 use Rattle.disk_model.proofs.TwoSteps.{PresentIn, failed_passes, wrote_passes}
 use Rattle.disk_model.proofs.memory_disk.MemoryDiskDisk.write_at.Goals as goal
@@ -14,13 +14,13 @@ counted_ok x same = record { later = omega arith; cause = λ err. absurd (cc err
 
 pub returns-then-is_named-clause-crash : goal.returns-then-is_named-clause-crash
 returns-then-is_named-clause-crash c =
-    failed_passes (state_of c.args.self.now) (state_of c.fail_named.new.self) (After (Torn c.args.at (length c.args.piece.now)) (PresentIn (state_of c.args.self.now)))
+    failed_passes (memory_state c.args.self.now) (memory_state c.fail_named.new.self) (After (Torn c.args.at (length c.args.piece.now)) (PresentIn (memory_state c.args.self.now)))
     (λ d has. (d, has, torn_same c.args.at (length c.args.piece.now) d)) c.fail_named.ensures.failed
 
 pub returns-in-Ok-clause-crash : goal.returns-in-Ok-clause-crash
 returns-in-Ok-clause-crash c =
     let kept = c.in-Ok.ensures.ok in
-    wrote_passes (state_of c.args.self.now) (state_of c.overwrite.new.self) c.args.at kept.0 c.args.piece.now kept.1 kept.2
+    wrote_passes (memory_state c.args.self.now) (memory_state c.overwrite.new.self) c.args.at kept.0 c.args.piece.now kept.1 kept.2
 
 pub returns-in-Ok-clause-passes : goal.returns-in-Ok-clause-passes
 returns-in-Ok-clause-passes c =
@@ -39,7 +39,7 @@ returns-in-Err-clause-err c = inr (c.refuse.ensures.failed ∙ ap (λ (s : Memor
 
 pub returns-in-Err-clause-crash : goal.returns-in-Err-clause-crash
 returns-in-Err-clause-crash c =
-    failed_passes (state_of c.args.self.now) (state_of c.refuse.new.self) (After (Torn c.args.at (length c.args.piece.now)) (PresentIn (state_of c.args.self.now)))
+    failed_passes (memory_state c.args.self.now) (memory_state c.refuse.new.self) (After (Torn c.args.at (length c.args.piece.now)) (PresentIn (memory_state c.args.self.now)))
     (λ d has. (d, has, torn_same c.args.at (length c.args.piece.now) d))
     (inr (c.refuse.ensures.failed ∙ ap (λ (s : MemoryState). after_refused s) c.in-Err.ensures.err))
 
