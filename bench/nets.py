@@ -14,6 +14,8 @@ import math
 import random
 import sys
 
+from hard_nets import HARD
+
 FIRMS, CLAIMS = 16_384, 262_144
 MOST = 999_999_999_999
 WINDOW = 1_000_000_000_000_000
@@ -214,10 +216,13 @@ def windows(draw, firms, funded):
 
 
 def net(name, seed, size):
-    """The windows of the parties and the claims of a family; one whose name ends with -funded has windows."""
+    """The windows of the parties, the claims of a family, and whether it has windows, as those whose names end with -funded have."""
     funded = name.endswith("-funded")
     draw = random.Random(seed)
     draw.state = seed
+    if name in HARD:
+        parties, claims = HARD[name][0](draw, size)
+        return parties, claims, any(map(any, parties))
     firms, claims = FAMILIES[name.removesuffix("-funded")][0](draw, size)
     return windows(draw, firms, funded), claims, funded
 
@@ -262,8 +267,8 @@ def problem(parties, arcs):
 def main():
     if len(sys.argv) < 4:
         print(__doc__)
-        for name, (_, meaning) in FAMILIES.items():
-            print(f"{name:12} {meaning}")
+        for name, (_, meaning) in (FAMILIES | HARD).items():
+            print(f"{name:16} {meaning}")
         return
     drawn_net = net(sys.argv[1], int(sys.argv[2]), float(sys.argv[4]) if len(sys.argv) > 4 else 1.0)
     form = {"statement": statement, "dimacs": dimacs, "weighted": weighted}[sys.argv[3]]

@@ -1,0 +1,110 @@
+//! Levels of prices.
+ghost use Rattle.std.specs.Prelude.{◌<◌, ℕ, IfOk, OnOk, IsTrue, length, pos, ◌≤ℤ◌};
+ghost use Rattle.residual_state.specs.Excesses.{excess_of};
+ghost use Rattle.residual_state.specs.States.{IsState, StaysOn, surplus};
+ghost use Rattle.residual_state.specs.Carries.{IsNoWorse};
+
+use level_engine::Advice;
+use residual_state::{State, augment, carry_all, reprice, surplus_of};
+use std::alloc::{AllocError, Global};
+
+// So many levels are tried at first, more where some units count more than one, and fewer where arcs are few. It is asked from so
+// many on whether they get on.
+const MOST: usize = 32;
+
+const MOST_WEIGHTED: usize = 128;
+
+const FEW: usize = 4;
+
+const ASKED: usize = 16;
+
+// Goes from one level of prices to the next while they get on.
+pub(crate) fn first_levels(
+    alloc: Global,
+    state: &mut State,
+    advice: &mut Advice,
+) -> Result<(), AllocError>
+    requires { IsState state.old }
+    ensures { OnOk result (IsNoWorse state.old state.new) }
+{
+    let sparse = advice.halves().len() / 5 <= state.excess.len();
+    let most = most_levels(state);
+    let mut past = Vec::with_capacity(alloc, most)?;
+    for _ in 0..most {
+        let left = surplus_of(&state.excess);
+        if left == 0 || is_stalled(&past, left, sparse) {
+            return Ok(());
+        }
+        past.push(left)?;
+        advise(alloc, state, advice)?;
+    }
+    Ok(())
+}
+
+// How many levels are tried at first.
+fn most_levels(state: &State) -> usize {
+    for edge in &state.edges {
+        if 1 < edge.reward {
+            return MOST_WEIGHTED;
+        }
+    }
+    MOST
+}
+
+// Whether levels get on no longer: more than three quarters is left of what was left at half the level.
+fn is_stalled(past: &[u128], left: u128, sparse: bool) -> bool {
+    let level = past.len();
+    if sparse && FEW <= level {
+        return true;
+    }
+    if level < ASKED {
+        return false;
+    }
+    let before = past[level / 2];
+    before - before / 4 < left
+}
+
+// Goes from one level of prices to the next, until no node has an excess above 0.
+pub(crate) fn all_levels(
+    alloc: Global,
+    state: &mut State,
+    advice: &mut Advice,
+) -> Result<(), AllocError>
+    requires { IsState state.old }
+    ensures state { OnOk result (StaysOn state.old state.new) }
+    ensures rest { OnOk result ((v : ℕ) → v < length state.new.excess.items → excess_of state.new.excess.items v ≤ℤ pos 0) }
+{
+    while level(alloc, state, advice)? {}
+    Ok(())
+}
+
+// Moves excess at one level of prices. False where no node has an excess above 0.
+fn level(alloc: Global, state: &mut State, advice: &mut Advice) -> Result<bool, AllocError>
+    requires { IsState state.old }
+    ensures state { OnOk result (StaysOn state.old state.new) }
+    ensures falls { IfOk result (λ moved. IsTrue moved → surplus state.new.excess.items < surplus state.old.excess.items) }
+    ensures rest { IfOk result (λ moved. (IsTrue moved → ⊥) →
+        (v : ℕ) → v < length state.new.excess.items → excess_of state.new.excess.items v ≤ℤ pos 0) }
+{
+    let before = surplus_of(&state.excess);
+    if before == 0 {
+        return Ok(false);
+    }
+    advise(alloc, state, advice)?;
+    if surplus_of(&state.excess) < before {
+        return Ok(true);
+    }
+    augment(alloc, state)
+}
+
+// Raises prices and moves excess as the advice says.
+fn advise(alloc: Global, state: &mut State, advice: &mut Advice) -> Result<(), AllocError>
+    requires { IsState state.old }
+    ensures { OnOk result (IsNoWorse state.old state.new) }
+{
+    let prices = advice.raised(alloc, &state.flows, &state.prices, &state.excess)?;
+    reprice(alloc, state, prices)?;
+    let pushes = advice.pushes(&state.flows, &state.prices, &state.excess)?;
+    carry_all(state, pushes);
+    Ok(())
+}

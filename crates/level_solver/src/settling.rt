@@ -1,0 +1,110 @@
+//! A state brought to rest.
+ghost use Rattle.std.specs.Prelude.{◌<◌, ℕ, OnOk, length, pos, ◌≤ℤ◌};
+ghost use Rattle.residual_state.specs.Excesses.{excess_of};
+ghost use Rattle.residual_state.specs.States.{IsState, StaysOn};
+
+use crate::levels::{all_levels, first_levels};
+use level_engine::{Advice, Halves};
+use residual_state::{State, adopt, surplus_of};
+use simplex_engine::{Position, Solution, seek_solution};
+use std::alloc::{AllocError, Global};
+
+// After so many turns, each of twice as much work, the levels go on alone.
+const TURNS: u32 = 8;
+
+/// Moves excess until no node of the state has any above 0: one level of prices after another, and the rest at once where levels
+/// stall.
+///
+/// The state may be one on claims with weights as well. An error is want of memory.
+pub fn settle(alloc: Global, state: &mut State) -> Result<(), AllocError>
+    requires { IsState state.old }
+    ensures state { OnOk result (StaysOn state.old state.new) }
+    ensures rest { OnOk result ((v : ℕ) → v < length state.new.excess.items → excess_of state.new.excess.items v ≤ℤ pos 0) }
+{
+    settle_within(alloc, state, TURNS)
+}
+
+/// The same, where the rest is sought at once in at most so many turns, each of twice as much work as the one before.
+///
+/// Where it was not found, levels go on to the end. So any number will do.
+pub fn settle_within(alloc: Global, state: &mut State, turns: u32) -> Result<(), AllocError>
+    requires { IsState state.old }
+    ensures state { OnOk result (StaysOn state.old state.new) }
+    ensures rest { OnOk result ((v : ℕ) → v < length state.new.excess.items → excess_of state.new.excess.items v ≤ℤ pos 0) }
+{
+    let windows = window_flows(alloc, state)?;
+    let halves = levels_at_first(alloc, state)?;
+    take_solution(alloc, state, &halves, &windows, turns)?;
+    drop(halves);
+    levels_to_the_end(alloc, state)
+}
+
+// Goes from one level of prices to the next while they get on. The halves of the arcs; the other lists of the advice make room.
+fn levels_at_first(alloc: Global, state: &mut State) -> Result<Halves, AllocError>
+    requires { IsState state.old }
+    ensures { OnOk result (StaysOn state.old state.new) }
+{
+    let mut advice = Advice::new(alloc, &state.edges, state.excess.len())?;
+    first_levels(alloc, state, &mut advice)?;
+    Ok(advice.into_halves())
+}
+
+// Goes from one level of prices to the next until no node has an excess above 0.
+fn levels_to_the_end(alloc: Global, state: &mut State) -> Result<(), AllocError>
+    requires { IsState state.old }
+    ensures state { OnOk result (StaysOn state.old state.new) }
+    ensures rest { OnOk result ((v : ℕ) → v < length state.new.excess.items → excess_of state.new.excess.items v ≤ℤ pos 0) }
+{
+    if surplus_of(&state.excess) == 0 {
+        return Ok(());
+    }
+    let mut advice = Advice::new(alloc, &state.edges, state.excess.len())?;
+    all_levels(alloc, state, &mut advice)
+}
+
+// The flow of each window's arc.
+fn window_flows(alloc: Global, state: &State) -> Result<Vec<u64>, AllocError> {
+    let parties = state.prices.len();
+    if state.flows.len() < parties {
+        return Ok(Vec::new(alloc));
+    }
+    Vec::from_slice(alloc, &state.flows[state.flows.len() - parties..])
+}
+
+// Takes a whole solution, where any excess is left and one is found.
+fn take_solution(
+    alloc: Global,
+    state: &mut State,
+    halves: &Halves,
+    windows: &[u64],
+    turns: u32,
+) -> Result<(), AllocError>
+    requires { IsState state.old }
+    ensures { OnOk result (StaysOn state.old state.new) }
+{
+    if surplus_of(&state.excess) == 0 {
+        return Ok(());
+    }
+    if let Some(Solution { flows, prices }) = found(alloc, state, halves, windows, turns)? {
+        let _ = adopt(alloc, state, flows, prices)?;
+    }
+    Ok(())
+}
+
+// A whole solution, if it is found in so many turns.
+fn found(
+    alloc: Global,
+    state: &State,
+    halves: &Halves,
+    windows: &[u64],
+    turns: u32,
+) -> Result<Option<Solution>, AllocError> {
+    let position = Position {
+        edges: &state.edges,
+        flows: &state.flows,
+        prices: &state.prices,
+        excess: &state.excess,
+        windows,
+    };
+    seek_solution(alloc, &position, halves, turns)
+}

@@ -1,0 +1,240 @@
+//! Which arc enters the tree.
+use crate::arcs::{Arc, NO_ARC};
+use crate::tree::{NOBODY, Tree};
+use level_engine::Halves;
+use loose_places::{at, put};
+use std::alloc::{AllocError, Global};
+
+// The arcs of a run stand together in the list of arcs. Runs are looked at in an order that spreads over the net.
+const RUN: usize = 16;
+
+// A change of potentials is followed by a look at the arcs around it where they are at most so many halves.
+const AROUND: u64 = 1_024;
+
+// Bad arcs that wait, and how far the round over all runs is.
+#[derive(Drop)]
+pub(crate) struct Candidates {
+    list: Vec<u32>,
+    run: usize,
+    runs: usize,
+    stride: usize,
+    block: usize,
+    idle: usize,
+    pub(crate) work: u64,
+}
+
+// The worst of some arcs: its place, and how bad it is.
+#[derive(Clone, Copy)]
+struct Worst {
+    place: usize,
+    badness: i32,
+}
+
+const NONE_BAD: Worst = Worst {
+    place: 0,
+    badness: 0,
+};
+
+impl Candidates {
+    pub(crate) fn new(alloc: Global, arcs: usize) -> Result<Candidates, AllocError> {
+        let runs = (arcs / RUN).saturating_add(1);
+        Ok(Candidates {
+            list: Vec::with_capacity(alloc, arcs)?,
+            run: 0,
+            runs,
+            stride: stride_over(runs),
+            block: (root_of(arcs) / 8 / RUN).max(1),
+            idle: 0,
+            work: 0,
+        })
+    }
+
+    // Whether no arc was bad in a whole round.
+    pub(crate) fn is_over(&self) -> bool {
+        self.runs <= self.idle && self.list.is_empty()
+    }
+
+    // A bad arc: the worst of the next block, or of the last of the list where none is bad there, or of a block after that. None
+    // where no arc is bad, or so much work is done.
+    #[inline(never)]
+    pub(crate) fn next(
+        &mut self,
+        arcs: &mut [Arc],
+        potentials: &[i32],
+        most: u64,
+    ) -> Option<usize> {
+        for _ in 0..u32::MAX {
+            if self.is_over() || most <= self.work {
+                return None;
+            }
+            let mut worst = self.worst_of_block(arcs, potentials);
+            if worst.badness == 0 {
+                worst = self.worst_of_list(arcs, potentials);
+            }
+            if 0 < worst.badness {
+                self.idle = 0;
+                return Some(worst.place);
+            }
+        }
+        None
+    }
+
+    // The worst arc of the next runs.
+    fn worst_of_block(&mut self, arcs: &[Arc], potentials: &[i32]) -> Worst {
+        let mut worst = NONE_BAD;
+        for _ in 0..self.block {
+            let first = self.run.wrapping_mul(RUN);
+            worst = worst_of_run(arcs, potentials, first, worst);
+            self.run = self.run.wrapping_add(self.stride);
+            if self.runs <= self.run {
+                self.run = self.run.wrapping_sub(self.runs);
+            }
+        }
+        self.idle = self.idle.saturating_add(self.block);
+        self.work = self
+            .work
+            .saturating_add(self.block.wrapping_mul(RUN) as u64);
+        worst
+    }
+
+    // The worst of as many of the list, from its end. Those that are bad no longer leave it.
+    fn worst_of_list(&mut self, arcs: &mut [Arc], potentials: &[i32]) -> Worst {
+        let mut worst = NONE_BAD;
+        let mut place = self.list.len();
+        for _ in 0..self.block.wrapping_mul(RUN) {
+            if place == 0 {
+                return worst;
+            }
+            place = place.wrapping_sub(1);
+            self.work = self.work.wrapping_add(1);
+            let arc = at(&self.list, place, 0) as usize;
+            let badness = at(arcs, arc, NO_ARC).badness(potentials);
+            if worst.badness < badness {
+                worst = Worst {
+                    place: arc,
+                    badness,
+                };
+            }
+            if badness <= 0 {
+                self.leave(arcs, place, arc);
+            }
+        }
+        worst
+    }
+
+    // Takes the arc at a place off the list.
+    fn leave(&mut self, arcs: &mut [Arc], place: usize, arc: usize) {
+        let old = at(arcs, arc, NO_ARC);
+        put(
+            arcs,
+            arc,
+            Arc {
+                listed: false,
+                ..old
+            },
+        );
+        let last = self.list.len().wrapping_sub(1);
+        let moved = at(&self.list, last, 0);
+        put(&mut self.list, place, moved);
+        self.list.truncate(last);
+    }
+
+    // Lists the bad arcs around the nodes that hang at a top, without those at `spared`, where they are few.
+    pub(crate) fn look(
+        &mut self,
+        arcs: &mut [Arc],
+        halves: &Halves,
+        tree: &Tree,
+        top: u16,
+        spared: u16,
+        around: u64,
+    ) -> Result<(), AllocError> {
+        if AROUND < around {
+            return Ok(());
+        }
+        self.work = self.work.saturating_add(around);
+        let mut node = top;
+        for _ in 0..u16::MAX {
+            if node == NOBODY {
+                return Ok(());
+            }
+            if node != spared {
+                self.look_at(arcs, halves, &tree.potentials, node)?;
+            }
+            node = tree.after(node, top, spared);
+        }
+        Ok(())
+    }
+
+    // Lists the bad arcs around a node.
+    fn look_at(
+        &mut self,
+        arcs: &mut [Arc],
+        halves: &Halves,
+        potentials: &[i32],
+        node: u16,
+    ) -> Result<(), AllocError> {
+        for half in halves.around(usize::from(node)) {
+            let place = (half.code / 2) as usize;
+            let arc = at(arcs, place, NO_ARC);
+            if !arc.listed && 0 < arc.badness(potentials) {
+                put(
+                    arcs,
+                    place,
+                    Arc {
+                        listed: true,
+                        ..arc
+                    },
+                );
+                self.list.push(half.code / 2)?;
+            }
+        }
+        Ok(())
+    }
+}
+
+// The worst of the arcs of a run and one found before.
+#[inline(always)]
+fn worst_of_run(arcs: &[Arc], potentials: &[i32], first: usize, before: Worst) -> Worst {
+    let mut worst = before;
+    for place in first..first.saturating_add(RUN) {
+        let badness = at(arcs, place, NO_ARC).badness(potentials);
+        if worst.badness < badness {
+            worst = Worst { place, badness };
+        }
+    }
+    worst
+}
+
+// The least number whose square is no smaller. Arcs are fewer than 2^20.
+fn root_of(number: usize) -> usize {
+    for root in 0..1_024usize {
+        if number <= root.wrapping_mul(root) {
+            return root;
+        }
+    }
+    1_024
+}
+
+// A step over so many runs, near their golden section, that comes to each.
+fn stride_over(runs: usize) -> usize {
+    let section = runs / 1_000 * 618 + runs % 1_000 * 618 / 1_000;
+    for stride in section.max(1)..runs {
+        if divisor(runs, stride) == 1 {
+            return stride;
+        }
+    }
+    1
+}
+
+// The greatest number that divides both.
+fn divisor(one: usize, other: usize) -> usize {
+    let (mut large, mut small) = (one, other);
+    for _ in 0..128 {
+        if small == 0 {
+            return large;
+        }
+        (large, small) = (small, large % small);
+    }
+    1
+}

@@ -1,0 +1,209 @@
+//! The rest of the excess, moved back.
+use crate::buckets::Buckets;
+use level_engine::{Half, Halves};
+use loose_places::{at, put, short};
+use std::alloc::{AllocError, Global};
+
+// The flow of each arc and the excess of each node, and the flows of the windows at which no balance changes.
+//
+// The method is push and relabel, over arcs that are only emptied: those of claims, and those of windows towards that flow. A label
+// is how many arcs a node is from one that wants excess, or no more than that. The flows are sums of circles and of ways from want
+// to excess, so there is always a way back.
+#[derive(Drop)]
+pub(crate) struct Drain {
+    flows: Vec<u64>,
+    excess: Vec<i64>,
+    windows: Vec<u64>,
+    labels: Vec<u32>,
+    jumps: Vec<u32>,
+    next: Vec<u32>,
+    buckets: Buckets,
+    work: u64,
+}
+
+impl Drain {
+    pub(crate) fn new(
+        alloc: Global,
+        flows: &[u64],
+        excess: Vec<i64>,
+        windows: &[u64],
+    ) -> Result<Drain, AllocError> {
+        let nodes = excess.len();
+        Ok(Drain {
+            flows: Vec::from_slice(alloc, flows)?,
+            excess,
+            windows: Vec::from_slice(alloc, windows)?,
+            labels: vec![in alloc; u32::MAX; nodes]?,
+            jumps: vec![in alloc; 1u32; nodes]?,
+            next: vec![in alloc; 0u32; nodes]?,
+            buckets: Buckets::new(alloc, nodes, nodes.saturating_mul(4))?,
+            work: 0,
+        })
+    }
+
+    // Moves excess back until no node has any, or for so much work.
+    #[inline(never)]
+    pub(crate) fn run(
+        &mut self,
+        alloc: Global,
+        halves: &Halves,
+        most: u64,
+    ) -> Result<(), AllocError> {
+        self.label_all(alloc, halves)?;
+        self.begin(halves);
+        for _ in 0..u32::MAX {
+            if most <= self.work {
+                return Ok(());
+            }
+            let Some(node) = self.buckets.take() else {
+                return Ok(());
+            };
+            self.serve(halves, node);
+        }
+        Ok(())
+    }
+
+    // The flows, and the excess that is left.
+    pub(crate) fn drained(self) -> (Vec<u64>, Vec<i64>) {
+        (self.flows, self.excess)
+    }
+
+    // Gives each node its label, by a search from those that want excess.
+    fn label_all(&mut self, alloc: Global, halves: &Halves) -> Result<(), AllocError> {
+        let mut order = Vec::with_capacity(alloc, self.labels.len())?;
+        for (node, &excess) in self.excess.iter().enumerate() {
+            if excess < 0 {
+                put(&mut self.labels, node, 0);
+                order.push(short(node))?;
+            }
+        }
+        for place in 0..self.labels.len() {
+            if order.len() <= place {
+                return Ok(());
+            }
+            let node = order[place];
+            self.label_around(&mut order, halves, node)?;
+        }
+        Ok(())
+    }
+
+    // Labels the nodes from which excess can be moved to a node.
+    fn label_around(
+        &mut self,
+        order: &mut Vec<u32>,
+        halves: &Halves,
+        node: u32,
+    ) -> Result<(), AllocError> {
+        let label = at(&self.labels, node as usize, 0).wrapping_add(1);
+        for half in halves.around(node as usize) {
+            let far = half.far();
+            if at(&self.labels, far as usize, 0) == u32::MAX && 0 < self.room(half.code ^ 1) {
+                put(&mut self.labels, far as usize, label);
+                order.push(far)?;
+            }
+        }
+        Ok(())
+    }
+
+    // Lets the nodes with an excess wait. One without a label has the number of nodes for it.
+    fn begin(&mut self, halves: &Halves) {
+        let far = short(self.labels.len());
+        for node in 0..self.labels.len() {
+            put(&mut self.next, node, halves.first(node));
+            let label = at(&self.labels, node, 0).min(far);
+            put(&mut self.labels, node, label);
+            if 0 < at(&self.excess, node, 0) {
+                self.buckets.put(short(node), label);
+            }
+        }
+    }
+
+    // How much excess can be moved back over a half.
+    #[inline(always)]
+    fn room(&self, code: u32) -> u64 {
+        let arc = (code / 2) as usize;
+        let flow = at(&self.flows, arc, 0);
+        let claims = self.flows.len().wrapping_sub(self.windows.len());
+        let ground = at(&self.windows, arc.wrapping_sub(claims), 0);
+        if code % 2 == 0 {
+            ground.saturating_sub(flow)
+        } else {
+            flow.saturating_sub(ground)
+        }
+    }
+
+    // Moves the excess of a node to lower labels, and lets it wait at a higher one where some is left.
+    fn serve(&mut self, halves: &Halves, node: u32) {
+        let end = halves.first((node as usize).wrapping_add(1));
+        for _ in 0..u32::MAX {
+            let place = at(&self.next, node as usize, 0);
+            if at(&self.excess, node as usize, 0) <= 0 {
+                return;
+            }
+            if end <= place {
+                self.relabel(halves, node);
+                return;
+            }
+            self.move_over(halves.half(place), node);
+            if 0 < at(&self.excess, node as usize, 0) {
+                put(&mut self.next, node as usize, place.wrapping_add(1));
+            }
+            self.work = self.work.wrapping_add(1);
+        }
+    }
+
+    // Moves what the node has over a half to a lower label.
+    fn move_over(&mut self, half: Half, node: u32) {
+        let (near, far) = (node as usize, half.far() as usize);
+        if at(&self.labels, near, 0) <= at(&self.labels, far, 0) {
+            return;
+        }
+        let own = at(&self.excess, near, 0);
+        let amount = own.unsigned_abs().min(self.room(half.code));
+        if amount == 0 {
+            return;
+        }
+        let arc = (half.code / 2) as usize;
+        let flow = at(&self.flows, arc, 0);
+        let after = if half.code % 2 == 0 {
+            flow.wrapping_add(amount)
+        } else {
+            flow.wrapping_sub(amount)
+        };
+        put(&mut self.flows, arc, after);
+        let cents = amount.min(i64::MAX as u64) as i64;
+        put(&mut self.excess, near, own.wrapping_sub(cents));
+        let old = at(&self.excess, far, 0);
+        let new = old.wrapping_add(cents);
+        put(&mut self.excess, far, new);
+        if old <= 0 && 0 < new {
+            self.buckets.put(half.far(), at(&self.labels, far, 0));
+        }
+    }
+
+    // Raises the label of a node above the least around it, by a jump that doubles, but not beyond the largest.
+    fn relabel(&mut self, halves: &Halves, node: u32) {
+        let (mut least, mut most) = (u32::MAX, 0u32);
+        for half in halves.around(node as usize) {
+            if 0 < self.room(half.code) {
+                let label = at(&self.labels, half.far() as usize, 0);
+                least = least.min(label);
+                most = most.max(label);
+            }
+        }
+        let place = node as usize;
+        self.work = self.work.wrapping_add(halves.around(place).len() as u64);
+        let jump = at(&self.jumps, place, 1);
+        let jumped = at(&self.labels, place, 0).saturating_add(jump);
+        let label = least
+            .saturating_add(1)
+            .max(jumped)
+            .min(most.saturating_add(1));
+        put(&mut self.labels, place, label);
+        put(&mut self.jumps, place, jump.saturating_mul(2));
+        put(&mut self.next, place, halves.first(place));
+        if least < u32::MAX {
+            self.buckets.put(node, label);
+        }
+    }
+}

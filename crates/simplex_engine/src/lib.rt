@@ -1,0 +1,23 @@
+//! Advice for the level solver where its levels stall: a whole solution, by a network simplex.
+//!
+//! The simplex starts from the flows and prices that the levels came to, or from those after the rest of the excess was drained:
+//! moved back along claims and windows until no node has or wants any, whatever it costs. Which of the two is sooner done is not
+//! known before, so they go on by turns, each for so much work, and for twice as much at the next turn. Work is a count of looks
+//! and moves and no time, so the answer is the same on each machine. Nothing is proved of the solution but that it comes, or none:
+//! `adopt` of `residual_state` tests it.
+//!
+//! Its words: an arc is bad where flow would gain by leaving the bound that it is at; the tree joins all nodes to a root that no
+//! claim has; a pivot brings a bad arc into the tree, moves what the circle holds, and lets another arc go. The rules are those of
+//! Ahuja, Magnanti and Orlin, "Network Flows", 1993, chapter 11, with strongly feasible trees.
+#![tactic(auto)]
+
+mod arcs;
+mod buckets;
+mod candidates;
+mod draining;
+mod forest;
+mod simplex;
+mod tree;
+mod turns;
+
+pub use turns::{Position, Solution, seek_solution};

@@ -1,0 +1,314 @@
+//! A network simplex.
+use crate::arcs::{Arc, NO_ARC, arcs_of};
+use crate::candidates::Candidates;
+use crate::forest::{MUCH, Start, own_code, plant};
+use crate::tree::{Branch, Circle, NOBODY, Tree};
+use level_engine::Halves;
+use loose_places::{at, put, short, small};
+use residual_network::Edge;
+use std::alloc::{AllocError, Global};
+
+// The arcs, the tree, the bad arcs, and what is still to be brought into the tree: arcs that were neither full nor empty at the
+// start, and then arcs to the root that hold anything.
+#[derive(Drop)]
+pub(crate) struct Simplex {
+    arcs: Vec<Arc>,
+    tree: Tree,
+    candidates: Candidates,
+    flows: Vec<u64>,
+    prices: Vec<i32>,
+    excess: Vec<i64>,
+    big: i32,
+    begun: usize,
+}
+
+// An arc that enters the tree: the nodes that more is moved from and to over it, its half at the first, how much more and how much
+// less can be moved, and what a cent gains.
+#[derive(Clone, Copy)]
+struct Entering {
+    from: u16,
+    to: u16,
+    code: u32,
+    room: u64,
+    held: u64,
+    gain: i32,
+}
+
+impl Simplex {
+    // A simplex that starts from these flows, the price of each node, and the excess of each.
+    pub(crate) fn new(
+        alloc: Global,
+        edges: &[Edge],
+        halves: &Halves,
+        flows: Vec<u64>,
+        prices: &[i32],
+        excess: Vec<i64>,
+    ) -> Result<Simplex, AllocError> {
+        let mut excess = excess;
+        let mut arcs = arcs_of(alloc, edges, &flows)?;
+        let big = big_of(&arcs, excess.len());
+        let start = Start {
+            halves,
+            flows: &flows,
+            prices,
+            big,
+        };
+        let mut tree = plant(alloc, &mut arcs, &start, &mut excess)?;
+        let root = tree.root();
+        put(&mut tree.potentials, usize::from(root), big);
+        let candidates = Candidates::new(alloc, arcs.len())?;
+        Ok(Simplex {
+            arcs,
+            tree,
+            candidates,
+            flows,
+            prices: Vec::from_slice(alloc, prices)?,
+            excess,
+            big,
+            begun: 0,
+        })
+    }
+
+    // Goes on for so much work. Whether no arc is bad any more.
+    #[inline(never)]
+    pub(crate) fn run(
+        &mut self,
+        edges: &[Edge],
+        halves: &Halves,
+        work: u64,
+    ) -> Result<bool, AllocError> {
+        let most = self.candidates.work.saturating_add(work);
+        for _ in 0..u32::MAX {
+            if most <= self.candidates.work {
+                return Ok(false);
+            }
+            let Some(entering) = self.entering(edges, most) else {
+                return Ok(self.candidates.is_over());
+            };
+            self.pivot(halves, entering)?;
+        }
+        Ok(false)
+    }
+
+    // The next arc that enters. None where the work is done.
+    fn entering(&mut self, edges: &[Edge], most: u64) -> Option<Entering> {
+        for _ in self.begun..self.arcs.len().saturating_add(self.excess.len()) {
+            let place = self.begun;
+            self.begun = place.wrapping_add(1);
+            let left = self.left_out(edges, place);
+            if left.is_some() {
+                return left;
+            }
+        }
+        let place = self
+            .candidates
+            .next(&mut self.arcs, &self.tree.potentials, most)?;
+        let arc = at(&self.arcs, place, NO_ARC);
+        let room = capacity_of(edges, place);
+        Some(self.over(place, arc, arc.side < 0, room, 0))
+    }
+
+    // Of what the tree left out at the start the arc at a place, if it is one.
+    fn left_out(&self, edges: &[Edge], place: usize) -> Option<Entering> {
+        if self.arcs.len() <= place {
+            return self.from_root(small(place.wrapping_sub(self.arcs.len())));
+        }
+        let arc = at(&self.arcs, place, NO_ARC);
+        let flow = at(&self.flows, place, 0);
+        let rest = capacity_of(edges, place).saturating_sub(flow);
+        if arc.side != 0 || flow == 0 || rest == 0 || self.tree.has(place, arc) {
+            return None;
+        }
+        if arc.gain(&self.tree.potentials) < 0 {
+            Some(self.over(place, arc, true, flow, rest))
+        } else {
+            Some(self.over(place, arc, false, rest, flow))
+        }
+    }
+
+    // An arc that enters: along it, or back.
+    fn over(&self, place: usize, arc: Arc, back: bool, room: u64, held: u64) -> Entering {
+        let code = short(place).wrapping_mul(2);
+        let gain = arc.gain(&self.tree.potentials);
+        if back {
+            Entering {
+                from: arc.head,
+                to: arc.tail,
+                code: code.wrapping_add(1),
+                room,
+                held,
+                gain: gain.wrapping_neg(),
+            }
+        } else {
+            Entering {
+                from: arc.tail,
+                to: arc.head,
+                code,
+                room,
+                held,
+                gain,
+            }
+        }
+    }
+
+    // The arc between a node and the root, to be emptied, where it holds anything.
+    fn from_root(&self, node: u16) -> Option<Entering> {
+        let excess = at(&self.excess, usize::from(node), 0);
+        if excess == 0 {
+            return None;
+        }
+        let root = self.tree.root();
+        let price = at(&self.prices, usize::from(node), 0);
+        let own = self.tree.potential(node);
+        let over = self.tree.potential(root).wrapping_sub(own);
+        let room = excess.unsigned_abs();
+        let held = MUCH.saturating_sub(room);
+        let code = own_code(self.arcs.len(), node, excess);
+        if excess < 0 {
+            Some(Entering {
+                from: node,
+                to: root,
+                code,
+                room,
+                held,
+                gain: self.big.wrapping_sub(price).wrapping_add(over),
+            })
+        } else {
+            Some(Entering {
+                from: root,
+                to: node,
+                code: code ^ 1,
+                room,
+                held,
+                gain: self.big.wrapping_add(price).wrapping_sub(over),
+            })
+        }
+    }
+
+    // Moves what the circle of an arc holds, and lets another leave the tree for it, if it is not the first to hold no more.
+    fn pivot(&mut self, halves: &Halves, entering: Entering) -> Result<(), AllocError> {
+        let circle = self.tree.circle(entering.from, entering.to, entering.room);
+        if 0 < circle.least {
+            self.tree
+                .move_down(entering.from, circle.join, circle.least);
+            self.tree.move_up(entering.to, circle.join, circle.least);
+        }
+        self.candidates.work = self
+            .candidates
+            .work
+            .saturating_add(circle.steps.wrapping_mul(4));
+        if circle.out == NOBODY {
+            self.set_side(entering.code, entering.code % 2 == 1);
+            return Ok(());
+        }
+        let code = self.tree.node(circle.out).code;
+        self.set_side(code, circle.behind == (code % 2 == 0));
+        let branch = branch_of(entering, &circle);
+        self.set_in_tree(entering.code);
+        self.tree.rehang(circle.out, circle.join, branch);
+        let by = if circle.behind {
+            entering.gain
+        } else {
+            entering.gain.wrapping_neg()
+        };
+        self.change(halves, branch.inner, by)
+    }
+
+    // Changes the potentials of a part, or of all the rest by the negative where that is less work, and looks at the arcs there.
+    fn change(&mut self, halves: &Halves, part: u16, by: i32) -> Result<(), AllocError> {
+        let root = self.tree.root();
+        let all = self.tree.node(root).size;
+        let few = self.tree.node(part).size <= all / 2;
+        let (top, spared, by) = if few {
+            (part, NOBODY, by)
+        } else {
+            (root, part, by.wrapping_neg())
+        };
+        let (nodes, around) = self.tree.change(halves, top, spared, by);
+        self.candidates.work = self.candidates.work.saturating_add(nodes.wrapping_mul(2));
+        self.candidates
+            .look(&mut self.arcs, halves, &self.tree, top, spared, around)
+    }
+
+    // Lets the arc of a half be empty or full. An arc to the root has no side.
+    fn set_side(&mut self, code: u32, empty: bool) {
+        let place = (code / 2) as usize;
+        let arc = at(&self.arcs, place, NO_ARC);
+        let side = if empty { 1 } else { -1 };
+        put(&mut self.arcs, place, Arc { side, ..arc });
+    }
+
+    fn set_in_tree(&mut self, code: u32) {
+        let place = (code / 2) as usize;
+        let arc = at(&self.arcs, place, NO_ARC);
+        put(&mut self.arcs, place, Arc { side: 0, ..arc });
+    }
+
+    // The flow of each arc.
+    pub(crate) fn flows(&self, alloc: Global, edges: &[Edge]) -> Result<Vec<u64>, AllocError> {
+        let mut flows = Vec::with_capacity(alloc, edges.len())?;
+        for (place, edge) in edges.iter().enumerate() {
+            let full = at(&self.arcs, place, NO_ARC).side < 0;
+            flows.push(if full { edge.capacity } else { 0 })?;
+        }
+        for node in 0..self.excess.len() {
+            let own = self.tree.node(small(node));
+            let flow = if own.code % 2 == 0 { own.down } else { own.up };
+            put(&mut flows, (own.code / 2) as usize, flow);
+        }
+        Ok(flows)
+    }
+
+    // The price of each party.
+    pub(crate) fn prices(&self, alloc: Global) -> Result<Vec<i64>, AllocError> {
+        let parties = self.excess.len().wrapping_sub(1);
+        let ground = at(&self.tree.potentials, parties, 0);
+        let mut prices = Vec::with_capacity(alloc, self.excess.len())?;
+        for node in 0..parties {
+            let own = at(&self.tree.potentials, node, 0);
+            prices.push(i64::from(ground.wrapping_sub(own)))?;
+        }
+        Ok(prices)
+    }
+}
+
+// How the part that the leaving arc cuts off is hung by the entering one.
+fn branch_of(entering: Entering, circle: &Circle) -> Branch {
+    let room = entering.room.wrapping_sub(circle.least);
+    let held = entering.held.wrapping_add(circle.least);
+    if circle.behind {
+        Branch {
+            inner: entering.from,
+            outer: entering.to,
+            code: entering.code,
+            up: room,
+            down: held,
+        }
+    } else {
+        Branch {
+            inner: entering.to,
+            outer: entering.from,
+            code: entering.code ^ 1,
+            up: held,
+            down: room,
+        }
+    }
+}
+
+// More than any path of arcs among so many nodes counts.
+fn big_of(arcs: &[Arc], nodes: usize) -> i32 {
+    let mut most = 1u16;
+    for arc in arcs {
+        most = most.max(arc.reward);
+    }
+    let nodes = i32::from(small(nodes)).wrapping_mul(4).wrapping_add(8);
+    nodes.wrapping_mul(i32::from(most))
+}
+
+// How much the arc at a place holds.
+fn capacity_of(edges: &[Edge], place: usize) -> u64 {
+    match edges.get(place) {
+        Some(edge) => edge.capacity,
+        None => 0,
+    }
+}

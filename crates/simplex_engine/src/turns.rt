@@ -1,0 +1,159 @@
+//! A solution by turns.
+use crate::draining::Drain;
+use crate::simplex::Simplex;
+use level_engine::Halves;
+use loose_places::narrow;
+use residual_network::Edge;
+use std::alloc::{AllocError, Global};
+
+/// A flow for each arc, and a price for each party.
+#[derive(Drop)]
+pub struct Solution {
+    /// The flows, in cents.
+    pub flows: Vec<u64>,
+    /// The prices.
+    pub prices: Vec<i64>,
+}
+
+/// Where the search for a solution starts, as a state has it.
+#[derive(Clone, Copy)]
+pub struct Position<'a> {
+    /// The arcs: those of claims, and then one from each party to the ground.
+    pub edges: &'a [Edge],
+    /// The flow of each arc in cents.
+    pub flows: &'a [u64],
+    /// The price of each party.
+    pub prices: &'a [i64],
+    /// The excess of each node in cents.
+    pub excess: &'a [i128],
+    /// The flows of the windows' arcs at which no balance changes.
+    pub windows: &'a [u64],
+}
+
+// The work that a drain is worth, for each half.
+const DRAIN: u64 = 400;
+
+// The work for each half that the undrained simplex has at first, where there are few.
+const SPARSE: u64 = 700;
+
+/// A solution, if one is found in so many turns, each of twice as much work as the one before.
+///
+/// Nothing is proved of it. An error is want of memory.
+pub fn seek_solution(
+    alloc: Global,
+    position: &Position,
+    halves: &Halves,
+    turns: u32,
+) -> Result<Option<Solution>, AllocError> {
+    if turns == 0 {
+        return Ok(None);
+    }
+    let prices = node_prices(alloc, position.prices)?;
+    let mut warm = warm_simplex(alloc, position, halves, &prices)?;
+    if warm.run(position.edges, halves, work_where_sparse(position, halves))? {
+        return answer(alloc, position.edges, &warm);
+    }
+    let mut drained = drained_simplex(alloc, position, halves, &prices)?;
+    by_turns(alloc, position, halves, &mut drained, &mut warm, turns)
+}
+
+// The work that the undrained simplex has first: none where there are more than five halves at a node.
+fn work_where_sparse(position: &Position, halves: &Halves) -> u64 {
+    let many = halves.len() as u64;
+    if many / 5 <= position.excess.len() as u64 {
+        many.saturating_mul(SPARSE)
+    } else {
+        0
+    }
+}
+
+// Lets the two go on by turns.
+fn by_turns(
+    alloc: Global,
+    position: &Position,
+    halves: &Halves,
+    drained: &mut Simplex,
+    warm: &mut Simplex,
+    turns: u32,
+) -> Result<Option<Solution>, AllocError> {
+    let nodes = position.excess.len() as u64;
+    let mut work = nodes.saturating_mul(nodes).saturating_mul(6);
+    work = work.saturating_add((halves.len() as u64).saturating_mul(500));
+    for _ in 0..turns {
+        if drained.run(position.edges, halves, work)? {
+            return answer(alloc, position.edges, drained);
+        }
+        if warm.run(position.edges, halves, work)? {
+            return answer(alloc, position.edges, warm);
+        }
+        work = work.saturating_mul(2);
+    }
+    Ok(None)
+}
+
+// A simplex that starts from the position.
+fn warm_simplex(
+    alloc: Global,
+    position: &Position,
+    halves: &Halves,
+    prices: &[i32],
+) -> Result<Simplex, AllocError> {
+    let flows = Vec::from_slice(alloc, position.flows)?;
+    let excess = cents(alloc, position.excess)?;
+    Simplex::new(alloc, position.edges, halves, flows, prices, excess)
+}
+
+// A simplex that starts from the position after the rest of the excess was drained.
+fn drained_simplex(
+    alloc: Global,
+    position: &Position,
+    halves: &Halves,
+    prices: &[i32],
+) -> Result<Simplex, AllocError> {
+    let excess = cents(alloc, position.excess)?;
+    let mut drain = Drain::new(alloc, position.flows, excess, position.windows)?;
+    let most = (halves.len() as u64).saturating_mul(DRAIN);
+    drain.run(alloc, halves, most)?;
+    let (flows, excess) = drain.drained();
+    Simplex::new(alloc, position.edges, halves, flows, prices, excess)
+}
+
+fn answer(
+    alloc: Global,
+    edges: &[Edge],
+    simplex: &Simplex,
+) -> Result<Option<Solution>, AllocError> {
+    let flows = simplex.flows(alloc, edges)?;
+    let prices = simplex.prices(alloc)?;
+    Ok(Some(Solution { flows, prices }))
+}
+
+// The price of each node. That of the ground is 0.
+fn node_prices(alloc: Global, prices: &[i64]) -> Result<Vec<i32>, AllocError> {
+    let mut list = Vec::with_capacity(alloc, prices.len().saturating_add(1))?;
+    for &price in prices {
+        list.push(near(price))?;
+    }
+    list.push(0)?;
+    Ok(list)
+}
+
+// The number, or one of the type's ends.
+fn near(number: i64) -> i32 {
+    if number < i32::MIN as i64 {
+        i32::MIN
+    } else if number < i32::MAX as i64 {
+        number as i32
+    } else {
+        i32::MAX
+    }
+}
+
+// The excess of each node, or the nearest number of the type.
+fn cents(alloc: Global, excess: &[i128]) -> Result<Vec<i64>, AllocError> {
+    let mut list = Vec::with_capacity(alloc, excess.len())?;
+    for &amount in excess {
+        list.push(narrow(amount))?;
+    }
+    Ok(list)
+}
