@@ -187,7 +187,8 @@ fn byte_of(kind: Kind) -> u8
 }
 
 fn put_publish(buffer: &mut Vec<u8>, round: u32, outcome: &Outcome)
-    requires spare { vec_len buffer.old + 13 + (8 * length outcome.now.discharges + 4 * length outcome.now.prices) ≤ vec_capacity buffer.old }
+    requires spare { vec_len buffer.old + 13 + (8 * length outcome.now.discharges
+        + 4 * length outcome.now.prices) ≤ vec_capacity buffer.old }
     requires discharges { length outcome.now.discharges ≤ MOST_CLAIMS }
     requires prices { length outcome.now.prices ≤ MOST_FIRMS }
     requires near { All (λ p. unsigned_abs p ≤ length outcome.now.prices) outcome.now.prices }

@@ -81,7 +81,13 @@ pub(crate) fn is_answered(rt: &impl Abort, book: &mut Book, caller: u32, act: Ac
 }
 
 // The book gives a caller these replies, one after another.
-pub(crate) fn replies(rt: &impl Abort, book: &mut Book, caller: u32, acts: Vec<Act>, due: &[Reply]) {
+pub(crate) fn replies(
+    rt: &impl Abort,
+    book: &mut Book,
+    caller: u32,
+    acts: Vec<Act>,
+    due: &[Reply],
+) {
     assert!(rt; acts.len() == due.len());
     for (act, due) in acts.into_iter().zip(due) {
         is_answered(rt, book, caller, act, *due);

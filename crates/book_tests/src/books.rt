@@ -1,5 +1,7 @@
 //! Books: limits of accounts, lives of claims, and sums.
-use crate::acts::{confirm, dispute, draw, due_day, file, fund, is_answered, key, limit, name, receive, replies};
+use crate::acts::{
+    confirm, dispute, draw, due_day, file, fund, is_answered, key, limit, name, receive, replies,
+};
 use claim_book::Book;
 use claim_history::{AccountFact, Act, Day, Position, Reply, Status, Why};
 use setoff_model::{Key, Name};

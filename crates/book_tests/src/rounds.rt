@@ -1,5 +1,7 @@
 //! Books with an open round.
-use crate::acts::{confirm, dispute, due_day, file, fund, is_answered, key, make_room, name, receive, replies};
+use crate::acts::{
+    confirm, dispute, due_day, file, fund, is_answered, key, make_room, name, receive, replies,
+};
 use crate::books::stands_at;
 use claim_book::Book;
 use claim_history::{Act, Day, Entry, Reply, Status, Why};

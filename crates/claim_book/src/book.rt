@@ -50,9 +50,21 @@ impl Model for Book {
 
     ghost Value = { BookView };
 
-    ghost view = { λ b. record { history = b.entries.items; room = min (vec_capacity b.entries - vec_len b.entries) (min b.claims.room b.accounts.room) } };
+    ghost view = { λ b. record {
+      history = b.entries.items;
+      room = min (vec_capacity b.entries - vec_len b.entries)
+          (min b.claims.room b.accounts.room);
+    } };
 
-    ghost invariant = { λ b. IsBook (record { entries = b.entries.items; claims = b.claims.facts; claim_marks = b.claims.marks; accounts = b.accounts.facts; account_marks = b.accounts.marks; openings = b.openings; round = b.kept }) };
+    ghost invariant = { λ b. IsBook (record {
+      entries = b.entries.items;
+      claims = b.claims.facts;
+      claim_marks = b.claims.marks;
+      accounts = b.accounts.facts;
+      account_marks = b.accounts.marks;
+      openings = b.openings;
+      round = b.kept;
+    }) };
 }
 
 impl Book {
@@ -184,7 +196,8 @@ impl Book {
         requires few { (state_of self.old.history).openings < MOST_ROUNDS }
         requires opens { is_opening entry.reply ≡ true }
         requires next { MayFollow self.old.history entry }
-        requires cut { (kind : Kind) (horizon : ℕ) → entry.act ≡ act.Close kind horizon → cut ≡ cut_of ((state_of self.old.history).openings + 1) (ledger_of self.old.history) kind horizon }
+        requires cut { (kind : Kind) (horizon : ℕ) → entry.act ≡ act.Close kind horizon
+            → cut ≡ cut_of ((state_of self.old.history).openings + 1) (ledger_of self.old.history) kind horizon }
         ensures history { self.new.history ≡ self.old.history ++ entry ∷ [] }
         ensures room { self.old.room ≤ self.new.room + 1 }
         ensures kept { KeepsRoom self.old.history entry self.new.room }
@@ -236,7 +249,8 @@ impl Book {
     /// 2^32 - 1 rounds were opened. The only error is that memory is missing.
     pub fn next_cut(&self, alloc: Global, kind: Kind, horizon: Day) -> Result<Cut, AllocError>
         requires { (state_of self.now.history).openings < MOST_ROUNDS }
-        ensures cut { IfOk result (λ cut. cut ≡ cut_of ((state_of self.now.history).openings + 1) (ledger_of self.now.history) kind horizon) }
+        ensures cut { IfOk result (λ cut. cut ≡ cut_of ((state_of self.now.history).openings + 1)
+            (ledger_of self.now.history) kind horizon) }
         ensures formed { IfOk result WellFormed }
     {
         cut_of_a_history_is_of_its_facts();

@@ -54,11 +54,13 @@ one_alike l m test f false fails alike =
 owed_alike : (l m : Ledger) (test : Filing → Bool) (fs : List Filing) → All (CountsAlike l m test) fs → owed_of m test fs ≡ owed_of l test fs
 owed_alike l m test [] all = refl
 owed_alike l m test (f ∷ fs) all =
-    omega (arith,
+    omega (
+      arith,
       first_in (λ g. left_of m g.key) (is_confirmed (status_of m f.key) && test f) f (filter (λ g. is_confirmed (status_of m g.key) && test g) fs),
       first_in (λ g. left_of l g.key) (is_confirmed (status_of l f.key) && test f) f (filter (λ g. is_confirmed (status_of l g.key) && test g) fs),
       one_alike l m test f (test f) refl (All-head (CountsAlike l m test) f fs all),
-      owed_alike l m test fs (All-tail (CountsAlike l m test) f fs all))
+      owed_alike l m test fs (All-tail (CountsAlike l m test) f fs all),
+    )
 
 -- ---- a claim of another firm
 
@@ -87,7 +89,6 @@ all_found l m distinct keeps =
 module _ (l m last : Ledger) (firm : List ℕ) (key : Key)
     (distinct : AreDistinct (filings l)) (keeps : Keeps l last) (apart : is_side_of last firm key ≡ false)
     (others : (f : Filing) → filing_of l f.key ≡ Some f → same_key f.key key ≡ false → (status_of m f.key ≡ status_of l f.key) × (left_of m f.key ≡ left_of l f.key)) where
-
   receivable_alike : owed_of m (λ f. same_name firm f.key.creditor) (filings l) ≡ receivable l firm
   receivable_alike =
       owed_alike l m (λ f. same_name firm f.key.creditor) (filings l)

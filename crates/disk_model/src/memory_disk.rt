@@ -148,7 +148,8 @@ impl MemoryDisk {
     // Makes all room before anything changes.
     fn overwrite(&mut self, at: usize, piece: &[u8]) -> Result<(), AllocError>
         requires { at ≤ length self.old.bytes.items }
-        ensures ok { OnOk result ((kept : _) × (kept.items ≡ piece.now) × (memory_state self.new ≡ after_write at kept (memory_state self.old))) }
+        ensures ok { OnOk result ((kept : _) × (kept.items ≡ piece.now)
+            × (memory_state self.new ≡ after_write at kept (memory_state self.old))) }
         ensures err { OnErr result (memory_state self.new ≡ memory_state self.old) }
     {
         self.keep_first()?;
@@ -252,7 +253,8 @@ impl Disk for MemoryDisk {
         ensures crash { Passes (seen_of self.old) (seen_of self.new) (After (Torn at (length piece.now)) (IsPresent (seen_of self.old))) }
         ensures cause { IsCounted self.old.faults self.new.faults result }
 
-        ensures ok { OnOk result ((kept : _) × (kept.items ≡ piece.now) × (memory_state self.new ≡ after_write at kept (memory_state self.old))) }
+        ensures ok { OnOk result ((kept : _) × (kept.items ≡ piece.now)
+            × (memory_state self.new ≡ after_write at kept (memory_state self.old))) }
         ensures named { is_named (memory_state self.old) ≡ true → IsErr result }
         ensures err { OnErr result (HasFailed (memory_state self.old) (memory_state self.new)) }
     {

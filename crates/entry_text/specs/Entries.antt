@@ -49,7 +49,8 @@ why_text w = why_name w ++ why_numbers w
 
 -- the balance, and what is owed to the firm and by it
 abbrev pub position_text : Position → List ℕ
-position_text p = codes "balance " ++ signed_cents_text p.balance ++ codes " receivable " ++ cents_text p.receivable ++ codes " payable " ++ cents_text p.payable
+position_text p = codes "balance " ++ signed_cents_text p.balance ++ codes " receivable " ++ cents_text p.receivable
+    ++ codes " payable " ++ cents_text p.payable
 
 -- the text of a reply
 abbrev pub reply_text : Reply → List ℕ

@@ -36,7 +36,11 @@ impl Model for AccountTable {
 
     ghost Value = { AccountsView };
 
-    ghost view = { λ t. record { facts = t.facts.items; marks = t.marks.items; room = min (min (vec_capacity t.facts - vec_len t.facts) (vec_capacity t.marks - vec_len t.marks)) t.names.room } };
+    ghost view = { λ t. record {
+      facts = t.facts.items;
+      marks = t.marks.items;
+      room = min (min (vec_capacity t.facts - vec_len t.facts) (vec_capacity t.marks - vec_len t.marks)) t.names.room;
+    } };
 
     ghost invariant = { λ t. AreAccountsOf t.names.names t.facts.items t.marks.items };
 }
@@ -125,7 +129,8 @@ impl AccountTable {
     // Marks a firm's account, where it has one. The marks were those of a test.
     fn mark_account(&mut self, firm: &Name)
         ensures facts { self.new.facts ≡ self.old.facts }
-        ensures marks { (test : AccountFact → Bool) → self.old.marks ≡ map test self.old.facts → self.new.marks ≡ map (λ a. same_name firm.now a.firm || test a) self.old.facts }
+        ensures marks { (test : AccountFact → Bool) → self.old.marks ≡ map test self.old.facts
+            → self.new.marks ≡ map (λ a. same_name firm.now a.firm || test a) self.old.facts }
         ensures room { self.new.room ≡ self.old.room }
     {
         if let Some(place) = self.place(firm) {

@@ -36,7 +36,12 @@ impl Model for ClaimTable {
 
     ghost Value = { ClaimsView };
 
-    ghost view = { λ t. record { facts = t.facts.items; marks = t.marks.items; room = min (min (min (vec_capacity t.facts - vec_len t.facts) (vec_capacity t.marks - vec_len t.marks)) t.keys.room) (min t.receivables.room t.payables.room) } };
+    ghost view = { λ t. record {
+      facts = t.facts.items;
+      marks = t.marks.items;
+      room = min (min (min (vec_capacity t.facts - vec_len t.facts) (vec_capacity t.marks - vec_len t.marks)) t.keys.room)
+          (min t.receivables.room t.payables.room);
+    } };
 
     ghost invariant = { λ t. IsClaimTable t.keys.keys t.facts.items t.marks.items t.receivables t.payables };
 }
@@ -206,7 +211,8 @@ impl ClaimTable {
     // Marks the claim of a key, which is looked for on the walk first. The marks were those of a test.
     fn mark_claim(&mut self, walk: &mut Walk, key: &Key)
         ensures facts { self.new.facts ≡ self.old.facts }
-        ensures marks { (test : ClaimFact → Bool) → self.old.marks ≡ map test self.old.facts → self.new.marks ≡ map (λ c. same_key key.now c.key || test c) self.old.facts }
+        ensures marks { (test : ClaimFact → Bool) → self.old.marks ≡ map test self.old.facts
+            → self.new.marks ≡ map (λ c. same_key key.now c.key || test c) self.old.facts }
         ensures room { self.new.room ≡ self.old.room }
     {
         if let Some(place) = self.next_place(walk, key) {

@@ -21,7 +21,11 @@ impl Model for FirmSums {
 
     ghost Value = { SumsView };
 
-    ghost view = { λ s. record { firms = s.firms.names; sums = s.sums.items; room = min (vec_capacity s.sums - vec_len s.sums) s.firms.room } };
+    ghost view = { λ s. record {
+      firms = s.firms.names;
+      sums = s.sums.items;
+      room = min (vec_capacity s.sums - vec_len s.sums) s.firms.room;
+    } };
 
     ghost invariant = { λ s. length s.sums.items ≡ length s.firms.names };
 }
@@ -84,7 +88,8 @@ impl FirmSums {
         requires enough { less ≤ sum_of self.old firm.now }
         requires fits { sum_of self.old firm.now - less + more < 2 ^ 64 }
         ensures known { (other : List ℕ) → has_sum self.new other ≡ has_sum self.old other }
-        ensures sums { (other : List ℕ) → sum_of self.new other ≡ (if same_name firm.now other then sum_of self.old other - less + more else sum_of self.old other) }
+        ensures sums { (other : List ℕ) → sum_of self.new other
+            ≡ (if same_name firm.now other then sum_of self.old other - less + more else sum_of self.old other) }
         ensures room { self.new.room ≡ self.old.room }
     {
         match self.firms.place_near(guess, firm) {

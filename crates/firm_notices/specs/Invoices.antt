@@ -77,8 +77,10 @@ OnBadRow P (errors.BadRow row why) = P row why
 -- no bytes are invoices of two lists of FILEs, and none that are invoices have a bad row
 pub record OneReadingLaw : Type 0 where
   pub only : (bytes : List ℕ) (a b : List Act) → IsInvoiceText bytes a → IsInvoiceText bytes b → a ≡ b
-  pub refused : (bytes : List ℕ) (filings : List Act) (row : ℕ) (why : RowCause) → IsInvoiceText bytes filings → IsFirstBadRow bytes row why → ⊥
+  pub refused : (bytes : List ℕ) (filings : List Act) (row : ℕ) (why : RowCause) → IsInvoiceText bytes filings
+      → IsFirstBadRow bytes row why → ⊥
 
 -- the lines of the FILEs that invoices spell are a batch of requests, which ask for these FILEs
 abbrev pub FiledLaw : Type 0
-FiledLaw = (lane : ℕ) (bytes : List ℕ) (filings : List Act) → IsLane lane → IsInvoiceText bytes filings → IsRequestText (import_text lane filings) (numbered 1 (map (asked_of lane) filings) ∷ [])
+FiledLaw = (lane : ℕ) (bytes : List ℕ) (filings : List Act) → IsLane lane → IsInvoiceText bytes filings
+    → IsRequestText (import_text lane filings) (numbered 1 (map (asked_of lane) filings) ∷ [])

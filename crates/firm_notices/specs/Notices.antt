@@ -22,7 +22,8 @@ is_open claim = not (is_withdrawn claim.status) && nat_lt 0 claim.left
 
 -- the names of the fields
 abbrev pub notice_names : List (List ℕ)
-notice_names = codes "debtor" ∷ codes "creditor" ∷ codes "invoice" ∷ codes "status" ∷ codes "amount" ∷ codes "open" ∷ codes "due" ∷ codes "overdue" ∷ []
+notice_names = codes "debtor" ∷ codes "creditor" ∷ codes "invoice" ∷ codes "status" ∷ codes "amount" ∷ codes "open"
+    ∷ codes "due" ∷ codes "overdue" ∷ []
 
 -- the fields of a claim; the last is the number of days from the due day to today, 0 where it is not past
 abbrev pub notice_fields : ℕ → ClaimFact → List (List ℕ)

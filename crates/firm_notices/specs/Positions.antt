@@ -8,7 +8,8 @@ use Rattle.firm_notices.specs.Tables.{csv_text}
 
 -- the names of the fields
 abbrev pub position_names : List (List ℕ)
-position_names = codes "firm" ∷ codes "balance" ∷ codes "credit" ∷ codes "ceiling" ∷ codes "offer" ∷ codes "receivable" ∷ codes "payable" ∷ []
+position_names = codes "firm" ∷ codes "balance" ∷ codes "credit" ∷ codes "ceiling" ∷ codes "offer" ∷ codes "receivable"
+    ∷ codes "payable" ∷ []
 
 -- the fields of an account and a position
 abbrev pub position_fields : AccountFact → Position → List (List ℕ)

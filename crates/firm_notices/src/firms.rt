@@ -57,7 +57,8 @@ fn put_position(
     account: &AccountFact,
     position: &Position,
 ) -> Result<(), AllocError>
-    ensures { OnOk result ((text : List ℕ) → HoldsText table.old text → HoldsText table.new (text ++ row_text default_writer (position_fields account.now position.now))) }
+    ensures { OnOk result ((text : List ℕ) → HoldsText table.old text
+        → HoldsText table.new (text ++ row_text default_writer (position_fields account.now position.now))) }
 {
     let sums = Sums {
         balance: signed_field(alloc, account.balance)?,
@@ -75,7 +76,9 @@ fn put_sums<'a>(
     account: &'a AccountFact,
     sums: &'a Sums,
 ) -> Result<(), AllocError>
-    ensures { OnOk result ((text : List ℕ) → HoldsText table.old text → HoldsText table.new (text ++ row_text default_writer (account.now.firm ∷ sums.now.balance.items ∷ sums.now.credit.items ∷ sums.now.ceiling.items ∷ sums.now.offer.items ∷ sums.now.receivable.items ∷ sums.now.payable.items ∷ []))) }
+    ensures { OnOk result ((text : List ℕ) → HoldsText table.old text
+        → HoldsText table.new (text ++ row_text default_writer (account.now.firm ∷ sums.now.balance.items ∷ sums.now.credit.items
+        ∷ sums.now.ceiling.items ∷ sums.now.offer.items ∷ sums.now.receivable.items ∷ sums.now.payable.items ∷ []))) }
 {
     put_row(
         table,

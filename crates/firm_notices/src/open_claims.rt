@@ -62,7 +62,8 @@ fn put_notice(
     claim: &ClaimFact,
     today: Day,
 ) -> Result<(), AllocError>
-    ensures { OnOk result ((text : List ℕ) → HoldsText table.old text → HoldsText table.new (text ++ row_text default_writer (notice_fields today claim.now))) }
+    ensures { OnOk result ((text : List ℕ) → HoldsText table.old text
+        → HoldsText table.new (text ++ row_text default_writer (notice_fields today claim.now))) }
 {
     let figures = Figures {
         amount: cents_field(alloc, claim.amount)?,
@@ -79,7 +80,9 @@ fn put_claim<'a>(
     status: &'a [u8],
     figures: &'a Figures,
 ) -> Result<(), AllocError>
-    ensures { OnOk result ((text : List ℕ) → HoldsText table.old text → HoldsText table.new (text ++ row_text default_writer (claim.now.debtor ∷ claim.now.key.creditor ∷ claim.now.key.invoice ∷ status.now ∷ figures.now.amount.items ∷ figures.now.open.items ∷ figures.now.due.items ∷ figures.now.overdue.items ∷ []))) }
+    ensures { OnOk result ((text : List ℕ) → HoldsText table.old text
+        → HoldsText table.new (text ++ row_text default_writer (claim.now.debtor ∷ claim.now.key.creditor ∷ claim.now.key.invoice
+        ∷ status.now ∷ figures.now.amount.items ∷ figures.now.open.items ∷ figures.now.due.items ∷ figures.now.overdue.items ∷ []))) }
 {
     put_row(
         table,

@@ -18,7 +18,8 @@ pub(crate) fn reader_of(alloc: Global, bytes: &[u8]) -> Reader<&[u8]>
 
 /// Reads the next row, if there is one. The only error is that memory is missing.
 pub(crate) fn next_row(reader: &mut Reader<&[u8]>, row: &mut ByteRecord) -> Result<bool, AllocError>
-    ensures { IfOk result (λ found. (bytes : List ℕ) (rows : List (List (List ℕ))) → StandsAt reader.old bytes rows → MovesOn reader.old reader.new bytes rows (fields_of row.new) found) }
+    ensures { IfOk result (λ found. (bytes : List ℕ) (rows : List (List (List ℕ))) → StandsAt reader.old bytes rows
+        → MovesOn reader.old reader.new bytes rows (fields_of row.new) found) }
 {
     match reader.read_byte_record(row) {
         Ok(found) => Ok(found),

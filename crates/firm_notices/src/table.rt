@@ -15,7 +15,8 @@ pub(crate) fn new_table(alloc: Global) -> Writer<Vec<u8>>
 
 /// Writes a row of these fields behind the text so far. The only error is that memory is missing.
 pub(crate) fn put_row(table: &mut Writer<Vec<u8>>, fields: &[&[u8]]) -> Result<(), AllocError>
-    ensures { OnOk result ((text : List ℕ) → HoldsText table.old text → HoldsText table.new (text ++ row_text default_writer (map (λ f. f.now) fields.now))) }
+    ensures { OnOk result ((text : List ℕ) → HoldsText table.old text
+        → HoldsText table.new (text ++ row_text default_writer (map (λ f. f.now) fields.now))) }
 {
     match table.write_fields(fields) {
         Ok(()) => Ok(()),

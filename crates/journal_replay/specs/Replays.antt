@@ -46,7 +46,8 @@ pub record IsReplayed (before after : List Entry) (caller : ℕ) (a : Act) : Typ
 abbrev pub Tells : List Entry → ℕ → ℕ → Act → ReplayStop → Type 0
 Tells history offset caller a Memory = Unit {0}
 Tells history offset caller a (BadAct at got) = (at ≡ offset) × (got ≡ answer_of history caller a) × (is_no_refusal got ≡ false)
-Tells history offset caller a (Overfull at) = (at ≡ offset) × (is_no_refusal (answer_of history caller a) ≡ true) × (is_full history caller a ≡ true)
+Tells history offset caller a (Overfull at) = (at ≡ offset) × (is_no_refusal (answer_of history caller a) ≡ true)
+    × (is_full history caller a ≡ true)
 
 -- the first faulty record, and what is told of it
 pub record TellsFirst (records : List Record) (stop : ReplayStop) : Type 0 where

@@ -5,8 +5,8 @@ ghost use Rattle.lane_seats.specs.Merging.{HasMerged, HaveEnds};
 use crate::lane::Lane;
 use disk_model::Disk;
 use request_text::Request;
-use setoff_model::limits::MOST_LANES;
 use served_lines::Answer;
+use setoff_model::limits::MOST_LANES;
 
 /// Puts the answers of lines that lanes have served in order: that of a line of a lane is the lane's next one. The answers are
 /// none at first, and the room for them is there.

@@ -6,8 +6,8 @@ use crate::lane::Lane;
 use bureau_desk::Desk;
 use disk_model::Disk;
 use request_text::Request;
-use setoff_model::limits::MOST_LANES;
 use served_lines::{Answer, LineEnd};
+use setoff_model::limits::MOST_LANES;
 use std::alloc::{AllocError, Global};
 use turn_lock::Seat;
 

@@ -186,7 +186,8 @@ impl LimitedBook {
     /// The cut of the round that a Close of this kind and horizon opens now, as `Book::next_cut`. The only error is that memory is
     /// missing.
     pub fn next_cut(&self, alloc: Global, kind: Kind, horizon: Day) -> Result<Cut, AllocError>
-        ensures cut { IfOk result (λ cut. cut ≡ cut_of ((state_of self.now.history).openings + 1) (ledger_of self.now.history) kind horizon) }
+        ensures cut { IfOk result (λ cut. cut ≡ cut_of ((state_of self.now.history).openings + 1)
+            (ledger_of self.now.history) kind horizon) }
         ensures formed { IfOk result WellFormed }
     {
         let _used = self.used();
@@ -238,7 +239,8 @@ impl LimitedBook {
         requires valid { is_valid entry.act ≡ true }
         requires opens { is_opening entry.reply ≡ true }
         requires next { MayFollow self.old.history entry }
-        requires cut { (kind : Kind) (horizon : ℕ) → entry.act ≡ acts.Close kind horizon → cut ≡ cut_of ((state_of self.old.history).openings + 1) (ledger_of self.old.history) kind horizon }
+        requires cut { (kind : Kind) (horizon : ℕ) → entry.act ≡ acts.Close kind horizon
+            → cut ≡ cut_of ((state_of self.old.history).openings + 1) (ledger_of self.old.history) kind horizon }
         requires fits { Fits self.old.history entry.caller entry.act }
         ensures history { self.new.history ≡ self.old.history ++ entry ∷ [] }
         ensures room { self.old.room ≤ self.new.room + 1 }
@@ -259,7 +261,8 @@ impl LimitedBook {
         requires valid { is_valid entry.act ≡ true }
         requires publishes { is_publication entry.act ≡ true }
         requires next { MayFollow self.old.history entry }
-        requires fits { is_no_refusal (answer_of self.old.history entry.caller entry.act) ≡ false → Fits self.old.history entry.caller entry.act }
+        requires fits { is_no_refusal (answer_of self.old.history entry.caller entry.act) ≡ false
+            → Fits self.old.history entry.caller entry.act }
         ensures history { self.new.history ≡ self.old.history ++ entry ∷ [] }
         ensures room { self.old.room ≤ self.new.room + 1 }
         ensures kept { KeepsRoom self.old.history entry self.new.room }

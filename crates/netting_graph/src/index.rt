@@ -64,7 +64,10 @@ impl ArcIndex {
     // Puts a new pair last.
     pub(crate) fn push(&mut self, debtor: u32, creditor: u32) -> Result<(), AllocError>
         requires { (a : ℕ) → IsPairAt self.old debtor creditor a → ⊥ }
-        ensures { OnOk result (self.new ≡ record { debtors = self.old.debtors ++ debtor ∷ []; creditors = self.old.creditors ++ creditor ∷ [] }) }
+        ensures { OnOk result (self.new ≡ record {
+          debtors = self.old.debtors ++ debtor ∷ [];
+          creditors = self.old.creditors ++ creditor ∷ [];
+        }) }
     {
         self.pairs.insert(Pair { debtor, creditor })?;
         Ok(())

@@ -15,7 +15,8 @@ use std::alloc::{AllocError, Global};
 pub(crate) fn merge(alloc: Global, claims: &[CutClaim]) -> Result<Vec<Arc>, AllocError>
     requires few { length claims.now ≤ MOST_CLAIMS }
     requires small { All (λ c. c.amount ≤ MOST_AMOUNT) claims.now }
-    ensures { IfOk result (λ arcs. (parties : List Party) → IsMerged (length claims.now) (obligations_of parties claims.now) (obligations_of_arcs parties arcs.items)) }
+    ensures { IfOk result (λ arcs. (parties : List Party) → IsMerged (length claims.now) (obligations_of parties claims.now)
+        (obligations_of_arcs parties arcs.items)) }
 {
     let mut index = ArcIndex::new(alloc);
     let mut arcs = Vec::new(alloc);

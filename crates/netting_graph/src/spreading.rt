@@ -57,7 +57,8 @@ fn fill_all(
 fn fill(index: &ArcIndex, left: &mut [u64], claim: &CutClaim) -> u64
     requires long { length left.old ≡ length index.now.debtors }
     requires known { (a : ℕ) × IsPairAt index.now claim.now.debtor claim.now.creditor a }
-    ensures { (a : ℕ) × IsPairAt index.now claim.now.debtor claim.now.creditor a × (result ≡ min (slice_index left.old a) claim.now.amount) × (left.new ≡ slice_set left.old a (slice_index left.old a - result)) }
+    ensures { (a : ℕ) × IsPairAt index.now claim.now.debtor claim.now.creditor a
+        × (result ≡ min (slice_index left.old a) claim.now.amount) × (left.new ≡ slice_set left.old a (slice_index left.old a - result)) }
 {
     match index.find(claim.debtor, claim.creditor) {
         Some(place) => {

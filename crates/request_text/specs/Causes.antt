@@ -76,7 +76,8 @@ HasArgsCause forms args _ = ⊥
 -- after the lane there is no field, or none that is a verb; or there is one, and the cause is in the fields after it
 abbrev pub HasVerbCause : List (List ℕ) → LineCause → Type 0
 HasVerbCause after causes.Verb = (verb : Verb) (args : List (List ℕ)) → after ≡ verb_text verb ∷ args → ⊥
-HasVerbCause after cause = (verb : Verb) × ((args : List (List ℕ)) × ((after ≡ verb_text verb ∷ args) × HasArgsCause (forms_of verb) args cause))
+HasVerbCause after cause = (verb : Verb) × ((args : List (List ℕ))
+    × ((after ≡ verb_text verb ∷ args) × HasArgsCause (forms_of verb) args cause))
 
 -- the first field is no lane; or it is one, and the cause is in the fields after it
 abbrev pub HasCause : List (List ℕ) → LineCause → Type 0

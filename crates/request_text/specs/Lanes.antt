@@ -2,7 +2,6 @@
 use Rattle.std.specs.Prelude.{ℕ, ◌≤◌, List, ◌++◌, codes}
 use Rattle.setoff_model.specs.declared.limits.TheConstants.{MOST_LANES}
 
-
 -- they have the numbers from 1 on
 abbrev pub IsLane : ℕ → Type 0
 IsLane lane = (1 ≤ lane) × (lane ≤ MOST_LANES)

@@ -11,9 +11,9 @@ ghost use Rattle.request_text.specs.Causes.{HasArgsCause, HasCause, HasForm, Has
 ghost use Rattle.request_text.specs.declared.verb.Verb.TheVariants as verbs;
 
 use crate::error::LineCause;
-use setoff_model::limits::MOST_LANES;
 use crate::verb::{Verb, verb_of};
 use claim_history::{Act, Day};
+use setoff_model::limits::MOST_LANES;
 use setoff_model::{Key, Kind, Name, read_amount, read_claim_amount, read_kind, read_number};
 use std::alloc::{AllocError, Global};
 use text_lines::{ended_lines_are_lines, fields_of, joined_fields_are_cut_again};
@@ -134,7 +134,8 @@ fn filed(
 
 // The key and the debtor of three fields.
 fn key_and_debtor(args: &[&[u8]]) -> Result<(Key, Name), LineCause>
-    ensures found { IfOk result (λ found. (map (λ f. f.now) args.now ≡ found.0.creditor ∷ found.0.invoice ∷ found.1 ∷ []) × (is_key found.0 ≡ true) × (is_name found.1 ≡ true)) }
+    ensures found { IfOk result (λ found. (map (λ f. f.now) args.now ≡ found.0.creditor ∷ found.0.invoice ∷ found.1 ∷ [])
+        × (is_key found.0 ≡ true) × (is_name found.1 ≡ true)) }
     ensures bad { IfErr result (HasArgsCause (named ∷ named ∷ named ∷ []) (map (λ f. f.now) args.now)) }
 {
     let [creditor, invoice, debtor] = args else {
@@ -194,7 +195,8 @@ fn receive_act(args: &[&[u8]]) -> Result<Act, LineCause>
 
 // The firm and the amount from 0.01 on of two fields.
 fn firm_and_amount(args: &[&[u8]]) -> Result<(Name, u64), LineCause>
-    ensures found { IfOk result (λ found. (map (λ f. f.now) args.now ≡ found.0 ∷ cents_text found.1 ∷ []) × (is_name found.0 ≡ true) × (is_claim_amount found.1 ≡ true)) }
+    ensures found { IfOk result (λ found. (map (λ f. f.now) args.now ≡ found.0 ∷ cents_text found.1 ∷ []) × (is_name found.0 ≡ true)
+        × (is_claim_amount found.1 ≡ true)) }
     ensures bad { IfErr result (HasArgsCause (named ∷ some_cents ∷ []) (map (λ f. f.now) args.now)) }
 {
     let [firm, amount] = args else {

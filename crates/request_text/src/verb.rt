@@ -38,7 +38,8 @@ pub(crate) fn verb_of(field: &[u8]) -> Option<Verb>
 // The verb of claims that a field is.
 fn claim_verb(field: &[u8]) -> Option<Verb>
     ensures found { IfSome result (λ verb. field.now ≡ verb_text verb) }
-    ensures none { IfNone result ((field.now ≢ codes "FILE") × (field.now ≢ codes "CONFIRM") × (field.now ≢ codes "DISPUTE") × (field.now ≢ codes "WITHDRAW") × (field.now ≢ codes "RECEIVE")) }
+    ensures none { IfNone result ((field.now ≢ codes "FILE") × (field.now ≢ codes "CONFIRM") × (field.now ≢ codes "DISPUTE")
+        × (field.now ≢ codes "WITHDRAW") × (field.now ≢ codes "RECEIVE")) }
 {
     if field == b"FILE".as_slice() {
         Some(Verb::File)
@@ -58,7 +59,8 @@ fn claim_verb(field: &[u8]) -> Option<Verb>
 // The verb of firms and their accounts that a field is.
 fn account_verb(field: &[u8]) -> Option<Verb>
     ensures found { IfSome result (λ verb. field.now ≡ verb_text verb) }
-    ensures none { IfNone result ((field.now ≢ codes "FIRM") × (field.now ≢ codes "FUND") × (field.now ≢ codes "DRAW") × (field.now ≢ codes "LIMIT") × (field.now ≢ codes "OFFER") × (field.now ≢ codes "POSITION")) }
+    ensures none { IfNone result ((field.now ≢ codes "FIRM") × (field.now ≢ codes "FUND") × (field.now ≢ codes "DRAW")
+        × (field.now ≢ codes "LIMIT") × (field.now ≢ codes "OFFER") × (field.now ≢ codes "POSITION")) }
 {
     if field == b"FIRM".as_slice() {
         Some(Verb::Firm)

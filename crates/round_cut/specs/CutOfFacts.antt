@@ -41,7 +41,11 @@ window_in accounts kind firm = window_or_none kind (find (λ a. same_name firm a
 
 -- the firm with this window
 abbrev pub party_in : List AccountFact → Kind → List ℕ → Party
-party_in accounts kind firm = record { firm = firm; spend = (window_in accounts kind firm).spend; room = (window_in accounts kind firm).room }
+party_in accounts kind firm = record {
+  firm = firm;
+  spend = (window_in accounts kind firm).spend;
+  room = (window_in accounts kind firm).room;
+}
 
 -- ---- the cut
 

@@ -19,7 +19,8 @@ with_party p parties = if list_any (is_party p.firm) parties then parties else p
 
 -- the parties with those of a claim, the debtor before the creditor
 abbrev pub with_parties_of : List AccountFact → Kind → ClaimFact → List Party → List Party
-with_parties_of accounts kind c parties = with_party (party_in accounts kind c.key.creditor) (with_party (party_in accounts kind c.debtor) parties)
+with_parties_of accounts kind c parties = with_party (party_in accounts kind c.key.creditor)
+    (with_party (party_in accounts kind c.debtor) parties)
 
 -- the claim with its open amount, and the places of its debtor and its creditor among the parties
 abbrev pub placed : List Party → ClaimFact → CutClaim

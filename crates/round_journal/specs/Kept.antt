@@ -57,7 +57,8 @@ pub record HasFailedShut (old new : Seen) (gate : ℕ) (unsettled : Bool) (bodie
 
 -- It failed once it had begun to open the gate. The record had been synced behind the gate by then, and stands there in each image
 -- since.
-pub record HasFailedOpening {D : Type 0} (seen : D → Seen) (old new : D) (gate : ℕ) (unsettled : Bool) (bodies : List (List ℕ)) (body : List ℕ) : Type 0 where
+pub record HasFailedOpening {D : Type 0} (seen : D → Seen) (old new : D) (gate : ℕ) (unsettled : Bool) (bodies : List (List ℕ))
+    (body : List ℕ) : Type 0 where
   pub begun : D
   pub before : Passes (seen old) (seen begun) (HasBodies bodies None)
   pub behind : IsStaged (seen begun) gate bodies body
@@ -79,4 +80,5 @@ IsLast before body after = (after ≡ before) ⊎ (after ≡ None) ⊎ (after �
 -- the bodies, alone, or followed by the one that is appended, or by the last one that was tried
 abbrev pub HoldsOne : List (List ℕ) → Option (List ℕ) → List ℕ → List ℕ → Type 0
 HoldsOne bodies last body bytes =
-    StandsFor bytes bodies ⊎ StandsFor bytes (bodies ++ body ∷ []) ⊎ ((tried : List ℕ) × (last ≡ Some tried) × StandsFor bytes (bodies ++ tried ∷ []))
+    StandsFor bytes bodies ⊎ StandsFor bytes (bodies ++ body ∷ []) ⊎ ((tried : List ℕ) × (last ≡ Some tried)
+    × StandsFor bytes (bodies ++ tried ∷ []))

@@ -10,10 +10,12 @@ OneList = (bytes : List ℕ) (one other : List (List ℕ)) → StandsFor bytes o
 
 -- bytes hold bodies where they stand for them, or are at most nine and there are none
 abbrev pub ShortFiles : Type 0
-ShortFiles = (bytes : List ℕ) (bodies : List (List ℕ)) → HoldsBodies bytes bodies ↔ (StandsFor bytes bodies ⊎ ((length bytes ≤ 9) × (bodies ≡ [])))
+ShortFiles = (bytes : List ℕ) (bodies : List (List ℕ)) → HoldsBodies bytes bodies
+    ↔ (StandsFor bytes bodies ⊎ ((length bytes ≤ 9) × (bodies ≡ [])))
 
 -- what a crash leaves now of a journal stands for the bodies that it keeps, or for these and the last one that was tried
 abbrev pub KeptStand : {D : Type 0} → (D → Seen) → Type 0
 KeptStand {D} seen =
-    (journal : JournalView D) (bodies : List (List ℕ)) (last : Option (List ℕ)) → IsKept seen journal bodies last → (c : List ℕ) → IsPresent (seen journal.disk) c
+    (journal : JournalView D) (bodies : List (List ℕ)) (last : Option (List ℕ)) → IsKept seen journal bodies last
+    → (c : List ℕ) → IsPresent (seen journal.disk) c
     → StandsFor c bodies ⊎ ((tried : List ℕ) × (last ≡ Some tried) × StandsFor c (bodies ++ tried ∷ []))

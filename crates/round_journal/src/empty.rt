@@ -10,8 +10,10 @@ use disk_model::{Disk, DiskFailed};
 
 /// Makes a journal with no records of at most nine bytes that are synced. While it does, each image holds none.
 pub(crate) fn create<D: Disk>(disk: &mut D) -> Result<(), DiskFailed>
-    ensures done { OnOk result (IsTrue (D.seen disk.old).tells → length (D.seen disk.old).reads ≤ 9 → IsKeptAt (D.seen disk.new) 8 false [] None) }
-    ensures crash { length (D.seen disk.old).reads ≤ 9 → Only (D.seen disk.old).reads (IsPresent (D.seen disk.old)) → Passes (D.seen disk.old) (D.seen disk.new) (λ bytes. HoldsBodies bytes []) }
+    ensures done { OnOk result (IsTrue (D.seen disk.old).tells → length (D.seen disk.old).reads ≤ 9
+        → IsKeptAt (D.seen disk.new) 8 false [] None) }
+    ensures crash { length (D.seen disk.old).reads ≤ 9 → Only (D.seen disk.old).reads (IsPresent (D.seen disk.old))
+        → Passes (D.seen disk.old) (D.seen disk.new) (λ bytes. HoldsBodies bytes []) }
     ensures tells { (D.seen disk.new).tells ≡ (D.seen disk.old).tells }
     ensures cause { IsCounted (D.seen disk.old).count (D.seen disk.new).count result }
 {

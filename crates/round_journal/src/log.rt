@@ -28,13 +28,18 @@ impl<D: Disk> Log<D> {
     pub(crate) fn append(&mut self, body: &[u8]) -> Result<(), DiskFailed>
         requires short { length body.now ≤ MOST_BODY }
         requires near { self.old.gate + RECORD_HEAD + length body.now ≤ MOST_JOURNAL_BYTES }
-        ensures done { OnOk result ((bodies : List (List ℕ)) (last : Option (List ℕ)) → IsKeptAt (D.seen self.old.disk) self.old.gate self.old.unsettled bodies last
+        ensures done { OnOk result ((bodies : List (List ℕ)) (last : Option (List ℕ))
+            → IsKeptAt (D.seen self.old.disk) self.old.gate self.old.unsettled bodies last
             → IsKeptAt (D.seen self.new.disk) self.new.gate self.new.unsettled (bodies ++ body.now ∷ []) None) }
-        ensures failed { OnErr result ((bodies : List (List ℕ)) (last : Option (List ℕ)) → IsKeptAt (D.seen self.old.disk) self.old.gate self.old.unsettled bodies last
-            → (after : Option (List ℕ)) × IsLast last body.now after × IsKeptAt (D.seen self.new.disk) self.new.gate self.new.unsettled bodies after) }
-        ensures failed_in { OnErr result ((bodies : List (List ℕ)) (last : Option (List ℕ)) → IsKeptAt (D.seen self.old.disk) self.old.gate self.old.unsettled bodies last
+        ensures failed { OnErr result ((bodies : List (List ℕ)) (last : Option (List ℕ))
+            → IsKeptAt (D.seen self.old.disk) self.old.gate self.old.unsettled bodies last
+            → (after : Option (List ℕ)) × IsLast last body.now after
+            × IsKeptAt (D.seen self.new.disk) self.new.gate self.new.unsettled bodies after) }
+        ensures failed_in { OnErr result ((bodies : List (List ℕ)) (last : Option (List ℕ))
+            → IsKeptAt (D.seen self.old.disk) self.old.gate self.old.unsettled bodies last
             → HasFailedIn D.seen self.old.disk self.new.disk self.new.gate self.new.unsettled bodies last body.now) }
-        ensures crash { (bodies : List (List ℕ)) (last : Option (List ℕ)) → IsKeptAt (D.seen self.old.disk) self.old.gate self.old.unsettled bodies last
+        ensures crash { (bodies : List (List ℕ)) (last : Option (List ℕ))
+            → IsKeptAt (D.seen self.old.disk) self.old.gate self.old.unsettled bodies last
             → Passes (D.seen self.old.disk) (D.seen self.new.disk) (HoldsOne bodies last body.now) }
         ensures gate { OnOk result (self.new.gate ≡ self.old.gate + RECORD_HEAD + length body.now) }
         ensures gate_err { OnErr result (self.new.gate ≡ self.old.gate) }
@@ -50,11 +55,14 @@ impl<D: Disk> Log<D> {
     // Closes a gate that an append has begun to open and may not have opened.
     fn settle(&mut self) -> Result<(), DiskFailed>
         requires { self.old.gate ≤ MOST_JOURNAL_BYTES }
-        ensures done { OnOk result ((bodies : List (List ℕ)) (last : Option (List ℕ)) → IsKeptAt (D.seen self.old.disk) self.old.gate self.old.unsettled bodies last
+        ensures done { OnOk result ((bodies : List (List ℕ)) (last : Option (List ℕ))
+            → IsKeptAt (D.seen self.old.disk) self.old.gate self.old.unsettled bodies last
             → IsKeptAt (D.seen self.new.disk) self.new.gate self.new.unsettled bodies None) }
-        ensures failed { OnErr result ((bodies : List (List ℕ)) (last : Option (List ℕ)) → IsKeptAt (D.seen self.old.disk) self.old.gate self.old.unsettled bodies last
+        ensures failed { OnErr result ((bodies : List (List ℕ)) (last : Option (List ℕ))
+            → IsKeptAt (D.seen self.old.disk) self.old.gate self.old.unsettled bodies last
             → IsKeptAt (D.seen self.new.disk) self.new.gate self.new.unsettled bodies last) }
-        ensures crash { (bodies : List (List ℕ)) (last : Option (List ℕ)) → IsKeptAt (D.seen self.old.disk) self.old.gate self.old.unsettled bodies last
+        ensures crash { (bodies : List (List ℕ)) (last : Option (List ℕ))
+            → IsKeptAt (D.seen self.old.disk) self.old.gate self.old.unsettled bodies last
             → Passes (D.seen self.old.disk) (D.seen self.new.disk) (HasBodies bodies last) }
         ensures settled { OnOk result (self.new.unsettled ≡ false) }
         ensures due { OnErr result (self.old.unsettled ≡ true) }
@@ -81,7 +89,8 @@ impl<D: Disk> Log<D> {
             → IsKeptAt (D.seen self.new.disk) self.new.gate false bodies None) }
         ensures crash { (bodies : List (List ℕ)) → IsKeptAt (D.seen self.old.disk) self.old.gate false bodies None
             → Passes (D.seen self.old.disk) (D.seen self.new.disk) (HasBodies bodies None) }
-        ensures long { OnOk result (IsTrue (D.seen self.new.disk).tells → self.old.gate + RECORD_HEAD + length body.now < length (D.seen self.new.disk).reads) }
+        ensures long { OnOk result (IsTrue (D.seen self.new.disk).tells
+            → self.old.gate + RECORD_HEAD + length body.now < length (D.seen self.new.disk).reads) }
         ensures settled { self.new.unsettled ≡ false }
         ensures gate { self.new.gate ≡ self.old.gate }
         ensures tells { (D.seen self.new.disk).tells ≡ (D.seen self.old.disk).tells }
@@ -96,11 +105,14 @@ impl<D: Disk> Log<D> {
     fn open_gate(&mut self, len: u64) -> Result<(), DiskFailed>
         requires near { self.old.gate + RECORD_HEAD + len ≤ MOST_JOURNAL_BYTES }
         requires long { IsTrue (D.seen self.old.disk).tells → self.old.gate + RECORD_HEAD + len < length (D.seen self.old.disk).reads }
-        ensures done { OnOk result ((bodies : List (List ℕ)) (body : List ℕ) → length body ≡ len → IsStaged (D.seen self.old.disk) self.old.gate bodies body
+        ensures done { OnOk result ((bodies : List (List ℕ)) (body : List ℕ) → length body ≡ len
+            → IsStaged (D.seen self.old.disk) self.old.gate bodies body
             → IsKeptAt (D.seen self.new.disk) self.new.gate self.new.unsettled (bodies ++ body ∷ []) None) }
-        ensures failed { OnErr result ((bodies : List (List ℕ)) (body : List ℕ) → length body ≡ len → IsStaged (D.seen self.old.disk) self.old.gate bodies body
+        ensures failed { OnErr result ((bodies : List (List ℕ)) (body : List ℕ) → length body ≡ len
+            → IsStaged (D.seen self.old.disk) self.old.gate bodies body
             → IsKeptAt (D.seen self.new.disk) self.new.gate self.new.unsettled bodies (Some body)) }
-        ensures crash { (bodies : List (List ℕ)) (body : List ℕ) → length body ≡ len → IsStaged (D.seen self.old.disk) self.old.gate bodies body
+        ensures crash { (bodies : List (List ℕ)) (body : List ℕ) → length body ≡ len
+            → IsStaged (D.seen self.old.disk) self.old.gate bodies body
             → Passes (D.seen self.old.disk) (D.seen self.new.disk) (HasStaged (front bodies) (staged body)) }
         ensures gate { OnOk result (self.new.gate ≡ self.old.gate + RECORD_HEAD + len) }
         ensures gate_err { OnErr result (self.new.gate ≡ self.old.gate) }

@@ -26,12 +26,15 @@ pub(crate) struct Opening<D> {
 pub(crate) fn open_disk<D: Disk>(alloc: Global, disk: &mut D) -> Result<Opening<D>, Stop>
     ensures found { IfOk result (λ o. AreFound (D.seen disk.old).tells (D.seen disk.old).reads o.scan.records.items) }
     ensures place { IfOk result (λ o. o.scan.gate ≡ length (front (bodies_of o.scan.records.items))) }
-    ensures kept { IfOk result (λ o. IsTrue (D.seen disk.old).tells → IsKeptAt (D.seen disk.new) o.scan.gate false (bodies_of o.scan.records.items) None) }
+    ensures kept { IfOk result (λ o. IsTrue (D.seen disk.old).tells
+        → IsKeptAt (D.seen disk.new) o.scan.gate false (bodies_of o.scan.records.items) None) }
     ensures first { IfOk result (λ o. (D.seen o.opened.value).reads ≡ (D.seen disk.old).reads) }
-    ensures turned { IfOk result (λ o. IsTrue (D.seen disk.old).tells → HasTurned (D.seen disk.old) (D.seen o.opened.value).moment (D.seen disk.new)) }
+    ensures turned { IfOk result (λ o. IsTrue (D.seen disk.old).tells
+        → HasTurned (D.seen disk.old) (D.seen o.opened.value).moment (D.seen disk.new)) }
     ensures opened { IfErr result (λ _. IsTrue (D.seen disk.old).tells → HasOpened (D.seen disk.old) (D.seen disk.new)) }
     ensures spared { IfOk result (λ _. IsTrue (D.seen disk.old).tells → IsSpared (D.seen disk.old).reads (D.seen disk.new).reads) }
-    ensures left { IfErr result (λ stop. IsTrue (D.seen disk.old).tells → Leaves (D.seen disk.old).reads (D.seen disk.new).reads (cause_of stop 0 0)) }
+    ensures left { IfErr result (λ stop. IsTrue (D.seen disk.old).tells
+        → Leaves (D.seen disk.old).reads (D.seen disk.new).reads (cause_of stop 0 0)) }
     ensures tells { (D.seen disk.new).tells ≡ (D.seen disk.old).tells }
     ensures later { (D.seen disk.old).count ≤ (D.seen disk.new).count }
     ensures stop { IfErr result (HasStop (D.seen disk.old).tells (D.seen disk.old).reads (D.seen disk.old).count (D.seen disk.new).count) }
@@ -45,7 +48,8 @@ pub(crate) fn open_disk<D: Disk>(alloc: Global, disk: &mut D) -> Result<Opening<
 fn read_synced<D: Disk>(alloc: Global, disk: &mut D) -> Result<(Vec<u8>, Snapshot<D>), Stop>
     ensures synced { IfOk result (λ r. IsTrue (D.seen disk.old).tells → IsSynced (D.seen disk.new) r.0.items) }
     ensures first { IfOk result (λ r. (D.seen r.1.value).reads ≡ (D.seen disk.old).reads) }
-    ensures turned { IfOk result (λ r. IsTrue (D.seen disk.old).tells → HasTurned (D.seen disk.old) (D.seen r.1.value).moment (D.seen disk.new)) }
+    ensures turned { IfOk result (λ r. IsTrue (D.seen disk.old).tells
+        → HasTurned (D.seen disk.old) (D.seen r.1.value).moment (D.seen disk.new)) }
     ensures opened { IfErr result (λ _. IsTrue (D.seen disk.old).tells → HasOpened (D.seen disk.old) (D.seen disk.new)) }
     ensures reads { (D.seen disk.new).reads ≡ (D.seen disk.old).reads }
     ensures tells { (D.seen disk.new).tells ≡ (D.seen disk.old).tells }
@@ -62,10 +66,12 @@ fn read_synced<D: Disk>(alloc: Global, disk: &mut D) -> Result<(Vec<u8>, Snapsho
 fn found_or_made<D: Disk>(alloc: Global, disk: &mut D, bytes: &[u8]) -> Result<Scan, Stop>
     ensures found { IfOk result (λ s. AreFound true bytes.now s.records.items) }
     ensures place { IfOk result (λ s. s.gate ≡ length (front (bodies_of s.records.items))) }
-    ensures kept { IfOk result (λ s. IsSynced (D.seen disk.old) bytes.now → IsKeptAt (D.seen disk.new) s.gate false (bodies_of s.records.items) None) }
+    ensures kept { IfOk result (λ s. IsSynced (D.seen disk.old) bytes.now
+        → IsKeptAt (D.seen disk.new) s.gate false (bodies_of s.records.items) None) }
     ensures crash { IsSynced (D.seen disk.old) bytes.now → Passes (D.seen disk.old) (D.seen disk.new) (HoldsAs bytes.now) }
     ensures spared { IfOk result (λ _. IsSynced (D.seen disk.old) bytes.now → IsSpared bytes.now (D.seen disk.new).reads) }
-    ensures left { IfErr result (λ stop. IsSynced (D.seen disk.old) bytes.now → Leaves bytes.now (D.seen disk.new).reads (cause_of stop 0 0)) }
+    ensures left { IfErr result (λ stop. IsSynced (D.seen disk.old) bytes.now
+        → Leaves bytes.now (D.seen disk.new).reads (cause_of stop 0 0)) }
     ensures tells { (D.seen disk.new).tells ≡ (D.seen disk.old).tells }
     ensures later { (D.seen disk.old).count ≤ (D.seen disk.new).count }
     ensures stop { IfErr result (HasStop true bytes.now (D.seen disk.old).count (D.seen disk.new).count) }

@@ -22,7 +22,8 @@ pub(crate) struct Scan {
 
 /// The records for which these bytes stand, or None where they are at most nine that stand for no list.
 pub(crate) fn records_in(alloc: Global, bytes: &[u8]) -> Result<Option<Scan>, Stop>
-    ensures { MatchResult result (λ found. MatchOption found ((length bytes.now ≤ 9) × StandsForNone bytes.now) (λ s. HasRecords bytes.now s.gate s.records.items)) (IsFault bytes.now) }
+    ensures { MatchResult result (λ found. MatchOption found ((length bytes.now ≤ 9) × StandsForNone bytes.now)
+        (λ s. HasRecords bytes.now s.gate s.records.items)) (IsFault bytes.now) }
 {
     if bytes.len() > 9 {
         return Ok(Some(records_of_long(alloc, bytes)?));

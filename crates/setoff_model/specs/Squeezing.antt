@@ -11,7 +11,8 @@ pub record IsSqueezed (p q : List ℤ) : Type 0 where
   pub one_each : length q ≡ length p
   pub same : (f g : ℕ) → price_at p f ≡ price_at p g → price_at q f ≡ price_at q g
   pub rising : (f g : ℕ) → price_at p f <ℤ price_at p g → price_at q f <ℤ price_at q g
-  pub neighbours : (f g : ℕ) → price_at p f <ℤ price_at p g → ((h : ℕ) → price_at p f <ℤ price_at p h → price_at p h <ℤ price_at p g → ⊥) → price_at q g ≡ price_at q f +ℤ pos 1
+  pub neighbours : (f g : ℕ) → price_at p f <ℤ price_at p g → ((h : ℕ) → price_at p f <ℤ price_at p h → price_at p h <ℤ price_at p g
+      → ⊥) → price_at q g ≡ price_at q f +ℤ pos 1
   pub zero : (f : ℕ) → price_at p f ≡ pos 0 → price_at q f ≡ pos 0
 
 -- each price is within n of 0
@@ -21,9 +22,11 @@ IsNear n p = (f : ℕ) → f < length p → unsigned_abs (price_at p f) ≤ n
 -- squeezed prices prove what the prices prove, each within n of 0 for n prices
 pub record SqueezingKeeps : Type 0 where
   pub slack : (o : Obligations) (d : List ℕ) (p q : List ℤ) → IsSqueezed p q → Slack o d p → Slack o d q
-  pub tight : (o : Obligations) (d : List ℕ) (p q : List ℤ) → IsSqueezed p q → IsLawful o d → length p ≡ length o.spends → total_of d ≡ bound_of o p → total_of d ≡ bound_of o q
+  pub tight : (o : Obligations) (d : List ℕ) (p q : List ℤ) → IsSqueezed p q → IsLawful o d → length p ≡ length o.spends
+      → total_of d ≡ bound_of o p → total_of d ≡ bound_of o q
   pub near : (p q : List ℤ) → IsSqueezed p q → IsNear (length p) q
-  pub proves : (o : Obligations) (d : List ℕ) (p q : List ℤ) → IsSqueezed p q → IsLawful o d → length p ≡ length o.spends → total_of d ≡ bound_of o p → Proves o d q
+  pub proves : (o : Obligations) (d : List ℕ) (p q : List ℤ) → IsSqueezed p q → IsLawful o d → length p ≡ length o.spends
+      → total_of d ≡ bound_of o p → Proves o d q
 
 -- there is one way to squeeze prices
 abbrev pub SqueezedIsOne : Type 0

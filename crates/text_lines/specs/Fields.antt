@@ -23,7 +23,8 @@ HasNoSpace field = All (λ (b : ℕ). is_space b ≡ false) field
 -- a line is its fields with spaces between them, and fields without spaces are those of their line
 pub record JoinLaw : Type 0 where
   pub joined : (line : List ℕ) → line_of (fields line) ≡ line
-  pub cut : (first : List ℕ) (others : List (List ℕ)) → HasNoSpace first → AllByRecursion HasNoSpace others → fields (line_of (first ∷ others)) ≡ first ∷ others
+  pub cut : (first : List ℕ) (others : List (List ℕ)) → HasNoSpace first → AllByRecursion HasNoSpace others
+      → fields (line_of (first ∷ others)) ≡ first ∷ others
 
 -- the texts of values have no space
 pub record NoSpaceLaw : Type 0 where

@@ -31,7 +31,8 @@ fn without_return(line: &[u8]) -> &[u8]
 /// A line ends at a line feed, and a carriage return directly before that is no byte of it. What follows the last line
 /// feed is a line where it is not empty; a carriage return at its end is a byte of it.
 pub fn next_line(rest: &[u8]) -> Option<(&[u8], &[u8])>
-    ensures { MatchOption result (lines rest.now ≡ []) (λ x. (lines rest.now ≡ x.0.now ∷ lines x.1.now) × (length x.1.now < length rest.now)) }
+    ensures { MatchOption result (lines rest.now ≡ []) (λ x. (lines rest.now ≡ x.0.now ∷ lines x.1.now)
+        × (length x.1.now < length rest.now)) }
 {
     if rest.is_empty() {
         return None;
