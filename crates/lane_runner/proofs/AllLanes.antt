@@ -17,7 +17,7 @@ use Rattle.bureau_desk.specs.Desks.{DeskView}
 use Rattle.shared_bureau.specs.Adding.{IsReady}
 use Rattle.shared_bureau.specs.Finishing.{HasFinished}
 use Rattle.served_lines.specs.declared.answer.Answer.{Answer}
-use Rattle.served_lines.specs.Served.{Line, lane_lines}
+use Rattle.served_lines.specs.Served.{lane_lines}
 use Rattle.lane_seats.specs.declared.lane.Lane.{Lane}
 use Rattle.lane_seats.specs.Lanes.{HasServedLines, ended, of_lane}
 use Rattle.lane_seats.specs.Merging.{HasMerged, HaveEnds}

@@ -11,6 +11,7 @@ ghost use Rattle.claim_history.specs.History.{answer_of, is_opening, is_accepted
 ghost use Rattle.claim_history.specs.Needs.{is_full, publication_bytes, Fits};
 ghost use Rattle.claim_book.specs.Book.{room_for, ledger_of, open_cut_of};
 ghost use Rattle.recorded_book.specs.Calls.{IsLeftOpen};
+ghost use Rattle.recorded_book.specs.Closing.{HasAskedClose};
 ghost use Rattle.recorded_book.specs.Acting.{HasActed, IsActError, IsLater, IsUntouched, IsSpared, HasClosed, IsCloseDue, IsCutReply};
 
 use crate::act_error::ActError;
@@ -34,21 +35,9 @@ impl<D: Disk> RecordedBook<D> {
         kind: Kind,
         horizon: Day,
     ) -> Result<CutReply, ActError>
-        // The caller may ask the Close.
         requires caller { 1 ≤ caller }
         requires day { is_day horizon ≡ true }
-
-        // It has its entry, or this is why it has none.
-        ensures closed { IfOk result
-            (HasClosed D.seen self.old.recorder.journal.disk self.new.recorder.journal.disk
-            self.old.book.history self.new.book.history caller (acts.Close kind horizon)) }
-        ensures error { IfErr result (IsActError self.old.book.history caller (acts.Close kind horizon)) }
-        ensures untouched { OnErr result (IsUntouched self.old self.new) }
-
-        // What is left for what comes next.
-        ensures room { OnOk result (1 ≤ self.new.book.room) }
-        ensures spared { IsSpared self.old → IsSpared self.new }
-        ensures later { IsLater D.seen self.old.recorder self.new.recorder }
+        ensures { HasAskedClose D.seen self.old self.new caller (acts.Close kind horizon) result }
     {
         let Ok(due) = self.answer(caller, &Act::Close { kind, horizon }) else {
             return Err(ActError::Memory);
@@ -69,18 +58,7 @@ impl<D: Disk> RecordedBook<D> {
         round: u32,
     ) -> Result<CutReply, ActError>
         requires asked { IsCloseDue self.old caller kind horizon (replies.Opened round) }
-
-        // It has its entry, or this is why it has none.
-        ensures closed { IfOk result
-            (HasClosed D.seen self.old.recorder.journal.disk self.new.recorder.journal.disk
-            self.old.book.history self.new.book.history caller (acts.Close kind horizon)) }
-        ensures error { IfErr result (IsActError self.old.book.history caller (acts.Close kind horizon)) }
-        ensures untouched { OnErr result (IsUntouched self.old self.new) }
-
-        // What is left for what comes next.
-        ensures room { OnOk result (1 ≤ self.new.book.room) }
-        ensures spared { IsSpared self.old → IsSpared self.new }
-        ensures later { IsLater D.seen self.old.recorder self.new.recorder }
+        ensures { HasAskedClose D.seen self.old self.new caller (acts.Close kind horizon) result }
     {
         let Ok(cut) = self.book.next_cut(self.alloc, kind, horizon) else {
             return Err(ActError::Memory);
@@ -190,18 +168,7 @@ impl<D: Disk> RecordedBook<D> {
         why: Why,
     ) -> Result<CutReply, ActError>
         requires asked { IsCloseDue self.old caller kind horizon (replies.Refused why) }
-
-        // It has its entry, or this is why it has none.
-        ensures closed { IfOk result
-            (HasClosed D.seen self.old.recorder.journal.disk self.new.recorder.journal.disk
-            self.old.book.history self.new.book.history caller (acts.Close kind horizon)) }
-        ensures error { IfErr result (IsActError self.old.book.history caller (acts.Close kind horizon)) }
-        ensures untouched { OnErr result (IsUntouched self.old self.new) }
-
-        // What is left for what comes next.
-        ensures room { OnOk result (1 ≤ self.new.book.room) }
-        ensures spared { IsSpared self.old → IsSpared self.new }
-        ensures later { IsLater D.seen self.old.recorder self.new.recorder }
+        ensures { HasAskedClose D.seen self.old self.new caller (acts.Close kind horizon) result }
     {
         let refusal = Reply::Refused(why);
         self.fits_close(caller, kind, horizon, refusal)?;
@@ -219,18 +186,7 @@ impl<D: Disk> RecordedBook<D> {
     ) -> Result<CutReply, ActError>
         requires asked { IsCloseDue self.old caller kind horizon due }
         requires no_opening { is_opening due ≡ false }
-
-        // It has its entry, or this is why it has none.
-        ensures closed { IfOk result
-            (HasClosed D.seen self.old.recorder.journal.disk self.new.recorder.journal.disk
-            self.old.book.history self.new.book.history caller (acts.Close kind horizon)) }
-        ensures error { IfErr result (IsActError self.old.book.history caller (acts.Close kind horizon)) }
-        ensures untouched { OnErr result (IsUntouched self.old self.new) }
-
-        // What is left for what comes next.
-        ensures room { OnOk result (1 ≤ self.new.book.room) }
-        ensures spared { IsSpared self.old → IsSpared self.new }
-        ensures later { IsLater D.seen self.old.recorder self.new.recorder }
+        ensures { HasAskedClose D.seen self.old self.new caller (acts.Close kind horizon) result }
     {
         self.fits_close(caller, kind, horizon, due)?;
         let Ok(cut) = open_copy(self.book.book(), self.alloc) else {

@@ -15,7 +15,7 @@ use crate::recorded::RecordedBook;
 use claim_book::Book;
 use claim_history::{Act, Entry, Reply, Why};
 use disk_model::Disk;
-use setoff_model::{Cut, Outcome, total};
+use setoff_model::{Cut, Outcome};
 
 impl<D: Disk> RecordedBook<D> {
     /// Abandons the open round as the bureau itself, where one is open. An Err means that there was no memory, and then the disk was
@@ -63,12 +63,19 @@ impl<D: Disk> RecordedBook<D> {
         }
     }
 
-    /// Publishes an outcome that is proved for the cut of the open round, which is the caller's and has this number. It gives the
-    /// reply, and the cut of the round where it was published. The memory for it was made.
-    pub fn publish(&mut self, caller: u32, number: u32, outcome: Outcome) -> (Reply, Option<Cut>)
+    /// Publishes an outcome that is proved for the cut of the open round, which is the caller's and has this number, with its
+    /// total. It gives the reply, and the cut of the round where it was published. The memory for it was made.
+    pub fn publish(
+        &mut self,
+        caller: u32,
+        number: u32,
+        outcome: Outcome,
+        total: u64,
+    ) -> (Reply, Option<Cut>)
         // The caller may publish the outcome, and the room for it was made.
         requires caller { 1 ≤ caller }
         requires due { IsOutcomeDue self.old.book.history caller number outcome }
+        requires total { total ≡ total_of outcome.discharges }
         requires room { 1 ≤ self.old.book.room }
         requires spare { IsSpared self.old }
 
@@ -88,7 +95,6 @@ impl<D: Disk> RecordedBook<D> {
     {
         let book = self.book.book();
         let _history = book.history();
-        let total = total(&outcome);
         let act = Act::Publish {
             round: number,
             outcome,

@@ -1,5 +1,5 @@
 -- Drafts with one more line.
-use Rattle.std.specs.Prelude.{◌≢◌, All, Option, Some, None, MatchOption, is_some, ℤ, unsigned_abs}
+use Rattle.std.specs.Prelude.{◌≢◌, All, Option, Some, None, is_some, ℤ, unsigned_abs}
 use Rattle.std.proofs.Common.{◌≡◌, ℕ, ◌<◌, ◌≤◌, ◌^◌, true, false, List, [], ◌∷◌, ◌++◌, length, get_or, refl, sym, ap, subst, ◌∙◌, arith}
 use Rattle.std.proofs.lemmas.List.{map-append, length_push, length-map, nil_from_length}
 use Rattle.std.proofs.lemmas.List.Elements.{All-nil, All-push, All-same, All-map}

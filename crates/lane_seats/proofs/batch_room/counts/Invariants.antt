@@ -1,4 +1,4 @@
-use Rattle.std.proofs.Common.{◌≡◌, ◌≤◌, ℕ, length, get_or, take}
+use Rattle.std.proofs.Common.{◌≡◌, length, take}
 use Rattle.setoff_model.specs.declared.limits.TheConstants.{MOST_LANES}
 use Rattle.lane_seats.specs.Rooms.{AreCounts}
 use Rattle.lane_seats.proofs.batch_room.counts.Given as goal
