@@ -20,6 +20,8 @@ use Rattle.served_lines.specs.declared.line_end.LineEnd.{LineEnd}
 use Rattle.served_lines.specs.Ends.{is_memory_end, is_full_end, has_line_end}
 use Rattle.served_lines.specs.Served.{IsServed}
 use Rattle.lane_runner.specs.Batches.{HasRunBatch}
+use Rattle.printed_text.specs.declared.exit_status.ExitStatus.{ExitStatus}
+use Rattle.printed_text.specs.declared.exit_status.ExitStatus.TheVariants as statuses
 use Rattle.printed_text.specs.Printing.{printed_of, unanswered}
 use Rattle.printed_text.specs.Writing.{IsWritten, broken, whole}
 use Rattle.batch_runs.specs.declared.tally.Tally.{Tally}
@@ -185,10 +187,10 @@ module _ {D : Type 0} (seen : D → Seen) (first : DeskView D) (x : Option (List
     }
 
     -- or the sink failed at it
-    pub breaks : (whole_run rest : List (List Request)) → whole_run ≡ (batches ++ batch ∷ []) ++ rest → AppendsPart y z text → HasRunBatches seen first new whole_run x z 4
+    pub breaks : (whole_run rest : List (List Request)) → whole_run ≡ (batches ++ batch ∷ []) ++ rest → AppendsPart y z text → HasRunBatches seen first new whole_run x z statuses.Sink
     breaks whole_run rest parts part = record {
       done = done;
-      due = 4;
+      due = statuses.Sink;
       all = record { rest = rest; in_order = parts ∙ ap (λ (l : List (List Request)). l ++ rest) all; ended = inr refl };
       history = history;
       served = served;
@@ -199,7 +201,7 @@ module _ {D : Type 0} (seen : D → Seen) (first : DeskView D) (x : Option (List
     }
 
   -- all were served and written
-  pub ends : (last : DeskView D) (batches : List (List Request)) (y : Option (List ℕ)) (tally : Tally) (status : ℕ) → SoFar seen first x last batches y tally → status ≡ run_status tally.memory tally.device tally.full
+  pub ends : (last : DeskView D) (batches : List (List Request)) (y : Option (List ℕ)) (tally : Tally) (status : ExitStatus) → SoFar seen first x last batches y tally → status ≡ run_status tally.memory tally.device tally.full
       → HasRunBatches seen first last batches x y status
   ends last batches y tally status so is =
       let due : status ≡ end_status so.done =
@@ -214,6 +216,6 @@ module _ {D : Type 0} (seen : D → Seen) (first : DeskView D) (x : Option (List
         served = so.served;
         opening = so.opening;
         none = so.none;
-        written = subst (λ (n : ℕ). IsWritten x y (end_status so.done) (text_of first.history so.done) n) (sym due) (whole so.taken);
+        written = subst (λ (n : ExitStatus). IsWritten x y (end_status so.done) (text_of first.history so.done) n) (sym due) (whole so.taken);
         told = (rest.0, subst (Appends x y) rest.1 so.taken);
       }

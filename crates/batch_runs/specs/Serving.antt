@@ -1,5 +1,5 @@
 -- Batches that are served on a desk in turn.
-use Rattle.std.specs.Prelude.{◌≡◌, ◌||◌, ℕ, List, [], ◌++◌, Option, Some, None, Result, OnErr, OnOk, length, take, drop}
+use Rattle.std.specs.Prelude.{◌≡◌, ◌&&◌, ◌||◌, ℕ, Bool, List, [], ◌++◌, Option, Some, None, Result, OnErr, OnOk, length, take, drop}
 use Rattle.std.specs.Io.KnownBytes.{Appends}
 use Rattle.std.specs.List.{list_any}
 use Rattle.disk_model.specs.Calls.{Seen}
@@ -10,8 +10,11 @@ use Rattle.request_text.specs.declared.request.Request.{Request}
 use Rattle.bureau_desk.specs.Desks.{DeskView}
 use Rattle.lane_runner.specs.Batches.{HasRunBatch}
 use Rattle.served_lines.specs.declared.answer.Answer.{Answer}
+use Rattle.served_lines.specs.declared.line_end.LineEnd.{LineEnd}
+use Rattle.served_lines.specs.declared.line_end.LineEnd.TheVariants as ends
 use Rattle.served_lines.specs.Ends.{is_memory_end, is_full_end, has_line_end}
-use Rattle.printed_text.specs.Printing.{printed_of, unanswered}
+use Rattle.printed_text.specs.declared.exit_status.ExitStatus.{ExitStatus}
+use Rattle.printed_text.specs.Printing.{printed_of, unanswered, unanswered_lines}
 use Rattle.printed_text.specs.Writing.{IsWritten}
 use Rattle.batch_runs.specs.declared.tally.Tally.{Tally}
 use Rattle.batch_runs.specs.Runs.{Done, AreOf, AreServed, HasTaken, all_added, but_last, text_of, some_device, some_end}
@@ -22,10 +25,22 @@ pub record HasSameOpening {D : Type 0} (old new : DeskView D) : Type 0 where
   pub at_opening_end : new.at_opening_end ≡ old.at_opening_end
   pub opened_with : new.opened_with ≡ old.opened_with
 
--- what came of the lines of a batch: where no line was asked, there was no memory for each
+-- what came of the lines of a batch: where none was asked, there was no memory for each
+abbrev pub told_by : List Answer → Option (List Answer) → List Answer
+told_by unasked (Some answers) = answers
+told_by unasked None = unasked
+
 abbrev pub answers_of : List Request → Option (List Answer) → List Answer
-answers_of batch (Some answers) = answers
-answers_of batch None = unanswered batch
+answers_of batch answers = told_by (unanswered batch) answers
+
+-- the same of a batch of which only the number of its first line and how many there are is known
+abbrev pub counted_answers : ℕ → ℕ → Option (List Answer) → List Answer
+counted_answers first count answers = told_by (unanswered_lines first count) answers
+
+-- a line ended so of a batch that has one, or has none
+abbrev pub ended_so : (LineEnd → Bool) → Bool → Option (List Answer) → Bool
+ended_so test some_line (Some answers) = has_line_end test answers
+ended_so test some_line None = test ends.Memory && some_line
 
 -- what a tally of these batches tells
 pub record IsTally (tally : Tally) (done : List Done) : Type 0 where
@@ -38,7 +53,8 @@ abbrev pub text_between : (old new : List Entry) → List Request → Option (Li
 text_between old new batch answers = printed_of (take (length old) new) (drop (length old) new) (answers_of batch answers)
 
 -- One batch was served, and counted into a tally. Its text was written after that, or the sink failed at it.
-pub record HasToldBatch {D T E : Type 0} (seen : D → Seen) (old new : DeskView D) (batch : List Request) (before after : Tally) (held_old held_new : Option (List ℕ)) (written : Result T E) : Type 0 where
+pub record HasToldBatch {D T E : Type 0} (seen : D → Seen) (old new : DeskView D) (batch : List Request) (before after : Tally)
+    (held_old held_new : Option (List ℕ)) (written : Result T E) : Type 0 where
   pub answers : Option (List Answer)
   pub ran : HasRunBatch seen old new batch answers
   pub memory : after.memory ≡ (before.memory || has_line_end is_memory_end (answers_of batch answers))
@@ -49,9 +65,10 @@ pub record HasToldBatch {D T E : Type 0} (seen : D → Seen) (old new : DeskView
 
 -- Batches were served in turn, and what each added was written after it was served. They are all, unless a write failed, which ends
 -- the run: the sink took the texts of all of them but the last.
-pub record HasRunBatches {D : Type 0} (seen : D → Seen) (old new : DeskView D) (batches : List (List Request)) (held_old held_new : Option (List ℕ)) (status : ℕ) : Type 0 where
+pub record HasRunBatches {D : Type 0} (seen : D → Seen) (old new : DeskView D) (batches : List (List Request))
+    (held_old held_new : Option (List ℕ)) (status : ExitStatus) : Type 0 where
   pub done : List Done
-  pub due : ℕ
+  pub due : ExitStatus
   pub all : AreOf batches due done
   pub history : new.history ≡ old.history ++ all_added done
   pub served : AreServed old.history done

@@ -1,4 +1,4 @@
-pub mod Refused
+pub mod Risen
 pub mod Reading
 pub mod Commands
 pub mod Served

@@ -7,7 +7,6 @@ use Rattle.std.proofs.Math.Seq.{take-append_seam}
 use Rattle.std.specs.Io.KnownBytes.{Appends}
 use Rattle.bureau_edge.specs.Streams.{AppendsPart}
 use Rattle.bureau_edge.proofs.Known.{Appends-then, AppendsPart-front}
-use Rattle.fault_count.specs.Counts.{HasRisen}
 use Rattle.disk_model.specs.Calls.{Seen, GoesOn}
 use Rattle.claim_history.specs.declared.act.Act.TheVariants as act
 use Rattle.claim_history.specs.declared.entry.Entry.{Entry}
@@ -27,18 +26,17 @@ use Rattle.bureau_desk.proofs.Left.{left_law}
 use Rattle.round_journal.specs.Opened.{AreFound}
 use Rattle.served_lines.specs.Bound.{AreRequests}
 use Rattle.bureau_commands.proofs.Bound.{none_full_of}
-use Rattle.served_lines.specs.Ends.{is_memory_end, is_full_end}
+use Rattle.printed_text.specs.declared.exit_status.ExitStatus.{ExitStatus}
+use Rattle.printed_text.specs.declared.exit_status.ExitStatus.TheVariants as statuses
 use Rattle.printed_text.specs.Printing.{added_text, printed_of}
 use Rattle.printed_text.specs.Writing.{broken}
-use Rattle.batch_runs.specs.Runs.{Done, AreOf, AreServed, HasTaken, all_added, but_last, requests_of, some_device, some_end, text_of}
+use Rattle.batch_runs.specs.Runs.{Done, AreOf, AreServed, HasTaken, all_added, but_last, requests_of, text_of}
 use Rattle.bureau_commands.specs.Journals.{HoldsSound}
 use Rattle.bureau_commands.specs.Headline.{IsHeadline, LeavesDisk, SurvivesCrashes, run_text, sure_text}
 use Rattle.batch_runs.specs.Serving.{HasRunBatches, HasSameOpening}
 use Rattle.bureau_commands.specs.Due.{IsBatchesDue, WroteTaking}
 use Rattle.bureau_commands.specs.Due.{served as served_due}
-use Rattle.batch_runs.proofs.Printed.{five_by, no_three_by}
-use Rattle.batch_runs.proofs.Rising.{device_rose}
-use Rattle.bureau_reports.proofs.Written.{told_status, written_after, wrote_line}
+use Rattle.bureau_reports.proofs.Written.{written_after, wrote_line}
 
 -- ---- an opened history
 
@@ -126,7 +124,7 @@ module _ {D : Type 0} (seen : D → Seen) (old : D) (first last : DeskView D) (o
       let found = left_law last.history (seen last.disk).reads keeps.legal keeps.within keeps.keepable (keeps.reads_left tells) in
       record { tells = tells; records = found.0; found = subst (λ (b : Bool). AreFound b (seen last.disk).reads found.0) (sym tells) found.1; sound = found.2 }
 
-  headline : (Taken : List ℕ → Type 0) (batches : List (List Request)) (done : List Done) (status : ℕ) → AreRequests (requests_of batches) → AreOf batches status done → last.history ≡ first.history ++ all_added done → AreServed first.history done
+  headline : (Taken : List ℕ → Type 0) (batches : List (List Request)) (done : List Done) (status : ExitStatus) → AreRequests (requests_of batches) → AreOf batches status done → last.history ≡ first.history ++ all_added done → AreServed first.history done
       → (done ≡ [] → last ≡ first) → Taken (sure_text opened first.history done) → IsHeadline seen Taken old last.disk batches status (run_text opened first.history done)
   headline Taken batches done status asked all parts served none taken = record {
     opened = opened;
@@ -155,7 +153,7 @@ module _ {D : Type 0} (seen : D → Seen) (old : D) (first last : DeskView D) (o
   sure_taken x y (b ∷ done) taken = taken
 
   -- the batches were served
-  pub wrote_all : (x y z : Option (List ℕ)) (batches : List (List Request)) (status : ℕ) → AreRequests (requests_of batches) → Appends x y (printed_of (take first.opened_with first.history) (drop first.opened_with first.history) [])
+  pub wrote_all : (x y z : Option (List ℕ)) (batches : List (List Request)) (status : ExitStatus) → AreRequests (requests_of batches) → Appends x y (printed_of (take first.opened_with first.history) (drop first.opened_with first.history) [])
       → HasRunBatches seen first last batches y z status → WroteTaking (λ Taken. IsBatchesDue seen Taken old last.disk batches) x z status
   wrote_all x y z batches status asked before ran =
       let text = run_text opened first.history ran.done in
@@ -167,29 +165,11 @@ module _ {D : Type 0} (seen : D → Seen) (old : D) (first last : DeskView D) (o
 
   -- the sink failed at the abandonment's line
   pub wrote_begun : (x y : Option (List ℕ)) (batches : List (List Request)) → AreRequests (requests_of batches) → last ≡ first → AppendsPart x y (printed_of (take first.opened_with first.history) (drop first.opened_with first.history) [])
-      → WroteTaking (λ Taken. IsBatchesDue seen Taken old last.disk batches) x y 4
+      → WroteTaking (λ Taken. IsBatchesDue seen Taken old last.disk batches) x y statuses.Sink
   wrote_begun x y batches asked same part =
       let none : List Done = [] in
       let Taken : List ℕ → Type 0 = HasTaken x y in
-      wrote_line (IsBatchesDue seen Taken old last.disk batches) x y 4 (run_text opened first.history none) 4
-      (served_due 4 (run_text opened first.history none)
-      (headline Taken batches none 4 asked (record { rest = batches; in_order = refl; ended = inr refl }) (ap (λ (d : DeskView D). d.history) same ∙ sym (append-nil first.history)) tt (λ e. same) (part.0, part.3)))
+      wrote_line (IsBatchesDue seen Taken old last.disk batches) x y statuses.Sink (run_text opened first.history none) statuses.Sink
+      (served_due statuses.Sink (run_text opened first.history none)
+      (headline Taken batches none statuses.Sink asked (record { rest = batches; in_order = refl; ended = inr refl }) (ap (λ (d : DeskView D). d.history) same ∙ sym (append-nil first.history)) tt (λ e. same) (part.0, part.3)))
       (broken (AppendsPart-front x y (added_text opened (drop (length opened) first.history)) [] (subst (AppendsPart x y) begun_text part)))
-
-  -- where the status tells of a device, the disk's count rose
-  pub ran_rose : (x y : Option (List ℕ)) (batches : List (List Request)) (status : ℕ) → HasRunBatches seen first last batches x y status → status ≡ 5 → HasRisen (seen old).count (seen last.disk).count
-  ran_rose x y batches status ran five = ⊎_elim
-      (λ due. ⊎_elim
-      (λ all. device_rose (seen old).count (seen last.disk).count first.history (all_added ran.done) (subst IsLegal ran.history keeps.legal) (subst (AreBetween (seen old).count (seen last.disk).count) ran.history between)
-      (five_by (some_end is_memory_end ran.done) (some_device ran.done) (some_end is_full_end ran.done) (sym all.1 ∙ sym due ∙ five)))
-      (λ four. absurd (omega (arith, due, four, five)))
-      ran.all.ended)
-      (λ four. absurd (omega (arith, five, four)))
-      (told_status x y ran.due _ status ran.written)
-
--- no status of batches tells of the source
-pub ran_no_three : {D : Type 0} (seen : D → Seen) (first last : DeskView D) (batches : List (List Request)) (x y : Option (List ℕ)) (status : ℕ) → HasRunBatches seen first last batches x y status → status ≡ 3 → ⊥
-ran_no_three seen first last batches x y status ran three = ⊎_elim
-    (λ due. ⊎_elim (λ all. no_three_by (some_end is_memory_end ran.done) (some_device ran.done) (some_end is_full_end ran.done) (sym all.1 ∙ sym due ∙ three)) (λ four. omega (arith, due, four, three)) ran.all.ended)
-    (λ four. omega (arith, four, three))
-    (told_status x y ran.due _ status ran.written)

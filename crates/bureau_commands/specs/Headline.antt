@@ -16,6 +16,7 @@ use Rattle.recorded_book.specs.Calls.{HoldsFirst, StandsForLeft}
 use Rattle.bureau_desk.specs.Opening.{HasDeskOpened, HasDeskTurned, SparesUnsound}
 use Rattle.recorded_book.specs.Devices.{AreBetween}
 use Rattle.recorded_book.specs.Moments.{HasMoments}
+use Rattle.printed_text.specs.declared.exit_status.ExitStatus.{ExitStatus}
 use Rattle.printed_text.specs.Printing.{added_text}
 use Rattle.served_lines.specs.Ends.{is_full_end}
 use Rattle.batch_runs.specs.Runs.{Done, AreOf, AreServed, all_added, but_last, requests_of, some_end, text_of}
@@ -44,7 +45,8 @@ sure_text opened begun (b ∷ done) = run_text opened begun (but_last (b ∷ don
 -- discharges more.
 abbrev pub RoundsAreGreatest : List Entry → Type 0
 RoundsAreGreatest history =
-    (before later : List Entry) (e : Entry) (total : ℕ) → history ≡ before ++ e ∷ later → e.reply ≡ reply.Published total → IsGreatestPublication before e total
+    (before later : List Entry) (e : Entry) (total : ℕ) → history ≡ before ++ e ∷ later → e.reply ≡ reply.Published total
+    → IsGreatestPublication before e total
 
 -- What a call leaves of the disk that ends before its first batch. Until the first sync had succeeded the disk reads as at the
 -- start and no image is new; from then on each image holds the records of the start, alone or with the abandonment. More than
@@ -69,7 +71,8 @@ pub record SurvivesCrashes {D : Type 0} (seen : D → Seen) (old new : D) (opene
 -- failed, and so for sound records; that the history is legal and within the limits, its acts are valid, and the counts of its
 -- devices lie between those of the disk; the calls of each lane; that within the bound no line is full; the rounds; crashes; and
 -- what a run leaves that failed to write the abandonment's line.
-pub record IsHeadline {D : Type 0} (seen : D → Seen) (Taken : List ℕ → Type 0) (old new : D) (batches : List (List Request)) (status : ℕ) (text : List ℕ) : Type 0 where
+pub record IsHeadline {D : Type 0} (seen : D → Seen) (Taken : List ℕ → Type 0) (old new : D) (batches : List (List Request))
+    (status : ExitStatus) (text : List ℕ) : Type 0 where
   pub opened : List Entry
   pub begun : List Entry
   pub done : List Done

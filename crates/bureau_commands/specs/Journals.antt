@@ -9,6 +9,7 @@ use Rattle.request_text.specs.declared.request.Request.{Request}
 use Rattle.round_journal.specs.declared.record.Record.{Record}
 use Rattle.round_journal.specs.Opened.{AreFound}
 use Rattle.journal_replay.specs.Replays.{AreSound}
+use Rattle.printed_text.specs.declared.exit_status.ExitStatus.{ExitStatus}
 use Rattle.served_lines.specs.Bound.{closes}
 use Rattle.bureau_desk.specs.declared.desk_refused.DeskCause.{DeskCause}
 use Rattle.bureau_desk.specs.Laws.{IsFault}
@@ -21,8 +22,8 @@ pub record HoldsSound (disk : Seen) : Type 0 where
   pub found : AreFound disk.tells disk.reads records
   pub sound : AreSound records
 
--- the bytes have a fault that an audit tells with this status: 1 where an act is refused or full, else 8
-pub record HasAuditFault (bytes : List ℕ) (status : ℕ) : Type 0 where
+-- the bytes have a fault that an audit tells with this status: `No` where an act is refused or full, else `Unsound`
+pub record HasAuditFault (bytes : List ℕ) (status : ExitStatus) : Type 0 where
   pub cause : DeskCause
   pub fault : IsFault bytes cause
   pub status_is : status ≡ unsound_status cause
@@ -46,4 +47,5 @@ firms_asked records requests = count_by (λ r. is_registration r.act) records + 
 -- request, and both endings of a round of all claims and firms for each Close and once more.
 pub record HasRoomForAll (records : List Record) (requests : List Request) : Type 0 where
   pub entries : length records + length requests + closes requests + 3 ≤ MOST_ENTRIES
-  pub bytes : journal_bytes records + 10 + 80 * length requests + endings_with (claims_asked records requests) (firms_asked records requests) * (closes requests + 1) ≤ MOST_JOURNAL_BYTES
+  pub bytes : journal_bytes records + 10 + 80 * length requests + endings_with (claims_asked records requests)
+      (firms_asked records requests) * (closes requests + 1) ≤ MOST_JOURNAL_BYTES

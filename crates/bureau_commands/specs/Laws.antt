@@ -2,6 +2,7 @@
 use Rattle.std.specs.Prelude.{◌<◌, ◌≤◌, ℕ, List}
 use Rattle.disk_model.specs.Calls.{Seen, IsPresent}
 use Rattle.claim_history.specs.declared.entry.Entry.{Entry}
+use Rattle.printed_text.specs.declared.exit_status.ExitStatus.{ExitStatus}
 use Rattle.bureau_desk.specs.Opening.{HoldsOpened}
 use Rattle.bureau_commands.specs.Journals.{HasAuditFault, HoldsSound}
 use Rattle.bureau_commands.specs.Headline.{SurvivesCrashes}
@@ -24,10 +25,10 @@ abbrev pub CrashLaw : {D : Type 0} → (D → Seen) → Type 0
 CrashLaw {D} seen = (old new : D) (opened : ℕ) (history : List Entry) (s : SurvivesCrashes seen old new opened history)
     → IsTied (seen old) (seen new) s.first (seen s.begun).moment
 
--- no cause of status 8 is there, and none of status 1 of an audit
+-- no cause of the status `Unsound` is there, and none of `No` of an audit
 pub record HasNoFault (disk : Seen) : Type 0 where
   pub no_opening : HoldsUnsound disk → ⊥
-  pub no_audit : (status : ℕ) → HasAuditFault disk.reads status → ⊥
+  pub no_audit : (status : ExitStatus) → HasAuditFault disk.reads status → ⊥
 
 -- so it is of a disk that holds sound records, as a run leaves it
 abbrev pub NextLaw : {D : Type 0} → (D → Seen) → Type 0

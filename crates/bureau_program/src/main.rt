@@ -10,6 +10,7 @@ use bureau_commands::{bureau, without_words};
 use bureau_edge::{StandardIn, StandardOut};
 use command_words::USAGE;
 use disk_model::FileDisk;
+use printed_text::ExitStatus;
 use std::alloc::AllocError;
 use std::env;
 use std::fs::File;
@@ -70,7 +71,7 @@ fn main(rt: HostRuntime) -> ExitCode {
         }
         _ => without_words(source, sink).status,
     };
-    if status == 2 {
+    if status == ExitStatus::Words.number() {
         let _told = eprint!(rt; "{USAGE}");
     }
     ExitCode::from(status)

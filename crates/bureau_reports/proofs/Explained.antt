@@ -6,14 +6,15 @@ use Rattle.setoff_model.specs.Setoff.{Proves}
 use Rattle.statement_text.specs.Statements.{IsStatement}
 use Rattle.chain_explain.specs.Chains.{ChainView}
 use Rattle.chain_explain.specs.Explained.{ChainsLaw, ExplainerView, Gives, IsDone, IsStart}
+use Rattle.printed_text.specs.declared.exit_status.ExitStatus.TheVariants as statuses
 use Rattle.chain_text.specs.Texts.{chains_text}
 use Rattle.command_words.specs.declared.input_report.InputReport.TheVariants as inputs
 use Rattle.bureau_reports.specs.Inputs.{IsInputDue, reported}
 
 pub explained_due : ChainsLaw → (input : List ℕ) (cut : CutView) (outcome : OutcomeView) → IsStatement (lines input) cut outcome → Proves (obligations cut) outcome.discharges outcome.prices
     → (start last : ExplainerView) → IsStart cut outcome.discharges start → (xs : List ChainView) → Gives (obligations start.cut) start xs last → IsDone (obligations start.cut) last
-    → IsInputDue inputs.Explain input 0 (chains_text start.cut xs)
-explained_due law input cut outcome stated proved start last begins xs given ends = reported 0 (chains_text start.cut xs) (inr (
+    → IsInputDue inputs.Explain input statuses.Done (chains_text start.cut xs)
+explained_due law input cut outcome stated proved start last begins xs given ends = reported statuses.Done (chains_text start.cut xs) (inr (
   refl,
   record {
     cut = cut;

@@ -1,5 +1,6 @@
 -- What is told of a disk that was read.
-use Rattle.std.proofs.Common.{◌≡◌, ◌⊎◌, ⊎_elim, inl, inr, ℕ, ◌≤◌, Bool, false, List, [], ◌∷◌, refl, subst, true≢false, arith}
+use Rattle.std.specs.Prelude.{Option}
+use Rattle.std.proofs.Common.{◌≡◌, ◌∙◌, ◌⊎◌, ⊎_elim, inl, inr, ℕ, ◌≤◌, Bool, false, List, [], ◌∷◌, refl, subst, sym, true≢false, arith}
 use Rattle.fault_count.specs.Counts.{HasRisen}
 use Rattle.claim_history.specs.declared.entry.Entry.{Entry}
 use Rattle.claim_history.specs.declared.entry.Reply.{Reply}
@@ -9,11 +10,15 @@ use Rattle.claim_history.specs.Laws.{IsReplyInRange}
 use Rattle.bureau_desk.specs.declared.desk_refused.DeskCause.{DeskCause}
 use Rattle.bureau_desk.specs.declared.desk_refused.DeskCause.TheVariants.{Memory, Device, BadHeader, BadRecord, BadAct, Overfull}
 use Rattle.bureau_desk.specs.Opening.{HasDeskCause, HasViewCause, HasViewed}
+use Rattle.printed_text.specs.declared.exit_status.ExitStatus.{ExitStatus}
+use Rattle.printed_text.specs.declared.exit_status.ExitStatus.TheVariants as statuses
+use Rattle.printed_text.specs.Statuses.{IsOneOf}
+use Rattle.printed_text.specs.Writing.{Wrote}
 use Rattle.bureau_reports.specs.DiskTexts.{IsTellable, opening_status, unsound_status}
 use Rattle.command_words.specs.declared.journal_report.JournalReport.{JournalReport}
 use Rattle.command_words.specs.declared.journal_report.JournalReport.TheVariants as journals
-use Rattle.bureau_reports.specs.Statuses.{IsOneOf}
-use Rattle.bureau_reports.specs.Journals.{IsBookDue, IsJournalDue, made, no_text_memory, no_view_memory, unviewed_status, viewed}
+use Rattle.bureau_reports.specs.Journals.{IsBookDue, IsJournalDue, journal_statuses, made, no_text_memory, no_view_memory, unviewed_status, unviewed, viewed}
+use Rattle.bureau_reports.proofs.Written.{told_status, wrote_among}
 
 -- a refusal has no amount
 refusal_fits : (got : Reply) → is_no_refusal got ≡ false → IsReplyInRange got
@@ -45,7 +50,7 @@ as_opening tells bytes low high (Overfull offset) h = h
 
 -- ---- statuses
 
-pub opening_among : (cause : DeskCause) → IsOneOf (5 ∷ 8 ∷ 9 ∷ []) (opening_status cause)
+pub opening_among : (cause : DeskCause) → IsOneOf (statuses.Disk ∷ statuses.Unsound ∷ statuses.Memory ∷ []) (opening_status cause)
 opening_among Memory = inr (inr (inl refl))
 opening_among (Device before after) = inl refl
 opening_among BadHeader = inr (inl refl)
@@ -53,7 +58,7 @@ opening_among (BadRecord offset why) = inr (inl refl)
 opening_among (BadAct offset got) = inr (inl refl)
 opening_among (Overfull offset) = inr (inl refl)
 
-unsound_among : (cause : DeskCause) → IsOneOf (1 ∷ 5 ∷ 8 ∷ 9 ∷ []) (unsound_status cause)
+unsound_among : (cause : DeskCause) → IsOneOf (statuses.No ∷ statuses.Disk ∷ statuses.Unsound ∷ statuses.Memory ∷ []) (unsound_status cause)
 unsound_among Memory = inr (inr (inr (inl refl)))
 unsound_among (Device before after) = inr (inl refl)
 unsound_among BadHeader = inr (inr (inl refl))
@@ -61,7 +66,7 @@ unsound_among (BadRecord offset why) = inr (inr (inl refl))
 unsound_among (BadAct offset got) = inl refl
 unsound_among (Overfull offset) = inl refl
 
-pub unviewed_among : (report : JournalReport) (cause : DeskCause) → IsOneOf (1 ∷ 5 ∷ 8 ∷ 9 ∷ []) (unviewed_status report cause)
+pub unviewed_among : (report : JournalReport) (cause : DeskCause) → IsOneOf (statuses.No ∷ statuses.Disk ∷ statuses.Unsound ∷ statuses.Memory ∷ []) (unviewed_status report cause)
 unviewed_among journals.Audit cause = unsound_among cause
 unviewed_among journals.Positions cause = inr (opening_among cause)
 unviewed_among (journals.Notices today) cause = inr (opening_among cause)
@@ -72,24 +77,48 @@ device_rose : (low high before after : ℕ) → (before ≡ low) × (after ≡ h
 device_rose low high before after counts =
     subst (λ (n : ℕ). HasRisen n high) counts.0 (subst (λ (n : ℕ). HasRisen before n) counts.1 counts.2)
 
-view_rose : (tells : Bool) (bytes : List ℕ) (low high : ℕ) (cause : DeskCause) → HasViewCause tells bytes low high cause → (opening_status cause ≡ 5) ⊎ (unsound_status cause ≡ 5) → HasRisen low high
-view_rose tells bytes low high Memory h five = absurd (⊎_elim (λ e. omega (arith, e)) (λ e. omega (arith, e)) five)
-view_rose tells bytes low high (Device before after) h five = device_rose low high before after h
-view_rose tells bytes low high BadHeader h five = absurd (⊎_elim (λ e. omega (arith, e)) (λ e. omega (arith, e)) five)
-view_rose tells bytes low high (BadRecord offset why) h five = absurd (⊎_elim (λ e. omega (arith, e)) (λ e. omega (arith, e)) five)
-view_rose tells bytes low high (BadAct offset got) h five = absurd (⊎_elim (λ e. omega (arith, e)) (λ e. omega (arith, e)) five)
-view_rose tells bytes low high (Overfull offset) h five = absurd (⊎_elim (λ e. omega (arith, e)) (λ e. omega (arith, e)) five)
+view_rose : (tells : Bool) (bytes : List ℕ) (low high : ℕ) (cause : DeskCause) → HasViewCause tells bytes low high cause → (opening_status cause ≡ statuses.Disk) ⊎ (unsound_status cause ≡ statuses.Disk) → HasRisen low high
+view_rose tells bytes low high Memory h disk = absurd (⊎_elim (λ e. cc) (λ e. cc) disk)
+view_rose tells bytes low high (Device before after) h disk = device_rose low high before after h
+view_rose tells bytes low high BadHeader h disk = absurd (⊎_elim (λ e. cc) (λ e. cc) disk)
+view_rose tells bytes low high (BadRecord offset why) h disk = absurd (⊎_elim (λ e. cc) (λ e. cc) disk)
+view_rose tells bytes low high (BadAct offset got) h disk = absurd (⊎_elim (λ e. cc) (λ e. cc) disk)
+view_rose tells bytes low high (Overfull offset) h disk = absurd (⊎_elim (λ e. cc) (λ e. cc) disk)
 
-pub unviewed_rose : (report : JournalReport) (tells : Bool) (bytes : List ℕ) (low high : ℕ) (cause : DeskCause) → HasViewCause tells bytes low high cause → unviewed_status report cause ≡ 5 → HasRisen low high
-unviewed_rose journals.Audit tells bytes low high cause h five = view_rose tells bytes low high cause h (inr five)
-unviewed_rose journals.Positions tells bytes low high cause h five = view_rose tells bytes low high cause h (inl five)
-unviewed_rose (journals.Notices today) tells bytes low high cause h five = view_rose tells bytes low high cause h (inl five)
-unviewed_rose (journals.Weigh kind today) tells bytes low high cause h five = view_rose tells bytes low high cause h (inl five)
+pub unviewed_rose : (report : JournalReport) (tells : Bool) (bytes : List ℕ) (low high : ℕ) (cause : DeskCause) → HasViewCause tells bytes low high cause → unviewed_status report cause ≡ statuses.Disk → HasRisen low high
+unviewed_rose journals.Audit tells bytes low high cause h disk = view_rose tells bytes low high cause h (inr disk)
+unviewed_rose journals.Positions tells bytes low high cause h disk = view_rose tells bytes low high cause h (inl disk)
+unviewed_rose (journals.Notices today) tells bytes low high cause h disk = view_rose tells bytes low high cause h (inl disk)
+unviewed_rose (journals.Weigh kind today) tells bytes low high cause h disk = view_rose tells bytes low high cause h (inl disk)
 
 -- ---- books
 
 -- what is due for a book is due for the disk that has it
-pub book_due : (report : JournalReport) (tells : Bool) (bytes : List ℕ) (low high : ℕ) (history : List Entry) → HasViewed tells bytes history → (status : ℕ) (text : List ℕ)
+pub book_due : (report : JournalReport) (tells : Bool) (bytes : List ℕ) (low high : ℕ) (history : List Entry) → HasViewed tells bytes history → (status : ExitStatus) (text : List ℕ)
     → IsBookDue report history status text → IsJournalDue report tells bytes low high status text
 book_due report tells bytes low high history has status text no_text_memory = no_view_memory
 book_due report tells bytes low high history has status text (made t is) = viewed history has t is
+
+-- ---- what is due
+
+module _ (report : JournalReport) (tells : Bool) (bytes : List ℕ) (low high : ℕ) where
+  abbrev dues : List ExitStatus
+  dues = statuses.Done ∷ statuses.No ∷ statuses.Disk ∷ statuses.Unsound ∷ statuses.Memory ∷ []
+
+  due_among : (status : ExitStatus) (text : List ℕ) → IsJournalDue report tells bytes low high status text → IsOneOf dues status
+  due_among status text no_view_memory = inr (inr (inr (inr (inl refl))))
+  due_among status text (viewed history has t is) = inl refl
+  due_among status text (unviewed cause has) = inr (unviewed_among report cause)
+
+  pub due_rose : (status : ExitStatus) (text : List ℕ) → IsJournalDue report tells bytes low high status text → status ≡ statuses.Disk → HasRisen low high
+  due_rose status text no_view_memory disk = cc
+  due_rose status text (viewed history has t is) disk = cc
+  due_rose status text (unviewed cause has) disk = unviewed_rose report tells bytes low high cause has disk
+
+  pub journal_among : (x y : Option (List ℕ)) (status : ExitStatus) → Wrote (IsJournalDue report tells bytes low high) x y status → IsOneOf journal_statuses status
+  journal_among x y status w = wrote_among (IsJournalDue report tells bytes low high) dues x y status due_among w
+
+  -- where one tells of the disk, its count rose
+  pub journal_rose : (x y : Option (List ℕ)) (status : ExitStatus) → Wrote (IsJournalDue report tells bytes low high) x y status → status ≡ statuses.Disk → HasRisen low high
+  journal_rose x y status w disk =
+      ⊎_elim (λ is. due_rose w.due w.text w.is_due (sym is ∙ disk)) (λ sink. cc) (told_status x y w.due w.text status w.is_written)

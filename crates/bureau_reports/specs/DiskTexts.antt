@@ -4,6 +4,9 @@ use Rattle.claim_history.specs.declared.entry.Entry.{Entry}
 use Rattle.claim_history.specs.Acts.{is_publication}
 use Rattle.claim_history.specs.Laws.{IsReplyInRange}
 use Rattle.entry_text.specs.Entries.{reply_text}
+use Rattle.printed_text.specs.declared.exit_status.ExitStatus.{ExitStatus}
+use Rattle.printed_text.specs.declared.exit_status.ExitStatus.TheVariants as statuses
+use Rattle.printed_text.specs.Texts.{memory_text}
 use Rattle.round_journal.specs.declared.cause.RecordWhy.{RecordWhy}
 use Rattle.round_journal.specs.declared.cause.RecordWhy.TheVariants.{Short, Body}
 use Rattle.bureau_desk.specs.declared.desk_refused.DeskCause.{DeskCause}
@@ -41,20 +44,21 @@ told_counts word before after = word ++ decimal before ++ codes " " ++ decimal a
 
 -- the fault line of a disk on which no desk was opened
 abbrev pub opening_text : DeskCause → List ℕ
-opening_text Memory = codes "fault memory\n"
+opening_text Memory = memory_text
 opening_text (Device before after) = told_counts (codes "fault device ") before after
 opening_text cause = told_fault (codes "fault journal ") cause
 
-abbrev pub opening_status : DeskCause → ℕ
-opening_status Memory = 9
-opening_status (Device before after) = 5
-opening_status _ = 8
+abbrev pub opening_status : DeskCause → ExitStatus
+opening_status Memory = statuses.Memory
+opening_status (Device before after) = statuses.Disk
+opening_status _ = statuses.Unsound
 
 -- ---- audits
 
 -- how many acts the history of a sound journal has, and how many of them publish a round
 abbrev pub sound_text : List Entry → List ℕ
-sound_text history = codes "yes acts " ++ decimal (length history) ++ codes " rounds " ++ decimal (count_by (λ e. is_publication e.act) history) ++ codes "\n"
+sound_text history = codes "yes acts " ++ decimal (length history) ++ codes " rounds "
+    ++ decimal (count_by (λ e. is_publication e.act) history) ++ codes "\n"
 
 -- its first act that is refused or full; or why it was not read, as at an opening
 abbrev pub unsound_text : DeskCause → List ℕ
@@ -62,9 +66,9 @@ unsound_text (BadAct offset got) = told_fault (codes "no ") (BadAct offset got)
 unsound_text (Overfull offset) = told_fault (codes "no ") (Overfull offset)
 unsound_text cause = opening_text cause
 
-abbrev pub unsound_status : DeskCause → ℕ
-unsound_status (BadAct offset got) = 1
-unsound_status (Overfull offset) = 1
+abbrev pub unsound_status : DeskCause → ExitStatus
+unsound_status (BadAct offset got) = statuses.No
+unsound_status (Overfull offset) = statuses.No
 unsound_status cause = opening_status cause
 
 -- the numbers of a reply that is told are in range

@@ -1,5 +1,5 @@
 -- Which status and which text a report on an input comes to.
-use Rattle.std.specs.Prelude.{◌≡◌, ◌⊎◌, ℕ, List, codes}
+use Rattle.std.specs.Prelude.{◌≡◌, ◌⊎◌, ℕ, List, [], ◌∷◌}
 use Rattle.std.specs.Str.Lines.{lines}
 use Rattle.setoff_model.specs.CutView.{CutView, OutcomeView, obligations}
 use Rattle.setoff_model.specs.Setoff.{Proves}
@@ -12,7 +12,9 @@ use Rattle.statement_text.specs.Causes.{HasCause}
 use Rattle.statement_text.specs.Statements.{IsStatement, IsFirstBadLine}
 use Rattle.firm_notices.specs.declared.error.RowCause.{RowCause}
 use Rattle.firm_notices.specs.Invoices.{IsFirstBadRow, IsInvoiceText, import_text}
-use Rattle.printed_text.specs.Texts.{bad_row_text, bad_statement_text, verdict_text, verdict_status}
+use Rattle.printed_text.specs.declared.exit_status.ExitStatus.{ExitStatus}
+use Rattle.printed_text.specs.declared.exit_status.ExitStatus.TheVariants as statuses
+use Rattle.printed_text.specs.Texts.{bad_row_text, bad_statement_text, memory_text, verdict_text, verdict_status}
 use Rattle.chain_text.specs.Texts.{chains_text}
 use Rattle.command_words.specs.declared.input_report.InputReport.{InputReport}
 use Rattle.command_words.specs.declared.input_report.InputReport.TheVariants as inputs
@@ -53,7 +55,7 @@ IsFormFault (inputs.Import lane) input text = IsBadRowTold input text
 -- ---- what is told of one that is
 
 -- the verdict on the one cut and outcome that the input states
-pub record IsJudged (input : List ℕ) (status : ℕ) (text : List ℕ) : Type 0 where
+pub record IsJudged (input : List ℕ) (status : ExitStatus) (text : List ℕ) : Type 0 where
   pub cut : CutView
   pub outcome : OutcomeView
   pub stated : IsStatement (lines input) cut outcome
@@ -73,13 +75,19 @@ pub record IsExplained (input : List ℕ) (text : List ℕ) : Type 0 where
   pub text_is : text ≡ chains_text cut chains
 
 -- what the report tells: the verdict; the chains, or a verdict that the discharges are not proved; the lines that file invoices
-abbrev pub IsTold : InputReport → List ℕ → ℕ → List ℕ → Type 0
+abbrev pub IsTold : InputReport → List ℕ → ExitStatus → List ℕ → Type 0
 IsTold inputs.Check input status text = IsJudged input status text
-IsTold inputs.Explain input status text = ((status ≡ 1) × IsJudged input status text) ⊎ ((status ≡ 0) × IsExplained input text)
-IsTold (inputs.Import lane) input status text = (filings : List Act) × IsInvoiceText input filings × (status ≡ 0) × (text ≡ import_text lane filings)
+IsTold inputs.Explain input status text = ((status ≡ statuses.No) × IsJudged input status text)
+    ⊎ ((status ≡ statuses.Done) × IsExplained input text)
+IsTold (inputs.Import lane) input status text = (filings : List Act) × IsInvoiceText input filings × (status ≡ statuses.Done)
+    × (text ≡ import_text lane filings)
 
 -- there was no memory; the input is not in form; or it is, and this is told of it
-pub data IsInputDue (report : InputReport) (input : List ℕ) : ℕ → List ℕ → Type 0 where
-  no_report_memory : IsInputDue report input 9 (codes "fault memory\n")
-  out_of_form : (text : List ℕ) → IsFormFault report input text → (IsInForm report input → ⊥) → IsInputDue report input 6 text
-  reported : (status : ℕ) (text : List ℕ) → IsTold report input status text → IsInputDue report input status text
+pub data IsInputDue (report : InputReport) (input : List ℕ) : ExitStatus → List ℕ → Type 0 where
+  no_report_memory : IsInputDue report input statuses.Memory memory_text
+  out_of_form : (text : List ℕ) → IsFormFault report input text → (IsInForm report input → ⊥) → IsInputDue report input statuses.Form text
+  reported : (status : ExitStatus) (text : List ℕ) → IsTold report input status text → IsInputDue report input status text
+
+-- the statuses that a report on an input has, and that of a sink that failed
+abbrev pub input_statuses : List ExitStatus
+input_statuses = statuses.Sink ∷ statuses.Done ∷ statuses.No ∷ statuses.Form ∷ statuses.Memory ∷ []

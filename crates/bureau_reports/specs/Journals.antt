@@ -1,11 +1,14 @@
 -- Which status and which text a report on a journal comes to.
-use Rattle.std.specs.Prelude.{◌≡◌, Bool, ℕ, List, codes}
+use Rattle.std.specs.Prelude.{◌≡◌, Bool, ℕ, List, [], ◌∷◌}
 use Rattle.claim_history.specs.declared.entry.Entry.{Entry}
 use Rattle.claim_book.specs.Book.{ledger_of}
 use Rattle.bureau_desk.specs.declared.desk_refused.DeskCause.{DeskCause}
 use Rattle.bureau_desk.specs.Opening.{HasViewCause, HasViewed}
 use Rattle.firm_notices.specs.Notices.{notices_text}
 use Rattle.firm_notices.specs.Positions.{positions_text}
+use Rattle.printed_text.specs.declared.exit_status.ExitStatus.{ExitStatus}
+use Rattle.printed_text.specs.declared.exit_status.ExitStatus.TheVariants as statuses
+use Rattle.printed_text.specs.Texts.{memory_text}
 use Rattle.weighed_round.specs.Weighed.{IsWeighedText}
 use Rattle.command_words.specs.declared.journal_report.JournalReport.{JournalReport}
 use Rattle.command_words.specs.declared.journal_report.JournalReport.TheVariants as journals
@@ -19,12 +22,12 @@ IsTextOf (journals.Notices today) history text = text ≡ notices_text today (le
 IsTextOf (journals.Weigh kind today) history text = IsWeighedText kind today (ledger_of history) text
 
 -- this, or there was no memory for it
-pub data IsBookDue (report : JournalReport) (history : List Entry) : ℕ → List ℕ → Type 0 where
-  no_text_memory : IsBookDue report history 9 (codes "fault memory\n")
-  made : (text : List ℕ) → IsTextOf report history text → IsBookDue report history 0 text
+pub data IsBookDue (report : JournalReport) (history : List Entry) : ExitStatus → List ℕ → Type 0 where
+  no_text_memory : IsBookDue report history statuses.Memory memory_text
+  made : (text : List ℕ) → IsTextOf report history text → IsBookDue report history statuses.Done text
 
 -- the status and the text where there is no book: an audit tells the act that is refused or full, the others a fault of the journal
-abbrev pub unviewed_status : JournalReport → DeskCause → ℕ
+abbrev pub unviewed_status : JournalReport → DeskCause → ExitStatus
 unviewed_status journals.Audit cause = unsound_status cause
 unviewed_status journals.Positions cause = opening_status cause
 unviewed_status (journals.Notices today) cause = opening_status cause
@@ -38,7 +41,13 @@ unviewed_text (journals.Weigh kind today) cause = opening_text cause
 
 -- Of a disk that is told to have these bytes, and whose counts were these before and after: there was no memory; the journal was
 -- replayed, and this is told of its history; or why there is no book.
-pub data IsJournalDue (report : JournalReport) (tells : Bool) (bytes : List ℕ) (low high : ℕ) : ℕ → List ℕ → Type 0 where
-  no_view_memory : IsJournalDue report tells bytes low high 9 (codes "fault memory\n")
-  viewed : (history : List Entry) → HasViewed tells bytes history → (text : List ℕ) → IsTextOf report history text → IsJournalDue report tells bytes low high 0 text
-  unviewed : (cause : DeskCause) → HasViewCause tells bytes low high cause → IsJournalDue report tells bytes low high (unviewed_status report cause) (unviewed_text report cause)
+pub data IsJournalDue (report : JournalReport) (tells : Bool) (bytes : List ℕ) (low high : ℕ) : ExitStatus → List ℕ → Type 0 where
+  no_view_memory : IsJournalDue report tells bytes low high statuses.Memory memory_text
+  viewed : (history : List Entry) → HasViewed tells bytes history → (text : List ℕ) → IsTextOf report history text
+      → IsJournalDue report tells bytes low high statuses.Done text
+  unviewed : (cause : DeskCause) → HasViewCause tells bytes low high cause
+      → IsJournalDue report tells bytes low high (unviewed_status report cause) (unviewed_text report cause)
+
+-- the statuses that a report on a journal has, and that of a sink that failed
+abbrev pub journal_statuses : List ExitStatus
+journal_statuses = statuses.Sink ∷ statuses.Done ∷ statuses.No ∷ statuses.Disk ∷ statuses.Unsound ∷ statuses.Memory ∷ []

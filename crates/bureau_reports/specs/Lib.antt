@@ -1,4 +1,3 @@
-pub mod Statuses
 pub mod DiskTexts
 pub mod Inputs
 pub mod Journals

@@ -4,12 +4,13 @@ ghost use Rattle.std.specs.Str.Lines.{lines};
 ghost use Rattle.fault_count.specs.Counts.{HasRisen};
 ghost use Rattle.command_words.specs.declared.input_report.InputReport.TheVariants as inputs;
 ghost use Rattle.statement_text.specs.Statements.{IsStatement};
+ghost use Rattle.printed_text.specs.declared.exit_status.ExitStatus.TheVariants as statuses;
 ghost use Rattle.printed_text.specs.Writing.{Wrote};
 ghost use Rattle.bureau_reports.specs.Inputs.{IsInputDue};
 
 use crate::statement::tell_bad_statement;
 use bureau_edge::Sink;
-use printed_text::{end_with, status_of_verdict, write_verdict};
+use printed_text::{ExitStatus, end_with, status_of_verdict, tell_no_memory, write_verdict};
 use setoff_checker::Checker;
 use setoff_model::limits::LINE_BYTES;
 use setoff_model::{Cut, Outcome};
@@ -17,24 +18,23 @@ use statement_text::{StatementError, read_statement};
 use std::alloc::Global;
 
 // Judges a statement that was read.
+#[tactic(auto, using(crate::proofs::Written::input_memory))]
 fn check_statement<K: Sink>(
     alloc: Global,
     input: &[u8],
     cut: &Cut,
     outcome: &Outcome,
     sink: &mut K,
-) -> u8
+) -> ExitStatus
     requires { IsStatement (lines input.now) cut.now outcome.now }
     ensures wrote { Wrote (IsInputDue inputs.Check input.now) (K.held sink.old) (K.held sink.new) result }
-    ensures write_fault { result ≡ 4 → HasRisen (K.faults sink.old) (K.faults sink.new) }
-    ensures no_read_fault { result ≢ 3 }
-    ensures no_disk_fault { result ≢ 5 }
+    ensures write_fault { result ≡ statuses.Sink → HasRisen (K.faults sink.old) (K.faults sink.new) }
 {
     let Ok(mut buffer) = Vec::with_capacity(alloc, LINE_BYTES) else {
-        return end_with(sink, 9, b"fault memory\n");
+        return tell_no_memory(sink);
     };
     let Ok(mut checker) = Checker::for_cut(alloc, cut) else {
-        return end_with(sink, 9, b"fault memory\n");
+        return tell_no_memory(sink);
     };
     let verdict = checker.verdict(cut, outcome);
     drop(checker);
@@ -43,15 +43,14 @@ fn check_statement<K: Sink>(
 }
 
 /// Reads a statement from an input, judges it, and prints the verdict.
-pub(crate) fn check_input<K: Sink>(alloc: Global, input: &[u8], sink: &mut K) -> u8
+#[tactic(auto, using(crate::proofs::Written::input_memory))]
+pub(crate) fn check_input<K: Sink>(alloc: Global, input: &[u8], sink: &mut K) -> ExitStatus
     ensures wrote { Wrote (IsInputDue inputs.Check input.now) (K.held sink.old) (K.held sink.new) result }
-    ensures write_fault { result ≡ 4 → HasRisen (K.faults sink.old) (K.faults sink.new) }
-    ensures no_read_fault { result ≢ 3 }
-    ensures no_disk_fault { result ≢ 5 }
+    ensures write_fault { result ≡ statuses.Sink → HasRisen (K.faults sink.old) (K.faults sink.new) }
 {
     match read_statement(alloc, input) {
         Ok((cut, outcome)) => check_statement(alloc, input, &cut, &outcome, sink),
-        Err(StatementError::Memory) => end_with(sink, 9, b"fault memory\n"),
+        Err(StatementError::Memory) => tell_no_memory(sink),
         Err(StatementError::BadLine { line, cause }) => tell_bad_statement(
             alloc, input, line, cause, sink,
         ),

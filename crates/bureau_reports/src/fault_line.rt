@@ -1,10 +1,12 @@
 //! Disks on which no desk was opened.
 ghost use Rattle.std.specs.Prelude.{◌≡◌, ◌+◌, ◌≤◌, ◌++◌, length, vec_len, vec_capacity};
 ghost use Rattle.setoff_model.specs.declared.limits.TheConstants.{LINE_BYTES};
-ghost use Rattle.bureau_reports.specs.DiskTexts.{offset_of, record_why, fault_of, told_fault, told_counts, opening_text, opening_status, IsTellable};
+ghost use Rattle.bureau_reports.specs.DiskTexts.{offset_of, record_why, fault_of, told_fault};
+ghost use Rattle.bureau_reports.specs.DiskTexts.{told_counts, opening_text, opening_status, IsTellable};
 
 use bureau_desk::DeskCause;
 use entry_text::write_reply;
+use printed_text::ExitStatus;
 use round_journal::RecordWhy;
 use setoff_model::{put, write_whole};
 
@@ -32,6 +34,8 @@ fn record_why(why: RecordWhy) -> &'static [u8]
 fn write_fault(buffer: &mut Vec<u8>, cause: DeskCause)
     requires tellable { IsTellable cause }
     requires spare { vec_len buffer.old + 90 ≤ vec_capacity buffer.old }
+
+    // What stands in the buffer then, and its room.
     ensures text { buffer.new.items ≡ buffer.old.items ++ fault_of cause }
     ensures len { vec_len buffer.new ≤ vec_len buffer.old + 90 }
     ensures room { vec_capacity buffer.old ≤ vec_capacity buffer.new }
@@ -49,6 +53,8 @@ pub(crate) fn write_told(buffer: &mut Vec<u8>, word: &[u8], cause: DeskCause)
     requires short { length word.now ≤ 20 }
     requires tellable { IsTellable cause }
     requires spare { vec_len buffer.old + LINE_BYTES ≤ vec_capacity buffer.old }
+
+    // What stands in the buffer then, and its room.
     ensures text { buffer.new.items ≡ buffer.old.items ++ told_fault word.now cause }
     ensures len { vec_len buffer.new ≤ vec_len buffer.old + LINE_BYTES }
     ensures room { vec_capacity buffer.old ≤ vec_capacity buffer.new }
@@ -64,6 +70,8 @@ pub(crate) fn write_told(buffer: &mut Vec<u8>, word: &[u8], cause: DeskCause)
 fn write_counts(buffer: &mut Vec<u8>, word: &[u8], before: u64, after: u64)
     requires short { length word.now ≤ 20 }
     requires spare { vec_len buffer.old + LINE_BYTES ≤ vec_capacity buffer.old }
+
+    // What stands in the buffer then, and its room.
     ensures text { buffer.new.items ≡ buffer.old.items ++ told_counts word.now before after }
     ensures len { vec_len buffer.new ≤ vec_len buffer.old + LINE_BYTES }
     ensures room { vec_capacity buffer.old ≤ vec_capacity buffer.new }
@@ -79,6 +87,8 @@ fn write_counts(buffer: &mut Vec<u8>, word: &[u8], before: u64, after: u64)
 pub(crate) fn write_opening_fault(buffer: &mut Vec<u8>, cause: DeskCause)
     requires tellable { IsTellable cause }
     requires spare { vec_len buffer.old + LINE_BYTES ≤ vec_capacity buffer.old }
+
+    // What stands in the buffer then, and its room.
     ensures text { buffer.new.items ≡ buffer.old.items ++ opening_text cause }
     ensures len { vec_len buffer.new ≤ vec_len buffer.old + LINE_BYTES }
     ensures room { vec_capacity buffer.old ≤ vec_capacity buffer.new }
@@ -95,13 +105,13 @@ pub(crate) fn write_opening_fault(buffer: &mut Vec<u8>, cause: DeskCause)
     }
 }
 
-/// The status of a call that ends with it: 9, 5 or 8.
-pub(crate) fn status_of_opening(cause: DeskCause) -> u8
+/// The status of a call that ends with it: `Memory`, `Disk` or `Unsound`.
+pub(crate) fn status_of_opening(cause: DeskCause) -> ExitStatus
     ensures { result ≡ opening_status cause }
 {
     match cause {
-        DeskCause::Memory => 9,
-        DeskCause::Device { .. } => 5,
-        _ => 8,
+        DeskCause::Memory => ExitStatus::Memory,
+        DeskCause::Device { .. } => ExitStatus::Disk,
+        _ => ExitStatus::Unsound,
     }
 }

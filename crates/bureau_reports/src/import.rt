@@ -4,16 +4,18 @@ ghost use Rattle.fault_count.specs.Counts.{HasRisen};
 ghost use Rattle.command_words.specs.declared.input_report.InputReport.TheVariants as inputs;
 ghost use Rattle.request_text.specs.Lanes.{IsLane};
 ghost use Rattle.firm_notices.specs.Invoices.{IsFirstBadRow};
+ghost use Rattle.printed_text.specs.declared.exit_status.ExitStatus.TheVariants as statuses;
 ghost use Rattle.printed_text.specs.Writing.{Wrote};
 ghost use Rattle.bureau_reports.specs.Inputs.{IsInputDue};
 
 use bureau_edge::Sink;
 use firm_notices::{ImportError, RowCause, import};
-use printed_text::{end_with, write_bad_row};
+use printed_text::{ExitStatus, end_with, tell_no_memory, write_bad_row};
 use setoff_model::limits::LINE_BYTES;
 use std::alloc::Global;
 
 // Tells the first row that is not in the grammar of invoices.
+#[tactic(auto, using(crate::proofs::Written::input_memory))]
 fn tell_bad_row<K: Sink>(
     alloc: Global,
     input: &[u8],
@@ -21,31 +23,33 @@ fn tell_bad_row<K: Sink>(
     row: u64,
     cause: RowCause,
     sink: &mut K,
-) -> u8
+) -> ExitStatus
     requires { IsFirstBadRow input.now row cause }
     ensures wrote { Wrote (IsInputDue (inputs.Import lane) input.now) (K.held sink.old) (K.held sink.new) result }
-    ensures write_fault { result ≡ 4 → HasRisen (K.faults sink.old) (K.faults sink.new) }
-    ensures no_read_fault { result ≢ 3 }
-    ensures no_disk_fault { result ≢ 5 }
+    ensures write_fault { result ≡ statuses.Sink → HasRisen (K.faults sink.old) (K.faults sink.new) }
 {
     let Ok(mut buffer) = Vec::with_capacity(alloc, LINE_BYTES) else {
-        return end_with(sink, 9, b"fault memory\n");
+        return tell_no_memory(sink);
     };
     write_bad_row(&mut buffer, row, cause);
-    end_with(sink, 6, buffer.as_slice())
+    end_with(sink, ExitStatus::Form, buffer.as_slice())
 }
 
 /// Reads invoices from an input, and prints the lines of a lane that file them.
-pub(crate) fn import_input<K: Sink>(alloc: Global, input: &[u8], lane: u32, sink: &mut K) -> u8
+#[tactic(auto, using(crate::proofs::Written::input_memory))]
+pub(crate) fn import_input<K: Sink>(
+    alloc: Global,
+    input: &[u8],
+    lane: u32,
+    sink: &mut K,
+) -> ExitStatus
     requires { IsLane lane }
     ensures wrote { Wrote (IsInputDue (inputs.Import lane) input.now) (K.held sink.old) (K.held sink.new) result }
-    ensures write_fault { result ≡ 4 → HasRisen (K.faults sink.old) (K.faults sink.new) }
-    ensures no_read_fault { result ≢ 3 }
-    ensures no_disk_fault { result ≢ 5 }
+    ensures write_fault { result ≡ statuses.Sink → HasRisen (K.faults sink.old) (K.faults sink.new) }
 {
     match import(alloc, input, lane) {
-        Ok(text) => end_with(sink, 0, text.as_slice()),
-        Err(ImportError::Memory) => end_with(sink, 9, b"fault memory\n"),
+        Ok(text) => end_with(sink, ExitStatus::Done, text.as_slice()),
+        Err(ImportError::Memory) => tell_no_memory(sink),
         Err(ImportError::BadRow { row, cause }) => tell_bad_row(
             alloc, input, lane, row, cause, sink,
         ),

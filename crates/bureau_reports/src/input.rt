@@ -3,24 +3,31 @@ ghost use Rattle.std.specs.Prelude.{◌≡◌, ◌≢◌};
 ghost use Rattle.fault_count.specs.Counts.{HasRisen};
 ghost use Rattle.command_words.specs.declared.command.Command.TheVariants as commands;
 ghost use Rattle.command_words.specs.Words.{IsCommand};
+ghost use Rattle.printed_text.specs.declared.exit_status.ExitStatus.TheVariants as statuses;
+ghost use Rattle.printed_text.specs.Statuses.{IsOneOf};
 ghost use Rattle.printed_text.specs.Writing.{Wrote};
-ghost use Rattle.bureau_reports.specs.Inputs.{IsInputDue};
+ghost use Rattle.bureau_reports.specs.Inputs.{IsInputDue, input_statuses};
 
 use crate::check::check_input;
 use crate::explain::explain_input;
 use crate::import::import_input;
 use bureau_edge::Sink;
 use command_words::InputReport;
+use printed_text::ExitStatus;
 use std::alloc::Global;
 
-/// Reads an input, and prints the report on it. Gives the status: 0; 1 where a statement's prices do not prove its discharges; 6 where
-/// the input is not in form; 9 where memory was missing; 4 where the sink failed.
-pub fn report_input<K: Sink>(alloc: Global, report: InputReport, input: &[u8], sink: &mut K) -> u8
+/// Reads an input, and prints the report on it. Gives the status: `Done`; `No` where a statement's prices do not prove its
+/// discharges; `Form` where the input is not in form; `Memory` where there was none; `Sink` where the sink failed.
+pub fn report_input<K: Sink>(
+    alloc: Global,
+    report: InputReport,
+    input: &[u8],
+    sink: &mut K,
+) -> ExitStatus
     requires { IsCommand (commands.OnInput report) }
     ensures wrote { Wrote (IsInputDue report input.now) (K.held sink.old) (K.held sink.new) result }
-    ensures write_fault { result ≡ 4 → HasRisen (K.faults sink.old) (K.faults sink.new) }
-    ensures no_read_fault { result ≢ 3 }
-    ensures no_disk_fault { result ≢ 5 }
+    ensures among { IsOneOf input_statuses result }
+    ensures write_fault { result ≡ statuses.Sink → HasRisen (K.faults sink.old) (K.faults sink.new) }
 {
     match report {
         InputReport::Check => check_input(alloc, input, sink),

@@ -2,9 +2,11 @@
 ghost use Rattle.std.specs.Prelude.{◌≡◌, ◌≢◌, ◌≤◌, [], IfOk, vec_capacity};
 ghost use Rattle.fault_count.specs.Counts.{HasRisen};
 ghost use Rattle.round_journal.specs.Opened.{IsQuiet};
+ghost use Rattle.printed_text.specs.declared.exit_status.ExitStatus.TheVariants as statuses;
+ghost use Rattle.printed_text.specs.Statuses.{IsOneOf};
 ghost use Rattle.printed_text.specs.Writing.{Wrote};
 ghost use Rattle.bureau_reports.specs.DiskTexts.{IsTellable, sound_text};
-ghost use Rattle.bureau_reports.specs.Journals.{IsBookDue, IsJournalDue, IsTextOf, unviewed_status, unviewed_text};
+ghost use Rattle.bureau_reports.specs.Journals.{IsBookDue, IsJournalDue, IsTextOf, journal_statuses, unviewed_status, unviewed_text};
 
 use crate::fault_line::{status_of_opening, write_opening_fault};
 use crate::sound_line::{status_of_unsound, write_sound, write_unsound};
@@ -15,7 +17,7 @@ use claim_history::Entry;
 use command_words::JournalReport;
 use disk_model::Disk;
 use firm_notices::{notices, positions};
-use printed_text::end_with;
+use printed_text::{ExitStatus, end_with, tell_no_memory};
 use setoff_model::limits::LINE_BYTES;
 use std::alloc::{AllocError, Global};
 use weighed_round::weigh;
@@ -57,7 +59,7 @@ fn write_unviewed(buffer: &mut Vec<u8>, report: &JournalReport, cause: DeskCause
 }
 
 // The status of that.
-fn status_of_unviewed(report: &JournalReport, cause: DeskCause) -> u8
+fn status_of_unviewed(report: &JournalReport, cause: DeskCause) -> ExitStatus
     ensures { result ≡ unviewed_status report.now cause }
 {
     match report {
@@ -70,35 +72,42 @@ fn status_of_unviewed(report: &JournalReport, cause: DeskCause) -> u8
 
 // Prints what the report tells of a book, or that there was no memory for it.
 #[tactic(none)]
-fn print_book<K: Sink>(alloc: Global, report: &JournalReport, book: &Book, sink: &mut K) -> u8
+fn print_book<K: Sink>(
+    alloc: Global,
+    report: &JournalReport,
+    book: &Book,
+    sink: &mut K,
+) -> ExitStatus
     ensures wrote { Wrote (IsBookDue report.now book.now.history) (K.held sink.old) (K.held sink.new) result }
-    ensures write_fault { result ≡ 4 → HasRisen (K.faults sink.old) (K.faults sink.new) }
-    ensures no_read_fault { result ≢ 3 }
-    ensures no_disk_fault { result ≢ 5 }
+    ensures write_fault { result ≡ statuses.Sink → HasRisen (K.faults sink.old) (K.faults sink.new) }
 {
     match text_of(alloc, report, book) {
-        Ok(text) => end_with(sink, 0, text.as_slice()),
-        Err(_) => end_with(sink, 9, b"fault memory\n"),
+        Ok(text) => end_with(sink, ExitStatus::Done, text.as_slice()),
+        Err(_) => tell_no_memory(sink),
     }
 }
 
-/// Replays the journal of a disk, and prints the report on it. It writes nothing to the disk. Gives the status: 0; 1 where an audit finds
-/// an act that is refused or full; 5, 8 or 9 where the disk was not read or holds no sound journal; 4 where the sink failed.
+/// Replays the journal of a disk, and prints the report on it. It writes nothing to the disk. Gives the status: `Done`; `No` where
+/// an audit finds an act that is refused or full; `Disk`, `Unsound` or `Memory` where the disk was not read or holds no sound journal;
+/// `Sink` where the sink failed.
 #[tactic(none)]
 pub fn report_journal<K: Sink, D: Disk>(
     alloc: Global,
     report: JournalReport,
     sink: &mut K,
     disk: &mut D,
-) -> u8
-    ensures wrote { Wrote (IsJournalDue report (D.seen disk.old).tells (D.seen disk.old).reads (D.seen disk.old).count (D.seen disk.new).count) (K.held sink.old) (K.held sink.new) result }
+) -> ExitStatus
+    ensures wrote { Wrote (IsJournalDue report (D.seen disk.old).tells (D.seen disk.old).reads (D.seen disk.old).count
+        (D.seen disk.new).count) (K.held sink.old) (K.held sink.new) result }
+    ensures among { IsOneOf journal_statuses result }
     ensures quiet { IsQuiet (D.seen disk.old) (D.seen disk.new) }
-    ensures write_fault { result ≡ 4 → HasRisen (K.faults sink.old) (K.faults sink.new) }
-    ensures disk_fault { result ≡ 5 → HasRisen (D.seen disk.old).count (D.seen disk.new).count }
-    ensures no_read_fault { result ≢ 3 }
+
+    // A fault is told only where it was counted.
+    ensures write_fault { result ≡ statuses.Sink → HasRisen (K.faults sink.old) (K.faults sink.new) }
+    ensures disk_fault { result ≡ statuses.Disk → HasRisen (D.seen disk.old).count (D.seen disk.new).count }
 {
     let Ok(mut buffer) = Vec::with_capacity(alloc, LINE_BYTES) else {
-        return end_with(sink, 9, b"fault memory\n");
+        return tell_no_memory(sink);
     };
     match Desk::view(alloc, disk) {
         Ok(book) => {

@@ -7,6 +7,7 @@ ghost use Rattle.bureau_reports.specs.DiskTexts.{sound_text, unsound_text, unsou
 use crate::fault_line::{status_of_opening, write_opening_fault, write_told};
 use bureau_desk::DeskCause;
 use claim_history::Entry;
+use printed_text::ExitStatus;
 use setoff_model::{put, write_whole};
 
 fn rounds_in(history: &[Entry]) -> u64
@@ -40,6 +41,8 @@ pub(crate) fn write_sound(buffer: &mut Vec<u8>, history: &[Entry])
 pub(crate) fn write_unsound(buffer: &mut Vec<u8>, cause: DeskCause)
     requires tellable { IsTellable cause }
     requires spare { vec_len buffer.old + LINE_BYTES ≤ vec_capacity buffer.old }
+
+    // What stands in the buffer then, and its room.
     ensures text { buffer.new.items ≡ buffer.old.items ++ unsound_text cause }
     ensures len { vec_len buffer.new ≤ vec_len buffer.old + LINE_BYTES }
     ensures room { vec_capacity buffer.old ≤ vec_capacity buffer.new }
@@ -51,13 +54,13 @@ pub(crate) fn write_unsound(buffer: &mut Vec<u8>, cause: DeskCause)
     }
 }
 
-/// The status of a call that ends with it: 1, or that of a disk that was not read.
-pub(crate) fn status_of_unsound(cause: DeskCause) -> u8
+/// The status of a call that ends with it: `No`, or that of a disk that was not read.
+pub(crate) fn status_of_unsound(cause: DeskCause) -> ExitStatus
     ensures { result ≡ unsound_status cause }
 {
     match cause {
-        DeskCause::BadAct { .. } => 1,
-        DeskCause::Overfull { .. } => 1,
+        DeskCause::BadAct { .. } => ExitStatus::No,
+        DeskCause::Overfull { .. } => ExitStatus::No,
         cause => status_of_opening(cause),
     }
 }

@@ -5,35 +5,37 @@ ghost use Rattle.fault_count.specs.Counts.{HasRisen};
 ghost use Rattle.command_words.specs.declared.input_report.InputReport.TheVariants as inputs;
 ghost use Rattle.statement_text.specs.Causes.{HasCause};
 ghost use Rattle.statement_text.specs.Statements as statements;
+ghost use Rattle.printed_text.specs.declared.exit_status.ExitStatus.TheVariants as statuses;
 ghost use Rattle.printed_text.specs.Writing.{Wrote};
 ghost use Rattle.bureau_reports.specs.Inputs.{IsInputDue};
 
 use bureau_edge::Sink;
-use printed_text::{end_with, write_bad_statement};
+use printed_text::{ExitStatus, end_with, tell_no_memory, write_bad_statement};
 use setoff_model::limits::LINE_BYTES;
 use statement_text::StatementCause;
 use std::alloc::Global;
 
 /// Tells the first line that is not in the grammar of statements.
+#[tactic(auto, using(crate::proofs::Written::input_memory))]
 pub(crate) fn tell_bad_statement<K: Sink>(
     alloc: Global,
     input: &[u8],
     line: u64,
     cause: StatementCause,
     sink: &mut K,
-) -> u8
+) -> ExitStatus
     requires first { statements.IsFirstBadLine (lines input.now) line }
     requires cause { HasCause (lines input.now) line cause }
     requires none { statements.IsNoStatement (lines input.now) }
+
+    // What was told.
     ensures check { Wrote (IsInputDue inputs.Check input.now) (K.held sink.old) (K.held sink.new) result }
     ensures explain { Wrote (IsInputDue inputs.Explain input.now) (K.held sink.old) (K.held sink.new) result }
-    ensures write_fault { result ≡ 4 → HasRisen (K.faults sink.old) (K.faults sink.new) }
-    ensures no_read_fault { result ≢ 3 }
-    ensures no_disk_fault { result ≢ 5 }
+    ensures write_fault { result ≡ statuses.Sink → HasRisen (K.faults sink.old) (K.faults sink.new) }
 {
     let Ok(mut buffer) = Vec::with_capacity(alloc, LINE_BYTES) else {
-        return end_with(sink, 9, b"fault memory\n");
+        return tell_no_memory(sink);
     };
     write_bad_statement(&mut buffer, line, cause);
-    end_with(sink, 6, buffer.as_slice())
+    end_with(sink, ExitStatus::Form, buffer.as_slice())
 }

@@ -16,7 +16,8 @@ pub record HasGivenAll (old new : ExplainerView) : Type 0 where
   pub done : IsDone (obligations old.cut) new
 
 -- Their lines went through the buffer; or the sink failed, and took some first bytes of what was in the buffer and of them.
-pub record HasPassed (held_old held_new : Option (List ℕ)) (buffer_old buffer_new : List ℕ) (old new : ExplainerView) (result : Result (Unit {0}) Failed) : Type 0 where
+pub record HasPassed (held_old held_new : Option (List ℕ)) (buffer_old buffer_new : List ℕ) (old new : ExplainerView)
+    (result : Result (Unit {0}) Failed) : Type 0 where
   pub chains : List ChainView
   pub given : Gives (obligations old.cut) old chains new
   pub done : IsDone (obligations old.cut) new

@@ -8,7 +8,8 @@ use Rattle.chain_explain.specs.Chains.{ChainView}
 -- ` CREDITOR/INVOICE` of the claim at a place
 abbrev pub claim_name : List CutClaim → ℕ → List ℕ
 claim_name claims place =
-    codes " " ++ slice_index_or (map (λ c. c.key.creditor) claims) place [] ++ codes "/" ++ slice_index_or (map (λ c. c.key.invoice) claims) place []
+    codes " " ++ slice_index_or (map (λ c. c.key.creditor) claims) place [] ++ codes "/"
+    ++ slice_index_or (map (λ c. c.key.invoice) claims) place []
 
 -- whether the chain is closed, and what it discharges of each of its claims
 abbrev pub chain_head : Bool → ℕ → List ℕ

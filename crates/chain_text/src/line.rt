@@ -43,8 +43,12 @@ fn write_claim_name(buffer: &mut Vec<u8>, cut: &Cut, place: u32)
 // Prints how a chain begins.
 fn print_head<K: Sink>(sink: &mut K, buffer: &mut Vec<u8>, chain: Chain) -> Result<(), Failed>
     requires spare { OUTPUT_BYTES ≤ vec_capacity buffer.old }
-    ensures ok { OnOk result (GoesThrough (K.held sink.old) (K.held sink.new) buffer.old.items buffer.new.items (chain_head chain.closed chain.amount)) }
-    ensures part { OnErr result (AppendsPart (K.held sink.old) (K.held sink.new) (buffer.old.items ++ chain_head chain.closed chain.amount)) }
+
+    // The text went through, or the sink failed and took some first bytes of it.
+    ensures ok { OnOk result (GoesThrough (K.held sink.old) (K.held sink.new) buffer.old.items buffer.new.items
+        (chain_head chain.closed chain.amount)) }
+    ensures part { OnErr result (AppendsPart (K.held sink.old) (K.held sink.new)
+        (buffer.old.items ++ chain_head chain.closed chain.amount)) }
     ensures cause { IsCounted (K.faults sink.old) (K.faults sink.new) result }
     ensures room { OUTPUT_BYTES ≤ vec_capacity buffer.new }
 {
@@ -62,7 +66,10 @@ fn print_claim_name<K: Sink>(
 ) -> Result<(), Failed>
     requires place { place < length cut.now.claims }
     requires spare { OUTPUT_BYTES ≤ vec_capacity buffer.old }
-    ensures ok { OnOk result (GoesThrough (K.held sink.old) (K.held sink.new) buffer.old.items buffer.new.items (claim_name cut.now.claims place)) }
+
+    // The text went through, or the sink failed and took some first bytes of it.
+    ensures ok { OnOk result (GoesThrough (K.held sink.old) (K.held sink.new) buffer.old.items buffer.new.items
+        (claim_name cut.now.claims place)) }
     ensures part { OnErr result (AppendsPart (K.held sink.old) (K.held sink.new) (buffer.old.items ++ claim_name cut.now.claims place)) }
     ensures cause { IsCounted (K.faults sink.old) (K.faults sink.new) result }
     ensures room { OUTPUT_BYTES ≤ vec_capacity buffer.new }
@@ -81,8 +88,12 @@ fn print_claim_names<K: Sink>(
 ) -> Result<(), Failed>
     requires places { (i : ℕ) → i < length places.now → slice_index places.now i < length cut.now.claims }
     requires spare { OUTPUT_BYTES ≤ vec_capacity buffer.old }
-    ensures ok { OnOk result (GoesThrough (K.held sink.old) (K.held sink.new) buffer.old.items buffer.new.items (flat_map (λ place. claim_name cut.now.claims place) places.now)) }
-    ensures part { OnErr result (AppendsPart (K.held sink.old) (K.held sink.new) (buffer.old.items ++ flat_map (λ place. claim_name cut.now.claims place) places.now)) }
+
+    // The text went through, or the sink failed and took some first bytes of it.
+    ensures ok { OnOk result (GoesThrough (K.held sink.old) (K.held sink.new) buffer.old.items buffer.new.items
+        (flat_map (λ place. claim_name cut.now.claims place) places.now)) }
+    ensures part { OnErr result (AppendsPart (K.held sink.old) (K.held sink.new)
+        (buffer.old.items ++ flat_map (λ place. claim_name cut.now.claims place) places.now)) }
     ensures cause { IsCounted (K.faults sink.old) (K.faults sink.new) result }
     ensures room { OUTPUT_BYTES ≤ vec_capacity buffer.new }
 {
@@ -95,6 +106,8 @@ fn print_claim_names<K: Sink>(
 // Prints the end of a line.
 fn print_end<K: Sink>(sink: &mut K, buffer: &mut Vec<u8>) -> Result<(), Failed>
     requires spare { OUTPUT_BYTES ≤ vec_capacity buffer.old }
+
+    // The text went through, or the sink failed and took some first bytes of it.
     ensures ok { OnOk result (GoesThrough (K.held sink.old) (K.held sink.new) buffer.old.items buffer.new.items (codes "\n")) }
     ensures part { OnErr result (AppendsPart (K.held sink.old) (K.held sink.new) (buffer.old.items ++ codes "\n")) }
     ensures cause { IsCounted (K.faults sink.old) (K.faults sink.new) result }
@@ -115,8 +128,12 @@ pub(crate) fn print_chain<K: Sink>(
 ) -> Result<(), Failed>
     requires places { (i : ℕ) → i < length places.now → slice_index places.now i < length cut.now.claims }
     requires spare { OUTPUT_BYTES ≤ vec_capacity buffer.old }
-    ensures ok { OnOk result (GoesThrough (K.held sink.old) (K.held sink.new) buffer.old.items buffer.new.items (chain_line cut.now (chain_view chain places.now))) }
-    ensures part { OnErr result (AppendsPart (K.held sink.old) (K.held sink.new) (buffer.old.items ++ chain_line cut.now (chain_view chain places.now))) }
+
+    // The text went through, or the sink failed and took some first bytes of it.
+    ensures ok { OnOk result (GoesThrough (K.held sink.old) (K.held sink.new) buffer.old.items buffer.new.items
+        (chain_line cut.now (chain_view chain places.now))) }
+    ensures part { OnErr result (AppendsPart (K.held sink.old) (K.held sink.new)
+        (buffer.old.items ++ chain_line cut.now (chain_view chain places.now))) }
     ensures cause { IsCounted (K.faults sink.old) (K.faults sink.new) result }
     ensures room { OUTPUT_BYTES ≤ vec_capacity buffer.new }
 {

@@ -29,7 +29,8 @@ knowing name rules app = with_subcommand app (shape_of name rules)
 
 -- the program with the commands that take no value
 abbrev pub plain : App
-plain = knowing (codes "positions") [] (knowing (codes "audit") [] (knowing (codes "explain") [] (knowing (codes "check") [] (knowing (codes "run") [] bare))))
+plain = knowing (codes "positions") [] (knowing (codes "audit") []
+    (knowing (codes "explain") [] (knowing (codes "check") [] (knowing (codes "run") [] bare))))
 
 -- the values of a weighing
 abbrev pub weigh_values : List Rule

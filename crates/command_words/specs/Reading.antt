@@ -24,8 +24,10 @@ AreGiven (commands.OnInput (inputs.Import lane)) value = value (codes "LANE") �
 AreGiven (commands.OnJournal journals.Audit) value = Unit {0}
 AreGiven (commands.OnJournal journals.Positions) value = Unit {0}
 AreGiven (commands.OnJournal (journals.Notices today)) value = value (codes "DATE") ≡ Some (day_text today)
-AreGiven (commands.OnJournal (journals.Weigh kind today)) value = (value (codes "KIND") ≡ Some (kind_text kind)) × (value (codes "DATE") ≡ Some (day_text today))
-AreGiven (commands.Trial firms claims seed) value = (value (codes "FIRMS") ≡ Some (decimal firms)) × (value (codes "CLAIMS") ≡ Some (decimal claims)) × (value (codes "SEED") ≡ Some (decimal seed))
+AreGiven (commands.OnJournal (journals.Weigh kind today)) value = (value (codes "KIND") ≡ Some (kind_text kind))
+    × (value (codes "DATE") ≡ Some (day_text today))
+AreGiven (commands.Trial firms claims seed) value = (value (codes "FIRMS") ≡ Some (decimal firms))
+    × (value (codes "CLAIMS") ≡ Some (decimal claims)) × (value (codes "SEED") ≡ Some (decimal seed))
 
 -- the name and the values are those of the command
 abbrev pub IsGiven : Command → List ℕ → (List ℕ → Option (List ℕ)) → Type 0

@@ -21,8 +21,7 @@ use crate::program::program;
 use claim_history::Day;
 use clap::error::ErrorKind;
 use clap::{ArgMatches, Error};
-use setoff_model::limits::MOST_LANES;
-use setoff_model::limits::{MOST_CLAIMS, MOST_FIRMS};
+use setoff_model::limits::{MOST_CLAIMS, MOST_FIRMS, MOST_LANES};
 use setoff_model::{Kind, read_kind, read_number};
 use std::alloc::Global;
 

@@ -1,7 +1,7 @@
 -- The text of a run, piece by piece.
 use Rattle.std.specs.Prelude.{reverse, slice_get, codes, Option, Some, None, ℤ, pos, unsigned_abs}
 use Rattle.std.specs.Option.{option_map}
-use Rattle.std.proofs.Common.{◌≡◌, ℕ, ◌+◌, ◌<◌, ◌≤◌, ◌^◌, true, List, [], ◌∷◌, ◌++◌, length, get_or, drop, take, All, refl, sym, ◌∙◌, ap, ap₂, subst, append_assoc, add-one, drop-cons, arith}
+use Rattle.std.proofs.Common.{◌≡◌, ℕ, suc, ◌+◌, ◌-◌, ◌<◌, ◌≤◌, ◌^◌, true, List, [], ◌∷◌, ◌++◌, length, get_or, drop, take, All, refl, sym, ◌∙◌, ap, ap₂, subst, append_assoc, add-one, drop-cons, arith}
 use Rattle.std.proofs.lemmas.Option.{slice_get-get_or, slice_get_read, slice_get_within}
 use Rattle.std.proofs.lemmas.List.{append-nil, drop_more, get_or_at, length-append, length-drop, length-reverse, get_or-drop, take-append-drop, take_more}
 use Rattle.std.proofs.lemmas.List.Folds.{flat_map-map}
@@ -37,7 +37,7 @@ use Rattle.entry_text.specs.Entries.{entry_line}
 use Rattle.statement_text.specs.Statements.{party_lines, claim_line, claim_lines, front_of, statement_bytes}
 use Rattle.bureau_edge.specs.Streams.{AppendsPart}
 use Rattle.printed_text.specs.Writing.{GoesThrough}
-use Rattle.printed_text.specs.Printing.{IsPrintable, IsPrintableAt, added_text, end_text, ends_text, entry_text, line_bytes, lines_bytes, rounds_in, statement_of, unanswered}
+use Rattle.printed_text.specs.Printing.{IsPrintable, IsPrintableAt, added_text, end_text, ends_text, entry_text, line_bytes, lines_bytes, rounds_in, statement_of, unanswered, unanswered_lines}
 use Rattle.printed_text.proofs.Passing.{pass_then, part_then, part_more}
 
 -- ---- lines that were not replied to
@@ -51,6 +51,13 @@ ends_from answers i answer lt = rw (add-one, drop-cons answers i answer) refl
 pub unanswered_from : (requests : List Request) (i : ℕ) (request : Request) → i < length requests
     → ends_text (unanswered (drop i requests)) ≡ end_text (get_or requests i request).line ends.Memory ++ ends_text (unanswered (drop (i + 1) requests))
 unanswered_from requests i request lt = rw (add-one, drop-cons requests i request) refl
+
+-- and of lines by their numbers
+pub lines_from : (n m : ℕ) → n < m → ends_text (unanswered_lines n (m - n)) ≡ end_text n ends.Memory ++ ends_text (unanswered_lines (n + 1) (m - (n + 1)))
+lines_from n m lt = let one : m - n ≡ suc (m - (n + 1)) = omega arith in ap (λ (k : ℕ). ends_text (unanswered_lines n k)) one
+
+pub lines_none : (n m : ℕ) → m ≤ n → ends_text (unanswered_lines n (m - n)) ≡ []
+lines_none n m le = let none : m - n ≡ 0 = omega arith in ap (λ (k : ℕ). ends_text (unanswered_lines n k)) none
 
 -- ---- statements
 

@@ -1,3 +1,4 @@
+pub mod Statuses
 pub mod Texts
 pub mod Printing
 pub mod Writing

@@ -1,5 +1,5 @@
 -- The text of a batch: entries, statements of published rounds, and lines for lines that were not replied to.
-use Rattle.std.specs.Prelude.{ℕ, ◌≡◌, ◌≤◌, List, [], ◌∷◌, ◌++◌, flat_map, reverse, slice_get, codes, Option, Some}
+use Rattle.std.specs.Prelude.{ℕ, zero, suc, ◌+◌, ◌≡◌, ◌≤◌, List, [], ◌∷◌, ◌++◌, flat_map, reverse, slice_get, codes, Option, Some}
 use Rattle.setoff_model.specs.CutView.{CutView, OutcomeView, WellFormed, obligations}
 use Rattle.setoff_model.specs.Setoff.{Proves}
 use Rattle.claim_history.specs.declared.act.Act.{Act}
@@ -77,6 +77,11 @@ ends_text (answer ∷ answers) = end_text answer.line answer.end ++ ends_text an
 abbrev pub unanswered : List Request → List Answer
 unanswered [] = []
 unanswered (request ∷ requests) = record { line = request.line; end = ends.Memory } ∷ unanswered requests
+
+-- the same of so many lines, from a number on
+abbrev pub unanswered_lines : ℕ → ℕ → List Answer
+unanswered_lines first zero = []
+unanswered_lines first (suc count) = record { line = first; end = ends.Memory } ∷ unanswered_lines (first + 1) count
 
 -- the entries that a batch added to a history, then a line for each of its lines that was not replied to
 abbrev pub printed_of : List Entry → List Entry → List Answer → List ℕ

@@ -12,6 +12,21 @@ use Rattle.statement_text.specs.declared.error.StatementCause.{StatementCause}
 use Rattle.statement_text.specs.declared.error.StatementCause.TheVariants as statement
 use Rattle.setoff_checker.specs.declared.verdict.Verdict.{Verdict}
 use Rattle.setoff_checker.specs.declared.verdict.Verdict.TheVariants as verdict
+use Rattle.printed_text.specs.declared.exit_status.ExitStatus.{ExitStatus}
+use Rattle.printed_text.specs.declared.exit_status.ExitStatus.TheVariants as statuses
+
+-- the fault lines that have no parts
+abbrev pub memory_text : List ℕ
+memory_text = codes "fault memory\n"
+
+abbrev pub words_text : List ℕ
+words_text = codes "fault words\n"
+
+abbrev pub read_text : List ℕ
+read_text = codes "fault read\n"
+
+abbrev pub too_long_text : List ℕ
+too_long_text = codes "fault input too long\n"
 
 -- one line for a line of the input that was answered for want of memory
 abbrev pub memory_line : ℕ → List ℕ
@@ -23,7 +38,8 @@ room_text Bytes = codes "bytes"
 
 -- one line for a line of the input that was full
 abbrev pub full_line : ℕ → Room → ℕ → ℕ → List ℕ
-full_line line what needed limit = codes "! line " ++ decimal line ++ codes " full " ++ room_text what ++ codes " " ++ decimal needed ++ codes " " ++ decimal limit ++ codes "\n"
+full_line line what needed limit = codes "! line " ++ decimal line ++ codes " full " ++ room_text what ++ codes " " ++ decimal needed
+    ++ codes " " ++ decimal limit ++ codes "\n"
 
 -- the fault line of an input whose line is not in the grammar
 abbrev pub fault_line_text : ℕ → List ℕ → List ℕ
@@ -63,10 +79,16 @@ bad_statement_text line why = fault_line_text line (statement_cause_text why)
 
 -- the creditor and the invoice of the claim at a place, and the firm of the party at a place
 abbrev pub creditor_at : CutView → ℕ → List ℕ
-creditor_at cut c = (slice_index_or cut.claims c (record { key = record { creditor = []; invoice = [] }; debtor = 0; creditor = 0; amount = 0 })).key.creditor
+creditor_at cut c = (slice_index_or cut.claims c
+    (record { key = record { creditor = []; invoice = [] }; debtor = 0; creditor = 0; amount = 0 })).key.creditor
 
 abbrev pub invoice_at : CutView → ℕ → List ℕ
-invoice_at cut c = (slice_index_or cut.claims c (record { key = record { creditor = []; invoice = [] }; debtor = 0; creditor = 0; amount = 0 })).key.invoice
+invoice_at cut c = (slice_index_or cut.claims c (record {
+  key = record { creditor = []; invoice = [] };
+  debtor = 0;
+  creditor = 0;
+  amount = 0;
+})).key.invoice
 
 abbrev pub firm_at : CutView → ℕ → List ℕ
 firm_at cut f = (slice_index_or cut.parties f (record { firm = []; spend = 0; room = 0 })).firm
@@ -78,16 +100,17 @@ verdict_words cut verdict.Lengths = codes "no lengths"
 verdict_words cut (verdict.OverAmount claim) = codes "no over-amount " ++ creditor_at cut claim ++ codes " " ++ invoice_at cut claim
 verdict_words cut (verdict.OutsideWindow party) = codes "no outside-window " ++ firm_at cut party
 verdict_words cut (verdict.PriceRange party) = codes "no price-range " ++ firm_at cut party
-verdict_words cut (verdict.NotProved total limit) = codes "no not-proved " ++ cents_text total ++ codes " " ++ cents_text (unsigned_abs limit)
+verdict_words cut (verdict.NotProved total limit) = codes "no not-proved " ++ cents_text total ++ codes " "
+    ++ cents_text (unsigned_abs limit)
 
 -- the verdict line
 abbrev pub verdict_text : CutView → Verdict → List ℕ
 verdict_text cut v = verdict_words cut v ++ codes "\n"
 
--- 0 where the set-off was found greatest, else 1
-abbrev pub verdict_status : Verdict → ℕ
-verdict_status (verdict.Greatest total) = 0
-verdict_status _ = 1
+-- the set-off was found greatest, or not
+abbrev pub verdict_status : Verdict → ExitStatus
+verdict_status (verdict.Greatest total) = statuses.Done
+verdict_status _ = statuses.No
 
 -- the verdict's claim or party is one of the cut's
 abbrev pub IsPlaced : CutView → Verdict → Type 0

@@ -2,7 +2,8 @@
 use Rattle.std.specs.Prelude.{◌≡◌, ℕ, List, ◌++◌, Option}
 use Rattle.std.specs.Io.KnownBytes.{Appends}
 use Rattle.bureau_edge.specs.Streams.{AppendsPart}
-
+use Rattle.printed_text.specs.declared.exit_status.ExitStatus.{ExitStatus}
+use Rattle.printed_text.specs.declared.exit_status.ExitStatus.TheVariants as statuses
 
 -- a text went through the buffer: what was in it and the text are what the sink took and what is in it now
 pub record GoesThrough (held_old held_new : Option (List ℕ)) (old new text : List ℕ) : Type 0 where
@@ -10,14 +11,14 @@ pub record GoesThrough (held_old held_new : Option (List ℕ)) (old new text : L
   pub split : old ++ text ≡ taken ++ new
   pub appended : Appends held_old held_new taken
 
--- the status is the due one and the sink took its text, or it is 4 and the sink took some first bytes of the text
-pub data IsWritten (held_old held_new : Option (List ℕ)) (due : ℕ) (text : List ℕ) : ℕ → Type 0 where
+-- the status is the due one and the sink took its text, or it tells of the sink, which took some first bytes of the text
+pub data IsWritten (held_old held_new : Option (List ℕ)) (due : ExitStatus) (text : List ℕ) : ExitStatus → Type 0 where
   whole : Appends held_old held_new text → IsWritten held_old held_new due text due
-  broken : AppendsPart held_old held_new text → IsWritten held_old held_new due text 4
+  broken : AppendsPart held_old held_new text → IsWritten held_old held_new due text statuses.Sink
 
 -- a status and a text were due for some reason, and were written
-pub record Wrote (IsDue : ℕ → List ℕ → Type 0) (held_old held_new : Option (List ℕ)) (status : ℕ) : Type 0 where
-  pub due : ℕ
+pub record Wrote (IsDue : ExitStatus → List ℕ → Type 0) (held_old held_new : Option (List ℕ)) (status : ExitStatus) : Type 0 where
+  pub due : ExitStatus
   pub text : List ℕ
   pub is_due : IsDue due text
   pub is_written : IsWritten held_old held_new due text status

@@ -1,7 +1,8 @@
 //! The lines that tell of faults.
 ghost use Rattle.std.specs.Prelude.{◌≡◌, ◌+◌, ◌≤◌, ◌++◌, codes, decimal, length, vec_len, vec_capacity};
 ghost use Rattle.setoff_model.specs.declared.limits.TheConstants.{LINE_BYTES};
-ghost use Rattle.printed_text.specs.Texts.{memory_line, full_line, room_text, cause_text, bad_line_text, row_cause_text, bad_row_text, statement_cause_text, bad_statement_text};
+ghost use Rattle.printed_text.specs.Texts.{memory_line, full_line, room_text, cause_text, bad_line_text};
+ghost use Rattle.printed_text.specs.Texts.{row_cause_text, bad_row_text, statement_cause_text, bad_statement_text};
 
 use firm_notices::RowCause;
 use limited_book::Room;
@@ -50,6 +51,8 @@ pub fn write_full_line(buffer: &mut Vec<u8>, line: u64, what: Room, needed: u64,
 fn write_place(buffer: &mut Vec<u8>, words: &[u8], number: u64)
     requires spare { vec_len buffer.old + 40 ≤ vec_capacity buffer.old }
     requires words { length words.now ≤ 14 }
+
+    // What stands in the buffer then, and its room.
     ensures text { buffer.new.items ≡ buffer.old.items ++ (words.now ++ decimal number ++ codes " ") }
     ensures len { vec_len buffer.new ≤ vec_len buffer.old + 40 }
     ensures room { vec_capacity buffer.old ≤ vec_capacity buffer.new }

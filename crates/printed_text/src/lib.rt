@@ -9,16 +9,21 @@
 //! memory. What was in the buffer and the text are what the sink took and what is in the buffer now: `GoesThrough` says this
 //! of a step, and steps add up. Where the sink failed, it took some first bytes of the text.
 //!
-//! `end_with` writes the one line that ends a run, and says its status, which is 4 where the sink failed.
+//! `end_with` writes the one line that ends a run, and says its `ExitStatus`, which is `Sink` where the sink failed. A fault line that has
+//! no parts has a function of its own.
 #![tactic(auto)]
 
 mod ending;
+mod exit_status;
 mod fault_text;
 mod output;
 mod statement;
 mod verdict_text;
 
-pub use ending::end_with;
+pub use ending::{end_with, tell_no_memory, tell_read_fault, tell_too_long, tell_words};
+pub use exit_status::ExitStatus;
 pub use fault_text::{write_bad_line, write_bad_row, write_bad_statement};
-pub use output::{flush, make_room, output_buffer, print_batch, print_unanswered};
+pub use output::{
+    flush, make_room, output_buffer, print_batch, print_unanswered, print_unanswered_lines,
+};
 pub use verdict_text::{status_of_verdict, write_verdict};

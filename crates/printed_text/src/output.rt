@@ -1,5 +1,6 @@
 //! Output in pieces: text goes through a buffer of `OUTPUT_BYTES` to the sink.
-ghost use Rattle.std.specs.Prelude.{◌≡◌, ℕ, ◌+◌, ◌≤◌, [], ◌++◌, true, All, IfOk, OnOk, OnErr, vec_len, vec_capacity, length, slice_get, take, drop};
+ghost use Rattle.std.specs.Prelude.{◌≡◌, ℕ, ◌+◌, ◌^◌, ◌<◌, ◌≤◌, [], ◌++◌, true, All, IfOk};
+ghost use Rattle.std.specs.Prelude.{OnOk, OnErr, vec_len, vec_capacity, length, slice_get, take, drop};
 ghost use Rattle.std.specs.Io.KnownBytes.{Appends};
 ghost use Rattle.fault_count.specs.Counts.{IsCounted};
 ghost use Rattle.bureau_edge.specs.Streams.{AppendsPart};
@@ -9,7 +10,8 @@ ghost use Rattle.claim_history.specs.History.{IsLegal, AreValid};
 ghost use Rattle.claim_history.specs.Laws.{IsReplyInRange};
 ghost use Rattle.claim_history.specs.Rounds.{cuts_after};
 ghost use Rattle.entry_text.specs.Entries.{entry_line};
-ghost use Rattle.printed_text.specs.Printing.{added_text, end_text, ends_text, statement_of, IsPrintableAt, rounds_in, printed_of, unanswered};
+ghost use Rattle.printed_text.specs.Printing.{added_text, end_text, ends_text, statement_of};
+ghost use Rattle.printed_text.specs.Printing.{IsPrintableAt, rounds_in, printed_of, unanswered, unanswered_lines};
 ghost use Rattle.printed_text.specs.Writing.{GoesThrough};
 
 use crate::fault_text::{write_full_line, write_memory_line};
@@ -34,6 +36,8 @@ pub fn output_buffer(alloc: Global) -> Result<Vec<u8>, AllocError>
 
 /// Writes what is in the buffer, and empties it.
 pub fn flush<K: Sink>(sink: &mut K, buffer: &mut Vec<u8>) -> Result<(), Failed>
+
+    // The text went through, or the sink failed and took some first bytes of it.
     ensures ok { OnOk result (GoesThrough (K.held sink.old) (K.held sink.new) buffer.old.items buffer.new.items []) }
     ensures emptied { OnOk result (buffer.new.items ≡ []) }
     ensures empty { OnOk result (vec_len buffer.new ≡ 0) }
@@ -49,6 +53,8 @@ pub fn flush<K: Sink>(sink: &mut K, buffer: &mut Vec<u8>) -> Result<(), Failed>
 /// Makes room for a line, of `LINE_BYTES`.
 pub fn make_room<K: Sink>(sink: &mut K, buffer: &mut Vec<u8>) -> Result<(), Failed>
     requires { OUTPUT_BYTES ≤ vec_capacity buffer.old }
+
+    // The text went through, or the sink failed and took some first bytes of it.
     ensures ok { OnOk result (GoesThrough (K.held sink.old) (K.held sink.new) buffer.old.items buffer.new.items []) }
     ensures spare { OnOk result (vec_len buffer.new + LINE_BYTES ≤ vec_capacity buffer.new) }
     ensures part { OnErr result (AppendsPart (K.held sink.old) (K.held sink.new) buffer.old.items) }
@@ -66,6 +72,8 @@ fn print_entry<K: Sink>(sink: &mut K, buffer: &mut Vec<u8>, entry: &Entry) -> Re
     requires valid { is_valid entry.now.act ≡ true }
     requires range { IsReplyInRange entry.now.reply }
     requires spare { OUTPUT_BYTES ≤ vec_capacity buffer.old }
+
+    // The text went through, or the sink failed and took some first bytes of it.
     ensures ok { OnOk result (GoesThrough (K.held sink.old) (K.held sink.new) buffer.old.items buffer.new.items (entry_line entry.now)) }
     ensures part { OnErr result (AppendsPart (K.held sink.old) (K.held sink.new) (buffer.old.items ++ entry_line entry.now)) }
     ensures cause { IsCounted (K.faults sink.old) (K.faults sink.new) result }
@@ -87,9 +95,13 @@ fn print_publication<K: Sink>(
 ) -> Result<usize, Failed>
     requires publication { (total : ℕ) → entry.now.reply ≡ reply.Published total → IsPrintableAt rounds.now next entry.now.act }
     requires spare { OUTPUT_BYTES ≤ vec_capacity buffer.old }
-    ensures ok { OnOk result (GoesThrough (K.held sink.old) (K.held sink.new) buffer.old.items buffer.new.items (statement_of (slice_get rounds.now next) entry.now.act entry.now.reply)) }
+
+    // The text went through, or the sink failed and took some first bytes of it.
+    ensures ok { OnOk result (GoesThrough (K.held sink.old) (K.held sink.new) buffer.old.items buffer.new.items
+        (statement_of (slice_get rounds.now next) entry.now.act entry.now.reply)) }
     ensures next { IfOk result (λ place. place ≡ next + rounds_in entry.now.reply) }
-    ensures part { OnErr result (AppendsPart (K.held sink.old) (K.held sink.new) (buffer.old.items ++ statement_of (slice_get rounds.now next) entry.now.act entry.now.reply)) }
+    ensures part { OnErr result (AppendsPart (K.held sink.old) (K.held sink.new)
+        (buffer.old.items ++ statement_of (slice_get rounds.now next) entry.now.act entry.now.reply)) }
     ensures cause { IsCounted (K.faults sink.old) (K.faults sink.new) result }
     ensures room { OUTPUT_BYTES ≤ vec_capacity buffer.new }
 {
@@ -115,9 +127,13 @@ fn print_answer<K: Sink>(
     requires range { IsReplyInRange entry.now.reply }
     requires publication { (total : ℕ) → entry.now.reply ≡ reply.Published total → IsPrintableAt rounds.now next entry.now.act }
     requires spare { OUTPUT_BYTES ≤ vec_capacity buffer.old }
-    ensures ok { OnOk result (GoesThrough (K.held sink.old) (K.held sink.new) buffer.old.items buffer.new.items (entry_line entry.now ++ statement_of (slice_get rounds.now next) entry.now.act entry.now.reply)) }
+
+    // The text went through, or the sink failed and took some first bytes of it.
+    ensures ok { OnOk result (GoesThrough (K.held sink.old) (K.held sink.new) buffer.old.items buffer.new.items
+        (entry_line entry.now ++ statement_of (slice_get rounds.now next) entry.now.act entry.now.reply)) }
     ensures next { IfOk result (λ place. place ≡ next + rounds_in entry.now.reply) }
-    ensures part { OnErr result (AppendsPart (K.held sink.old) (K.held sink.new) (buffer.old.items ++ (entry_line entry.now ++ statement_of (slice_get rounds.now next) entry.now.act entry.now.reply))) }
+    ensures part { OnErr result (AppendsPart (K.held sink.old) (K.held sink.new)
+        (buffer.old.items ++ (entry_line entry.now ++ statement_of (slice_get rounds.now next) entry.now.act entry.now.reply))) }
     ensures cause { IsCounted (K.faults sink.old) (K.faults sink.new) result }
     ensures room { OUTPUT_BYTES ≤ vec_capacity buffer.new }
 {
@@ -138,9 +154,15 @@ fn print_entries<K: Sink>(
     requires range { All (λ e. IsReplyInRange e.reply) history.now }
     requires from { from ≤ length history.now }
     requires rounds { rounds.now ≡ cuts_after from history.now }
+
+    // The buffer.
     requires spare { OUTPUT_BYTES ≤ vec_capacity buffer.old }
-    ensures ok { OnOk result (GoesThrough (K.held sink.old) (K.held sink.new) buffer.old.items buffer.new.items (added_text (take from history.now) (drop from history.now))) }
-    ensures part { OnErr result (AppendsPart (K.held sink.old) (K.held sink.new) (buffer.old.items ++ added_text (take from history.now) (drop from history.now))) }
+
+    // The text went through, or the sink failed and took some first bytes of it.
+    ensures ok { OnOk result (GoesThrough (K.held sink.old) (K.held sink.new) buffer.old.items buffer.new.items
+        (added_text (take from history.now) (drop from history.now))) }
+    ensures part { OnErr result (AppendsPart (K.held sink.old) (K.held sink.new)
+        (buffer.old.items ++ added_text (take from history.now) (drop from history.now))) }
     ensures cause { IsCounted (K.faults sink.old) (K.faults sink.new) result }
     ensures room { OUTPUT_BYTES ≤ vec_capacity buffer.new }
 {
@@ -154,8 +176,12 @@ fn print_entries<K: Sink>(
 // Prints what is told of a line after its batch.
 fn print_end<K: Sink>(sink: &mut K, buffer: &mut Vec<u8>, answer: &Answer) -> Result<(), Failed>
     requires { OUTPUT_BYTES ≤ vec_capacity buffer.old }
-    ensures ok { OnOk result (GoesThrough (K.held sink.old) (K.held sink.new) buffer.old.items buffer.new.items (end_text answer.now.line answer.now.end)) }
-    ensures part { OnErr result (AppendsPart (K.held sink.old) (K.held sink.new) (buffer.old.items ++ end_text answer.now.line answer.now.end)) }
+
+    // The text went through, or the sink failed and took some first bytes of it.
+    ensures ok { OnOk result (GoesThrough (K.held sink.old) (K.held sink.new) buffer.old.items buffer.new.items
+        (end_text answer.now.line answer.now.end)) }
+    ensures part { OnErr result (AppendsPart (K.held sink.old) (K.held sink.new)
+        (buffer.old.items ++ end_text answer.now.line answer.now.end)) }
     ensures cause { IsCounted (K.faults sink.old) (K.faults sink.new) result }
     ensures room { OUTPUT_BYTES ≤ vec_capacity buffer.new }
 {
@@ -186,6 +212,8 @@ fn write_end(buffer: &mut Vec<u8>, line: u64, end: LineEnd)
 // Prints what is told of the lines of a batch.
 fn print_ends<K: Sink>(sink: &mut K, buffer: &mut Vec<u8>, answers: &[Answer]) -> Result<(), Failed>
     requires spare { OUTPUT_BYTES ≤ vec_capacity buffer.old }
+
+    // The text went through, or the sink failed and took some first bytes of it.
     ensures ok { OnOk result (GoesThrough (K.held sink.old) (K.held sink.new) buffer.old.items buffer.new.items (ends_text answers.now)) }
     ensures part { OnErr result (AppendsPart (K.held sink.old) (K.held sink.new) (buffer.old.items ++ ends_text answers.now)) }
     ensures cause { IsCounted (K.faults sink.old) (K.faults sink.new) result }
@@ -216,11 +244,17 @@ pub fn print_batch<K: Sink>(
     requires range { All (λ e. IsReplyInRange e.reply) history.now }
     requires from { from ≤ length history.now }
     requires rounds { rounds.now ≡ cuts_after from history.now }
+
+    // The buffer.
     requires empty { buffer.old.items ≡ [] }
     requires spare { OUTPUT_BYTES ≤ vec_capacity buffer.old }
-    ensures ok { OnOk result (Appends (K.held sink.old) (K.held sink.new) (printed_of (take from history.now) (drop from history.now) answers.now)) }
+
+    // The text went through, or the sink failed and took some first bytes of it.
+    ensures ok { OnOk result (Appends (K.held sink.old) (K.held sink.new)
+        (printed_of (take from history.now) (drop from history.now) answers.now)) }
     ensures emptied { OnOk result (buffer.new.items ≡ []) }
-    ensures part { OnErr result (AppendsPart (K.held sink.old) (K.held sink.new) (printed_of (take from history.now) (drop from history.now) answers.now)) }
+    ensures part { OnErr result (AppendsPart (K.held sink.old) (K.held sink.new)
+        (printed_of (take from history.now) (drop from history.now) answers.now)) }
     ensures cause { IsCounted (K.faults sink.old) (K.faults sink.new) result }
     ensures room { OUTPUT_BYTES ≤ vec_capacity buffer.new }
 {
@@ -236,8 +270,12 @@ fn print_memory_lines<K: Sink>(
     requests: &[Request],
 ) -> Result<(), Failed>
     requires spare { OUTPUT_BYTES ≤ vec_capacity buffer.old }
-    ensures ok { OnOk result (GoesThrough (K.held sink.old) (K.held sink.new) buffer.old.items buffer.new.items (ends_text (unanswered requests.now))) }
-    ensures part { OnErr result (AppendsPart (K.held sink.old) (K.held sink.new) (buffer.old.items ++ ends_text (unanswered requests.now))) }
+
+    // The text went through, or the sink failed and took some first bytes of it.
+    ensures ok { OnOk result (GoesThrough (K.held sink.old) (K.held sink.new) buffer.old.items buffer.new.items
+        (ends_text (unanswered requests.now))) }
+    ensures part { OnErr result (AppendsPart (K.held sink.old) (K.held sink.new)
+        (buffer.old.items ++ ends_text (unanswered requests.now))) }
     ensures cause { IsCounted (K.faults sink.old) (K.faults sink.new) result }
     ensures room { OUTPUT_BYTES ≤ vec_capacity buffer.new }
 {
@@ -260,6 +298,8 @@ pub fn print_unanswered<K: Sink>(
 ) -> Result<(), Failed>
     requires empty { buffer.old.items ≡ [] }
     requires spare { OUTPUT_BYTES ≤ vec_capacity buffer.old }
+
+    // The text went through, or the sink failed and took some first bytes of it.
     ensures ok { OnOk result (Appends (K.held sink.old) (K.held sink.new) (ends_text (unanswered requests.now))) }
     ensures emptied { OnOk result (buffer.new.items ≡ []) }
     ensures part { OnErr result (AppendsPart (K.held sink.old) (K.held sink.new) (ends_text (unanswered requests.now))) }
@@ -267,5 +307,56 @@ pub fn print_unanswered<K: Sink>(
     ensures room { OUTPUT_BYTES ≤ vec_capacity buffer.new }
 {
     print_memory_lines(sink, buffer, requests)?;
+    flush(sink, buffer)
+}
+
+// Prints that there was no memory for any of so many lines, from a number on.
+fn print_memory_range<K: Sink>(
+    sink: &mut K,
+    buffer: &mut Vec<u8>,
+    first: u64,
+    count: u64,
+) -> Result<(), Failed>
+    requires numbers { first + count < 2 ^ 64 }
+    requires spare { OUTPUT_BYTES ≤ vec_capacity buffer.old }
+
+    // The text went through, or the sink failed and took some first bytes of it.
+    ensures ok { OnOk result (GoesThrough (K.held sink.old) (K.held sink.new) buffer.old.items buffer.new.items
+        (ends_text (unanswered_lines first count))) }
+    ensures part { OnErr result (AppendsPart (K.held sink.old) (K.held sink.new)
+        (buffer.old.items ++ ends_text (unanswered_lines first count))) }
+    ensures cause { IsCounted (K.faults sink.old) (K.faults sink.new) result }
+    ensures room { OUTPUT_BYTES ≤ vec_capacity buffer.new }
+{
+    for line in first..first + count {
+        let answer = Answer {
+            line,
+            end: LineEnd::Memory,
+        };
+        print_end(sink, buffer, &answer)?;
+    }
+    Ok(())
+}
+
+/// Prints a line for each of so many lines of a batch, from a number on, none of which was asked, for want of memory. The buffer and
+/// the failure are as for `print_batch`.
+pub fn print_unanswered_lines<K: Sink>(
+    sink: &mut K,
+    buffer: &mut Vec<u8>,
+    first: u64,
+    count: u64,
+) -> Result<(), Failed>
+    requires numbers { first + count < 2 ^ 64 }
+    requires empty { buffer.old.items ≡ [] }
+    requires spare { OUTPUT_BYTES ≤ vec_capacity buffer.old }
+
+    // The text went through, or the sink failed and took some first bytes of it.
+    ensures ok { OnOk result (Appends (K.held sink.old) (K.held sink.new) (ends_text (unanswered_lines first count))) }
+    ensures emptied { OnOk result (buffer.new.items ≡ []) }
+    ensures part { OnErr result (AppendsPart (K.held sink.old) (K.held sink.new) (ends_text (unanswered_lines first count))) }
+    ensures cause { IsCounted (K.faults sink.old) (K.faults sink.new) result }
+    ensures room { OUTPUT_BYTES ≤ vec_capacity buffer.new }
+{
+    print_memory_range(sink, buffer, first, count)?;
     flush(sink, buffer)
 }

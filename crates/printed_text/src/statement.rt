@@ -20,8 +20,12 @@ use statement_text::{write_claim, write_end, write_head, write_party};
 fn print_head<K: Sink>(sink: &mut K, buffer: &mut Vec<u8>, cut: &Cut) -> Result<(), Failed>
     requires round { 1 ≤ cut.now.round }
     requires spare { OUTPUT_BYTES ≤ vec_capacity buffer.old }
-    ensures ok { OnOk result (GoesThrough (K.held sink.old) (K.held sink.new) buffer.old.items buffer.new.items (line_bytes (line.Head cut.now.round cut.now.kind))) }
-    ensures part { OnErr result (AppendsPart (K.held sink.old) (K.held sink.new) (buffer.old.items ++ line_bytes (line.Head cut.now.round cut.now.kind))) }
+
+    // The text went through, or the sink failed and took some first bytes of it.
+    ensures ok { OnOk result (GoesThrough (K.held sink.old) (K.held sink.new) buffer.old.items buffer.new.items
+        (line_bytes (line.Head cut.now.round cut.now.kind))) }
+    ensures part { OnErr result (AppendsPart (K.held sink.old) (K.held sink.new)
+        (buffer.old.items ++ line_bytes (line.Head cut.now.round cut.now.kind))) }
     ensures cause { IsCounted (K.faults sink.old) (K.faults sink.new) result }
     ensures room { OUTPUT_BYTES ≤ vec_capacity buffer.new }
 {
@@ -41,8 +45,12 @@ fn print_party<K: Sink>(
     requires room { party.now.room ≤ MOST_WINDOW }
     requires price { unsigned_abs price < 10 ^ 9 }
     requires spare { OUTPUT_BYTES ≤ vec_capacity buffer.old }
-    ensures ok { OnOk result (GoesThrough (K.held sink.old) (K.held sink.new) buffer.old.items buffer.new.items (line_bytes (line.Party party.now price))) }
-    ensures part { OnErr result (AppendsPart (K.held sink.old) (K.held sink.new) (buffer.old.items ++ line_bytes (line.Party party.now price))) }
+
+    // The text went through, or the sink failed and took some first bytes of it.
+    ensures ok { OnOk result (GoesThrough (K.held sink.old) (K.held sink.new) buffer.old.items buffer.new.items
+        (line_bytes (line.Party party.now price))) }
+    ensures part { OnErr result (AppendsPart (K.held sink.old) (K.held sink.new)
+        (buffer.old.items ++ line_bytes (line.Party party.now price))) }
     ensures cause { IsCounted (K.faults sink.old) (K.faults sink.new) result }
     ensures room { OUTPUT_BYTES ≤ vec_capacity buffer.new }
 {
@@ -62,9 +70,15 @@ fn print_parties<K: Sink>(
     requires rooms { All (λ f. f.room ≤ MOST_WINDOW) parties.now }
     requires prices { All (λ p. unsigned_abs p < 10 ^ 9) prices.now }
     requires price_each { length prices.now ≡ length parties.now }
+
+    // The buffer.
     requires spare { OUTPUT_BYTES ≤ vec_capacity buffer.old }
-    ensures ok { OnOk result (GoesThrough (K.held sink.old) (K.held sink.new) buffer.old.items buffer.new.items (lines_bytes (party_lines parties.now prices.now))) }
-    ensures part { OnErr result (AppendsPart (K.held sink.old) (K.held sink.new) (buffer.old.items ++ lines_bytes (party_lines parties.now prices.now))) }
+
+    // The text went through, or the sink failed and took some first bytes of it.
+    ensures ok { OnOk result (GoesThrough (K.held sink.old) (K.held sink.new) buffer.old.items buffer.new.items
+        (lines_bytes (party_lines parties.now prices.now))) }
+    ensures part { OnErr result (AppendsPart (K.held sink.old) (K.held sink.new)
+        (buffer.old.items ++ lines_bytes (party_lines parties.now prices.now))) }
     ensures cause { IsCounted (K.faults sink.old) (K.faults sink.new) result }
     ensures room { OUTPUT_BYTES ≤ vec_capacity buffer.new }
 {
@@ -86,8 +100,14 @@ fn print_claim<K: Sink>(
     requires place { place < length cut.now.claims }
     requires discharge { discharge < SUM_LIMIT }
     requires spare { OUTPUT_BYTES ≤ vec_capacity buffer.old }
-    ensures ok { (none : CutClaim) → OnOk result (GoesThrough (K.held sink.old) (K.held sink.new) buffer.old.items buffer.new.items (line_bytes (claim_line cut.now.parties (slice_index_or cut.now.claims place none) discharge))) }
-    ensures part { (none : CutClaim) → OnErr result (AppendsPart (K.held sink.old) (K.held sink.new) (buffer.old.items ++ line_bytes (claim_line cut.now.parties (slice_index_or cut.now.claims place none) discharge))) }
+
+    // The text went through, or the sink failed and took some first bytes of it.
+    ensures ok { (none : CutClaim) → OnOk result
+        (GoesThrough (K.held sink.old) (K.held sink.new) buffer.old.items buffer.new.items
+        (line_bytes (claim_line cut.now.parties (slice_index_or cut.now.claims place none) discharge))) }
+    ensures part { (none : CutClaim) → OnErr result
+        (AppendsPart (K.held sink.old) (K.held sink.new)
+        (buffer.old.items ++ line_bytes (claim_line cut.now.parties (slice_index_or cut.now.claims place none) discharge))) }
     ensures cause { IsCounted (K.faults sink.old) (K.faults sink.new) result }
     ensures room { OUTPUT_BYTES ≤ vec_capacity buffer.new }
 {
@@ -107,8 +127,12 @@ fn print_claims<K: Sink>(
     requires discharges { All (λ d. d < SUM_LIMIT) discharges.now }
     requires discharge_each { length discharges.now ≡ length cut.now.claims }
     requires spare { OUTPUT_BYTES ≤ vec_capacity buffer.old }
-    ensures ok { OnOk result (GoesThrough (K.held sink.old) (K.held sink.new) buffer.old.items buffer.new.items (lines_bytes (claim_lines cut.now.parties cut.now.claims discharges.now))) }
-    ensures part { OnErr result (AppendsPart (K.held sink.old) (K.held sink.new) (buffer.old.items ++ lines_bytes (claim_lines cut.now.parties cut.now.claims discharges.now))) }
+
+    // The text went through, or the sink failed and took some first bytes of it.
+    ensures ok { OnOk result (GoesThrough (K.held sink.old) (K.held sink.new) buffer.old.items buffer.new.items
+        (lines_bytes (claim_lines cut.now.parties cut.now.claims discharges.now))) }
+    ensures part { OnErr result (AppendsPart (K.held sink.old) (K.held sink.new)
+        (buffer.old.items ++ lines_bytes (claim_lines cut.now.parties cut.now.claims discharges.now))) }
     ensures cause { IsCounted (K.faults sink.old) (K.faults sink.new) result }
     ensures room { OUTPUT_BYTES ≤ vec_capacity buffer.new }
 {
@@ -121,6 +145,8 @@ fn print_claims<K: Sink>(
 // Prints the last line.
 fn print_end<K: Sink>(sink: &mut K, buffer: &mut Vec<u8>) -> Result<(), Failed>
     requires spare { OUTPUT_BYTES ≤ vec_capacity buffer.old }
+
+    // The text went through, or the sink failed and took some first bytes of it.
     ensures ok { OnOk result (GoesThrough (K.held sink.old) (K.held sink.new) buffer.old.items buffer.new.items (line_bytes line.End)) }
     ensures part { OnErr result (AppendsPart (K.held sink.old) (K.held sink.new) (buffer.old.items ++ line_bytes line.End)) }
     ensures cause { IsCounted (K.faults sink.old) (K.faults sink.new) result }
@@ -144,8 +170,12 @@ pub fn print_statement<K: Sink>(
 ) -> Result<(), Failed>
     requires printable { IsPrintable cut.now outcome.now }
     requires spare { OUTPUT_BYTES ≤ vec_capacity buffer.old }
-    ensures ok { OnOk result (GoesThrough (K.held sink.old) (K.held sink.new) buffer.old.items buffer.new.items (statement_bytes cut.now outcome.now)) }
-    ensures part { OnErr result (AppendsPart (K.held sink.old) (K.held sink.new) (buffer.old.items ++ statement_bytes cut.now outcome.now)) }
+
+    // The text went through, or the sink failed and took some first bytes of it.
+    ensures ok { OnOk result (GoesThrough (K.held sink.old) (K.held sink.new) buffer.old.items buffer.new.items
+        (statement_bytes cut.now outcome.now)) }
+    ensures part { OnErr result (AppendsPart (K.held sink.old) (K.held sink.new)
+        (buffer.old.items ++ statement_bytes cut.now outcome.now)) }
     ensures cause { IsCounted (K.faults sink.old) (K.faults sink.new) result }
     ensures room { OUTPUT_BYTES ≤ vec_capacity buffer.new }
 {

@@ -4,16 +4,17 @@ ghost use Rattle.printed_text.specs.Texts.{verdict_text, verdict_words, verdict_
 ghost use Rattle.setoff_model.specs.declared.limits.TheConstants.{LINE_BYTES};
 ghost use Rattle.setoff_model.specs.Texts.{cents_text};
 
+use crate::exit_status::ExitStatus;
 use setoff_checker::Verdict;
 use setoff_model::{Cut, Key, Name, put, write_cents};
 
-/// 0 where the set-off was found greatest, else 1.
-pub fn status_of_verdict(verdict: Verdict) -> u8
+/// `Done` where the set-off was found greatest, else `No`.
+pub fn status_of_verdict(verdict: Verdict) -> ExitStatus
     ensures { result ≡ verdict_status verdict }
 {
     match verdict {
-        Verdict::Greatest { .. } => 0,
-        _ => 1,
+        Verdict::Greatest { .. } => ExitStatus::Done,
+        _ => ExitStatus::No,
     }
 }
 
@@ -36,6 +37,8 @@ fn firm_of(cut: &Cut, party: u32) -> Name
 fn write_named(buffer: &mut Vec<u8>, what: &[u8], name: &Name)
     requires short { length what.now ≤ 40 }
     requires spare { vec_len buffer.old + 60 ≤ vec_capacity buffer.old }
+
+    // What stands in the buffer then, and its room.
     ensures text { buffer.new.items ≡ buffer.old.items ++ (what.now ++ name.now) }
     ensures len { vec_len buffer.new ≤ vec_len buffer.old + 60 }
     ensures room { vec_capacity buffer.old ≤ vec_capacity buffer.new }
@@ -57,6 +60,8 @@ fn write_over_amount(buffer: &mut Vec<u8>, key: &Key)
 fn write_named_cents(buffer: &mut Vec<u8>, what: &[u8], cents: u128)
     requires short { length what.now ≤ 15 }
     requires spare { vec_len buffer.old + 75 ≤ vec_capacity buffer.old }
+
+    // What stands in the buffer then, and its room.
     ensures text { buffer.new.items ≡ buffer.old.items ++ (what.now ++ cents_text cents) }
     ensures len { vec_len buffer.new ≤ vec_len buffer.old + 75 }
     ensures room { vec_capacity buffer.old ≤ vec_capacity buffer.new }
@@ -67,7 +72,8 @@ fn write_named_cents(buffer: &mut Vec<u8>, what: &[u8], cents: u128)
 
 fn write_not_proved(buffer: &mut Vec<u8>, total: u64, bound: i128)
     requires { vec_len buffer.old + 150 ≤ vec_capacity buffer.old }
-    ensures text { buffer.new.items ≡ buffer.old.items ++ (codes "no not-proved " ++ cents_text total ++ codes " " ++ cents_text (unsigned_abs bound)) }
+    ensures text { buffer.new.items ≡ buffer.old.items
+        ++ (codes "no not-proved " ++ cents_text total ++ codes " " ++ cents_text (unsigned_abs bound)) }
     ensures len { vec_len buffer.new ≤ vec_len buffer.old + 150 }
     ensures room { vec_capacity buffer.old ≤ vec_capacity buffer.new }
 {
@@ -78,6 +84,8 @@ fn write_not_proved(buffer: &mut Vec<u8>, total: u64, bound: i128)
 fn write_words(buffer: &mut Vec<u8>, cut: &Cut, verdict: Verdict)
     requires placed { IsPlaced cut.now verdict }
     requires spare { vec_len buffer.old + 150 ≤ vec_capacity buffer.old }
+
+    // What stands in the buffer then, and its room.
     ensures text { buffer.new.items ≡ buffer.old.items ++ verdict_words cut.now verdict }
     ensures len { vec_len buffer.new ≤ vec_len buffer.old + 150 }
     ensures room { vec_capacity buffer.old ≤ vec_capacity buffer.new }
@@ -103,6 +111,8 @@ fn write_words(buffer: &mut Vec<u8>, cut: &Cut, verdict: Verdict)
 pub fn write_verdict(buffer: &mut Vec<u8>, cut: &Cut, verdict: Verdict)
     requires placed { IsPlaced cut.now verdict }
     requires spare { vec_len buffer.old + LINE_BYTES ≤ vec_capacity buffer.old }
+
+    // What stands in the buffer then, and its room.
     ensures text { buffer.new.items ≡ buffer.old.items ++ verdict_text cut.now verdict }
     ensures len { vec_len buffer.new ≤ vec_len buffer.old + LINE_BYTES }
     ensures room { vec_capacity buffer.old ≤ vec_capacity buffer.new }

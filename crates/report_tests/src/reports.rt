@@ -3,6 +3,7 @@ use bureau_reports::{report_input, report_journal};
 use claim_history::Day;
 use command_words::{InputReport, JournalReport};
 use disk_model::MemoryDisk;
+use printed_text::ExitStatus;
 use setoff_model::Kind;
 use std::alloc::{AllocError, Global};
 use std::process::Abort;
@@ -19,8 +20,8 @@ fn disk_of(rt: &impl Abort, alloc: Global, bytes: &[u8], fails: u64) -> MemoryDi
 }
 
 // Ends the test where a report gave another status, or its sink took another output.
-fn expect_told(rt: &impl Abort, told: u8, sink: &BytesSink, status: u8, output: &[u8]) {
-    assert!(rt; told == status);
+fn expect_told(rt: &impl Abort, told: ExitStatus, sink: &BytesSink, status: u8, output: &[u8]) {
+    assert!(rt; told.number() == status);
     assert!(rt; sink.bytes() == output);
 }
 
@@ -198,7 +199,7 @@ fn statements_are_explained(rt: HostRuntime) {
 fn the_triangle_is_one_closed_chain(rt: HostRuntime) {
     let mut sink = new_sink(rt.alloc());
     let told = report_input(rt.alloc(), InputReport::Explain, STATEMENTS[0].0, &mut sink);
-    assert!(rt; told == 0);
+    assert!(rt; told.number() == 0);
     let chain = sink.bytes();
     let is_first = chain == b"CLOSED 7.00 B/I-1 C/I-2 A/I-3\n".as_slice();
     let is_second = chain == b"CLOSED 7.00 C/I-2 A/I-3 B/I-1\n".as_slice();

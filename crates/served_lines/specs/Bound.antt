@@ -34,10 +34,12 @@ most_request_bytes = 73
 -- for both endings of one round more. No round has more claims and firms than are asked for.
 pub record IsWithinBound (history : List Entry) (requests : List Request) : Type 0 where
   pub entries : used_entries_of history + (length requests + closes requests) + 2 ≤ MOST_ENTRIES
-  pub bytes : used_bytes_of history + most_request_bytes * length requests + endings_with (claims_with history requests) (firms_with history requests) * (closes requests + 1) ≤ MOST_JOURNAL_BYTES
+  pub bytes : used_bytes_of history + most_request_bytes * length requests + endings_with (claims_with history requests)
+      (firms_with history requests) * (closes requests + 1) ≤ MOST_JOURNAL_BYTES
 
 -- Where a batch and the requests of later ones are within the bound, none of its lines is full, and after what it added the later
 -- ones are within the bound.
 abbrev pub BoundLaw : Type 0
-BoundLaw = (batch later : List Request) (answers : List Answer) (before added : List Entry) → IsServed batch answers before added → IsLegal (before ++ added) → AreValid (before ++ added) → AreRequests batch
+BoundLaw = (batch later : List Request) (answers : List Answer) (before added : List Entry) → IsServed batch answers before added
+    → IsLegal (before ++ added) → AreValid (before ++ added) → AreRequests batch
     → IsWithinBound before (batch ++ later) → (has_line_end is_full_end answers ≡ false) × IsWithinBound (before ++ added) later

@@ -103,7 +103,8 @@ pub record Line : Type 0 where
 abbrev pub LinesAdd : List Entry → ℕ → List Entry → List Line → List Entry → Type 0
 LinesAdd whole opened done [] entries = entries ≡ []
 LinesAdd whole opened done (line ∷ lines) entries =
-    (front later : List Entry) × (entries ≡ front ++ later) × LineAdds whole opened done line.request line.end front × LinesAdd whole opened (done ++ front) lines later
+    (front later : List Entry) × (entries ≡ front ++ later) × LineAdds whole opened done line.request line.end front
+    × LinesAdd whole opened (done ++ front) lines later
 
 -- each request with what came of it
 abbrev pub lines_of : List Request → List Answer → List Line

@@ -1,9 +1,12 @@
-//! Lines that were not replied to.
+//! Lines that were not replied to, and entries that tell of a device.
 ghost use Rattle.std.specs.Prelude.{◌≡◌};
+ghost use Rattle.std.specs.List.{list_any};
+ghost use Rattle.claim_history.specs.Needs.{is_of_device};
 ghost use Rattle.served_lines.specs.Ends.{is_memory_end, is_full_end, has_line_end};
 
 use crate::answer::Answer;
 use crate::line_end::LineEnd;
+use claim_history::{Entry, tells_of_device};
 
 fn is_memory_end(end: LineEnd) -> bool
     ensures { result ≡ is_memory_end end }
@@ -35,4 +38,11 @@ pub fn some_full(answers: &[Answer]) -> bool
     ensures { result ≡ has_line_end is_full_end answers.now }
 {
     answers.iter().any(|answer| is_full_end(answer.end))
+}
+
+/// Whether some entry tells of a device.
+pub fn some_device(entries: &[Entry]) -> bool
+    ensures { result ≡ list_any (λ e. is_of_device e.reply) entries.now }
+{
+    entries.iter().any(|entry| tells_of_device(&entry.reply))
 }

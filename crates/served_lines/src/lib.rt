@@ -11,6 +11,6 @@ mod laws;
 mod line_end;
 
 pub use answer::Answer;
-pub use ends::{some_full, some_memory};
+pub use ends::{some_device, some_full, some_memory};
 pub use laws::no_line_is_full_within_the_bound;
 pub use line_end::LineEnd;

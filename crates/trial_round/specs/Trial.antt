@@ -25,7 +25,8 @@ trial_batch firms claims seed = numbered 1 (map by_lane_one (trial_acts firms cl
 
 -- the cut of the round: that of the one history of the acts before the last
 unfoldable pub trial_cut : ℕ → ℕ → ℕ → CutView
-trial_cut firms claims seed = cut_of 1 (state_of (replay_of (map call_by_one (acts_before_close firms claims seed)))).ledger Plain horizon_day
+trial_cut firms claims seed = cut_of 1 (state_of (replay_of (map call_by_one (acts_before_close firms claims seed)))).ledger Plain
+    horizon_day
 
 -- the greatest total that a lawful set-off of the cut has
 pub record IsGreatestTotal (cut : CutView) (total : ℕ) : Type 0 where
@@ -50,4 +51,5 @@ pub record AreSums (cut : CutView) (claims parties total : ℕ) : Type 0 where
 pub record IsTrialText (firms claims seed : ℕ) (text : List ℕ) : Type 0 where
   pub total : ℕ
   pub greatest : IsGreatestTotal (trial_cut firms claims seed) total
-  pub line : text ≡ trial_line firms claims seed (length (trial_cut firms claims seed).claims) (length (trial_cut firms claims seed).parties) total
+  pub line : text ≡ trial_line firms claims seed (length (trial_cut firms claims seed).claims)
+      (length (trial_cut firms claims seed).parties) total

@@ -34,6 +34,8 @@ impl Draws {
         requires { self.old.made + 1 < 2 ^ 32 }
         ensures drawn { result ≡ draw self.old.seed (self.old.made + 1) }
         ensures short { result < 2 ^ 16 }
+
+        // The generator goes on.
         ensures made { self.new.made ≡ self.old.made + 1 }
         ensures seed { self.new.seed ≡ self.old.seed }
     {

@@ -5,7 +5,8 @@ ghost use Rattle.setoff_model.specs.Names.{is_letter, is_name};
 ghost use Rattle.claim_history.specs.Acts.{is_claim_amount, is_key, is_request};
 ghost use Rattle.claim_history.specs.declared.act.Act.TheVariants as acts;
 ghost use Rattle.request_text.specs.Grammar.{request_line};
-ghost use Rattle.trial_round.specs.Input.{claim_acts, claim_cents, claim_key, close_act, debtor_place, due_day, filed_and_confirmed, firm_acts, firm_name, other_than, text_of_acts, trial_input};
+ghost use Rattle.trial_round.specs.Input.{claim_acts, claim_cents, claim_key, close_act, debtor_place, due_day};
+ghost use Rattle.trial_round.specs.Input.{filed_and_confirmed, firm_acts, firm_name, other_than, text_of_acts, trial_input};
 ghost use Rattle.trial_round.specs.Trial.{IsTrialSize, trial_batch};
 
 use crate::draws::Draws;
@@ -87,11 +88,17 @@ fn draw_claim(room: &mut Vec<u8>, draws: &mut Draws, firms: u32, number: u32) ->
     requires few { firms ≤ MOST_FIRMS }
     requires number { 1 ≤ number }
     requires claims { number ≤ MOST_CLAIMS }
+
+    // The generator and the room.
     requires draws { draws.old.made ≡ 3 * (number - 1) }
     requires room { 80 ≤ vec_capacity room.old }
+
+    // The claim.
     ensures key { result.key ≡ claim_key firms draws.old.seed number }
     ensures debtor { result.debtor ≡ firm_name (debtor_place firms draws.old.seed number + 1) }
     ensures amount { result.amount ≡ claim_cents draws.old.seed number }
+
+    // The generator and the room.
     ensures draws { draws.new.made ≡ 3 * number }
     ensures seed { draws.new.seed ≡ draws.old.seed }
     ensures room { 80 ≤ vec_capacity room.new }
@@ -114,7 +121,8 @@ fn write_filed(text: &mut Vec<u8>, claim: DrawnClaim) -> Result<(), AllocError>
     requires key { is_key claim.key ≡ true }
     requires debtor { is_name claim.debtor ≡ true }
     requires amount { is_claim_amount claim.amount ≡ true }
-    ensures { OnOk result (text.new.items ≡ text.old.items ++ request_line 1 (acts.File claim.key claim.debtor claim.amount due_day) ++ request_line 1 (acts.Confirm claim.key claim.debtor)) }
+    ensures { OnOk result (text.new.items ≡ text.old.items ++ request_line 1 (acts.File claim.key claim.debtor claim.amount due_day)
+        ++ request_line 1 (acts.Confirm claim.key claim.debtor)) }
 {
     let Some(due) = Day::of_number(DUE_DAY) else {
         unreachable!()
@@ -145,9 +153,15 @@ fn write_claim(
     requires few { firms ≤ MOST_FIRMS }
     requires number { 1 ≤ number }
     requires claims { number ≤ MOST_CLAIMS }
+
+    // The generator and the room.
     requires draws { draws.old.made ≡ 3 * (number - 1) }
     requires room { 80 ≤ vec_capacity room.old }
+
+    // The lines.
     ensures text { OnOk result (text.new.items ≡ text.old.items ++ text_of_acts (filed_and_confirmed firms draws.old.seed number)) }
+
+    // The generator and the room.
     ensures draws { draws.new.made ≡ 3 * number }
     ensures seed { draws.new.seed ≡ draws.old.seed }
     ensures room { 80 ≤ vec_capacity room.new }

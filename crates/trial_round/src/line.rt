@@ -13,6 +13,8 @@ const LINE_BYTES: usize = 400;
 fn write_count(buffer: &mut Vec<u8>, words: &[u8], number: u32)
     requires short { length words.now ≤ 20 }
     requires spare { vec_len buffer.old + 80 ≤ vec_capacity buffer.old }
+
+    // What stands in the buffer then, and its room.
     ensures text { buffer.new.items ≡ buffer.old.items ++ words.now ++ decimal number }
     ensures len { vec_len buffer.new ≤ vec_len buffer.old + 40 }
     ensures room { vec_capacity buffer.old ≤ vec_capacity buffer.new }

@@ -10,7 +10,7 @@ ghost use Rattle.trial_round.specs.Round.{EndsWith, HasRound, HasServedAlone};
 ghost use Rattle.trial_round.specs.Opening.{IsWant};
 
 use crate::input::trial_batch;
-use batch_runs::{Unhindered, some_device};
+use batch_runs::Unhindered;
 use bureau_desk::{Desk, DeskCause, DeskRefused};
 use claim_history::{Act, Entry, publications_are_greatest};
 use disk_model::MemoryDisk;
@@ -18,7 +18,7 @@ use lane_runner::{BatchEnd, run_batch};
 use level_solver::LevelSolver;
 use request_text::Batch;
 use round_cut::cut_of_a_history_is_of_its_facts;
-use served_lines::{Answer, no_line_is_full_within_the_bound, some_memory};
+use served_lines::{Answer, no_line_is_full_within_the_bound, some_device, some_memory};
 use setoff_checker::{Checker, Verdict};
 use setoff_model::{Cut, Outcome, weak_duality};
 use std::alloc::{AllocError, Global};
@@ -126,6 +126,8 @@ fn judge(
     requires legal { IsLegal history.now }
     requires valid { AreValid history.now }
     requires rounds { rounds.now ≡ cuts_after 0 history.now }
+
+    // What it came to.
     ensures { IfOk result (λ sums. AreSums (trial_cut firms claims seed) sums.claims sums.parties sums.total) }
 {
     publications_are_greatest();

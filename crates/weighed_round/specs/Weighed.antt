@@ -28,7 +28,8 @@ cut_by l kind today = cut_of 0 l kind today
 
 -- the line of a claim
 abbrev pub weighed_line : List Party → CutClaim → ℕ → ℕ → List ℕ
-weighed_line parties c discharge weight = line_of (weighed_claim_fields c.key (firm_at parties c.debtor) c.amount discharge weight) ++ codes "\n"
+weighed_line parties c discharge weight = line_of (weighed_claim_fields c.key (firm_at parties c.debtor) c.amount discharge weight)
+    ++ codes "\n"
 
 -- one line for each claim, with its discharge and its weight
 abbrev pub weighed_lines : List Party → List CutClaim → List ℕ → List ℕ → List ℕ

@@ -21,6 +21,8 @@ fn put_parties(text: &mut Vec<u8>, parties: &[Party], prices: &[i64]) -> Result<
     requires rooms { All (λ f. f.room ≤ MOST_WINDOW) parties.now }
     requires prices { All (λ p. unsigned_abs p < 10 ^ 9) prices.now }
     requires price_each { length prices.now ≡ length parties.now }
+
+    // Their lines.
     ensures { OnOk result (text.new.items ≡ text.old.items ++ lines_bytes (party_lines parties.now prices.now)) }
 {
     for i in 0..parties.len() {
@@ -41,6 +43,8 @@ fn put_claims(
     requires discharges { All (λ d. d < SUM_LIMIT) discharges.now }
     requires discharge_each { length discharges.now ≡ length cut.now.claims }
     requires weight_each { length weights.now ≡ length cut.now.claims }
+
+    // Their lines.
     ensures { OnOk result (text.new.items ≡ text.old.items ++ weighed_lines cut.now.parties cut.now.claims discharges.now weights.now) }
 {
     for i in 0..discharges.len() {

@@ -1,23 +1,17 @@
 use Rattle.std.proofs.Common.{◌≡◌, ℕ, List, ◌++◌, ap, ◌∙◌, refl, subst}
-use Rattle.std.specs.Prelude.{codes}
 use Rattle.command_words.specs.declared.input_report.InputReport.TheVariants as inputs
+use Rattle.printed_text.specs.declared.exit_status.ExitStatus.{ExitStatus}
 use Rattle.printed_text.specs.Texts.{verdict_text, verdict_status}
 use Rattle.printed_text.specs.Writing.{IsWritten}
-use Rattle.bureau_reports.specs.Inputs.{IsInputDue, no_report_memory, reported}
-use Rattle.bureau_reports.proofs.Written.{wrote_line, wrote_text}
+use Rattle.bureau_reports.specs.Inputs.{IsInputDue, reported}
+use Rattle.bureau_reports.proofs.Written.{wrote_text}
 use Rattle.bureau_reports.proofs.check.check_statement.Goals as goal
-
-pub returns-in_default-clause-wrote : goal.returns-in_default-clause-wrote
-returns-in_default-clause-wrote g c = wrote_line (IsInputDue inputs.Check c.args.input.now) _ _ 9 (codes "fault memory\n") _ no_report_memory c.end_with.ensures.written
-
-pub returns-in_default-for_cut-clause-wrote : goal.returns-in_default-for_cut-clause-wrote
-returns-in_default-for_cut-clause-wrote g c = wrote_line (IsInputDue inputs.Check c.args.input.now) _ _ 9 (codes "fault memory\n") _ no_report_memory c.end_with-in_default-for_cut.ensures.written
 
 pub returns-clause-wrote : goal.returns-clause-wrote
 returns-clause-wrote g c =
     let verdict = c.verdict-verdict.result in
     let said : c.as_slice.result.now ≡ verdict_text c.args.cut.now verdict = ◌∙◌ {A = List ℕ} c.as_slice.ensures.value (◌∙◌ {A = List ℕ} c.write_verdict.ensures.text (ap (λ (t : List ℕ). t ++ verdict_text c.args.cut.now verdict) c.in-Ok.ensures.items)) in
-    let written = subst (λ (n : ℕ). IsWritten (g.K.Sink.held c.args.sink.now) (g.K.Sink.held c.end_with-2.new.sink) n c.as_slice.result.now c.end_with-2.result) c.status_of_verdict.ensures c.end_with-2.ensures.written in
+    let written = subst (λ (n : ExitStatus). IsWritten (g.K.Sink.held c.args.sink.now) (g.K.Sink.held c.end_with.new.sink) n c.as_slice.result.now c.end_with.result) c.status_of_verdict.ensures c.end_with.ensures.written in
     wrote_text (IsInputDue inputs.Check c.args.input.now) _ _ (verdict_status verdict) (verdict_text c.args.cut.now verdict) c.as_slice.result.now _
     (reported (verdict_status verdict) (verdict_text c.args.cut.now verdict) (record {
       cut = c.args.cut.now;

@@ -1,20 +1,14 @@
-use Rattle.std.specs.Prelude.{codes}
-use Rattle.command_words.specs.declared.input_report.InputReport.TheVariants as inputs
 use Rattle.printed_text.specs.Writing.{broken, whole}
 use Rattle.chain_text.specs.Texts.{chains_text}
-use Rattle.bureau_reports.specs.Inputs.{IsInputDue, no_report_memory}
+use Rattle.printed_text.specs.declared.exit_status.ExitStatus.TheVariants as statuses
 use Rattle.bureau_reports.proofs.Explained.{explained_due}
-use Rattle.bureau_reports.proofs.Written.{wrote_line}
 use Rattle.bureau_reports.proofs.explain.explain_checked.Goals as goal
-
-pub returns-in_default-clause-wrote : goal.returns-in_default-clause-wrote
-returns-in_default-clause-wrote g c = wrote_line (IsInputDue inputs.Explain c.args.input.now) _ _ 9 (codes "fault memory\n") _ no_report_memory c.end_with.ensures.written
 
 pub returns-in-Ok-print_chains-clause-wrote : goal.returns-in-Ok-print_chains-clause-wrote
 returns-in-Ok-print_chains-clause-wrote g c =
     let printed = c.in-Ok-print_chains.ensures.printed in
     record {
-      due = 0;
+      due = statuses.Done;
       text = chains_text c.in-Ok.explainer.cut printed.chains;
       is_due = explained_due c.chains_explain.ensures c.args.input.now c.args.checked.cut c.args.checked.outcome c.requires.stated c.args.checked.proved c.in-Ok.explainer _ c.in-Ok.ensures printed.chains printed.given printed.done;
       is_written = whole printed.ok;
@@ -24,7 +18,7 @@ pub returns-clause-wrote : goal.returns-clause-wrote
 returns-clause-wrote g c =
     let printed = c.in-Err.ensures.printed in
     record {
-      due = 0;
+      due = statuses.Done;
       text = chains_text c.in-Ok.explainer.cut printed.chains;
       is_due = explained_due c.chains_explain.ensures c.args.input.now c.args.checked.cut c.args.checked.outcome c.requires.stated c.args.checked.proved c.in-Ok.explainer _ c.in-Ok.ensures printed.chains printed.given printed.done;
       is_written = broken printed.part;

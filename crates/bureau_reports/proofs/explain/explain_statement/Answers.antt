@@ -1,19 +1,13 @@
 use Rattle.std.proofs.Common.{◌≡◌, ℕ, List, ◌++◌, ap, ◌∙◌, inl, refl, subst}
-use Rattle.std.specs.Prelude.{codes}
 use Rattle.setoff_model.specs.CutView.{CutView}
 use Rattle.command_words.specs.declared.input_report.InputReport.TheVariants as inputs
+use Rattle.printed_text.specs.declared.exit_status.ExitStatus.{ExitStatus}
 use Rattle.printed_text.specs.Texts.{verdict_text, verdict_status}
 use Rattle.printed_text.specs.Writing.{IsWritten}
-use Rattle.bureau_reports.specs.Inputs.{IsInputDue, IsJudged, no_report_memory, reported}
-use Rattle.bureau_reports.proofs.Verdicts.{unproved_one}
-use Rattle.bureau_reports.proofs.Written.{wrote_line, wrote_text}
+use Rattle.bureau_reports.specs.Inputs.{IsInputDue, IsJudged, reported}
+use Rattle.bureau_reports.proofs.Verdicts.{unproved_no}
+use Rattle.bureau_reports.proofs.Written.{wrote_text}
 use Rattle.bureau_reports.proofs.explain.explain_statement.Goals as goal
-
-pub returns-in_default-clause-wrote : goal.returns-in_default-clause-wrote
-returns-in_default-clause-wrote g c = wrote_line (IsInputDue inputs.Explain c.args.input.now) _ _ 9 (codes "fault memory\n") _ no_report_memory c.end_with.ensures.written
-
-pub returns-in_default-for_cut-clause-wrote : goal.returns-in_default-for_cut-clause-wrote
-returns-in_default-for_cut-clause-wrote g c = wrote_line (IsInputDue inputs.Explain c.args.input.now) _ _ 9 (codes "fault memory\n") _ no_report_memory c.end_with-in_default-for_cut.ensures.written
 
 pub returns-clause-wrote : goal.returns-clause-wrote
 returns-clause-wrote g c =
@@ -32,6 +26,6 @@ returns-clause-wrote g c =
       status_is = refl;
       text_is = refl;
     } in
-    let written = subst (λ (n : ℕ). IsWritten (g.K.Sink.held c.args.sink.now) (g.K.Sink.held c.end_with-in-Err.new.sink) n c.as_slice.result.now c.end_with-in-Err.result) c.status_of_verdict.ensures c.end_with-in-Err.ensures.written in
+    let written = subst (λ (n : ExitStatus). IsWritten (g.K.Sink.held c.args.sink.now) (g.K.Sink.held c.end_with.new.sink) n c.as_slice.result.now c.end_with.result) c.status_of_verdict.ensures c.end_with.ensures.written in
     wrote_text (IsInputDue inputs.Explain c.args.input.now) _ _ (verdict_status v) (verdict_text cut v) c.as_slice.result.now _
-    (reported (verdict_status v) (verdict_text cut v) (inl (unproved_one cut outcome v c.in-Err.ensures.verdict c.in-Err.ensures.refused, judged))) said written
+    (reported (verdict_status v) (verdict_text cut v) (inl (unproved_no cut outcome v c.in-Err.ensures.verdict c.in-Err.ensures.refused, judged))) said written

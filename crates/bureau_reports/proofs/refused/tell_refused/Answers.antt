@@ -1,7 +1,8 @@
 use Rattle.std.specs.Vec.{vec_len}
 use Rattle.std.proofs.Common.{◌≡◌, ◌∙◌, ℕ, List, [], ◌∷◌, ◌++◌, length, ap, refl, sym, arith}
+use Rattle.printed_text.specs.declared.exit_status.ExitStatus.TheVariants as statuses
+use Rattle.printed_text.proofs.Statuses.{other_than}
 use Rattle.bureau_reports.specs.DiskTexts.{opening_status, opening_text}
-use Rattle.bureau_reports.proofs.Statuses.{other_than}
 use Rattle.bureau_reports.proofs.Viewed.{opening_among}
 use Rattle.bureau_reports.proofs.Written.{written_as}
 use Rattle.bureau_reports.proofs.refused.tell_refused.Goals as goal
@@ -15,7 +16,7 @@ write_opening_fault-requires-clause-spare g c =
     omega (arith, none, c.requires.spare)
 
 pub end_with-requires : goal.end_with-requires
-end_with-requires g c = λ four. other_than 4 (5 ∷ 8 ∷ 9 ∷ []) (opening_status c.args.cause) refl (sym c.status_of_opening.ensures ∙ four) (opening_among c.args.cause)
+end_with-requires g c = λ sink. other_than statuses.Sink (statuses.Disk ∷ statuses.Unsound ∷ statuses.Memory ∷ []) (opening_status c.args.cause) refl (sym c.status_of_opening.ensures ∙ sink) (opening_among c.args.cause)
 
 pub returns-clause-written : goal.returns-clause-written
 returns-clause-written g c =

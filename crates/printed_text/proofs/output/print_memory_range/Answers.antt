@@ -1,0 +1,49 @@
+use Rattle.std.proofs.Common.{◌≡◌, ◌+◌, ◌-◌, List, ℕ, subst, arith}
+use Rattle.served_lines.specs.declared.line_end.LineEnd.TheVariants as ends
+use Rattle.printed_text.specs.Printing.{end_text, ends_text, unanswered_lines}
+use Rattle.setoff_model.proofs.Lists.{on_err}
+use Rattle.printed_text.proofs.Passing.{GoesThroughUpTo, counted_later, up_begins, up_breaks, up_ends, up_more}
+use Rattle.printed_text.proofs.Printing.{lines_from, lines_none}
+use Rattle.printed_text.proofs.output.print_memory_range.Goals as goal
+
+pub returns-in_err-print_end-clause-part : goal.returns-in_err-print_end-clause-part
+returns-in_err-print_end-clause-part g c =
+    let n = c.loop-line.line in
+    let m = c.args.first + c.args.count in
+    let all = ends_text (unanswered_lines c.args.first c.args.count) in
+    let rest = ends_text (unanswered_lines (n + 1) (m - (n + 1))) in
+    let up = subst (λ (t : List ℕ). GoesThroughUpTo (g.K.Sink.held c.args.sink.now) (g.K.Sink.held c.loop-line.sink) c.args.buffer.now.items c.loop-line.buffer.items t all) (lines_from n m c.loop-line-test.true) c.loop-line.invariant.passes in
+    on_err _ _ (up_breaks (g.K.Sink.held c.args.sink.now) (g.K.Sink.held c.loop-line.sink) (g.K.Sink.held c.print_end.new.sink) c.args.buffer.now.items c.loop-line.buffer.items (end_text n ends.Memory) rest all up c.in_err-print_end.ensures.part)
+
+pub loop-line-preserved : goal.loop-line-preserved
+loop-line-preserved g c =
+    let n = c.loop-line.line in
+    let m = c.args.first + c.args.count in
+    let all = ends_text (unanswered_lines c.args.first c.args.count) in
+    let rest = ends_text (unanswered_lines (n + 1) (m - (n + 1))) in
+    let up = subst (λ (t : List ℕ). GoesThroughUpTo (g.K.Sink.held c.args.sink.now) (g.K.Sink.held c.loop-line.sink) c.args.buffer.now.items c.loop-line.buffer.items t all) (lines_from n m c.loop-line-test.true) c.loop-line.invariant.passes in
+    record {
+      passes = up_more (g.K.Sink.held c.args.sink.now) (g.K.Sink.held c.loop-line.sink) (g.K.Sink.held c.print_end.new.sink) c.args.buffer.now.items c.loop-line.buffer.items c.print_end.new.buffer.items (end_text n ends.Memory) rest all up c.in_ok-print_end.ensures.ok;
+      room = c.in_ok-print_end.ensures.room;
+      later = omega (arith, c.loop-line.invariant.later, c.in_ok-print_end.ensures.cause.later);
+    }
+
+pub loop-line-init : goal.loop-line-init
+loop-line-init g c =
+    let x = g.K.Sink.held c.args.sink.now in
+    let a = c.args.buffer.now.items in
+    let all = ends_text (unanswered_lines c.args.first c.args.count) in
+    let same : c.args.count ≡ c.args.first + c.args.count - c.args.first = omega arith in
+    record {
+      passes = subst (λ (k : ℕ). GoesThroughUpTo x x a a (ends_text (unanswered_lines c.args.first k)) all) same (up_begins x a all);
+      room = c.requires.spare;
+      later = omega arith;
+    }
+
+pub returns-clause-ok : goal.returns-clause-ok
+returns-clause-ok g c =
+    up_ends (g.K.Sink.held c.args.sink.now) (g.K.Sink.held c.loop-line.sink) c.args.buffer.now.items c.loop-line.buffer.items _ (ends_text (unanswered_lines c.args.first c.args.count)) c.loop-line.invariant.passes
+    (lines_none c.loop-line.line (c.args.first + c.args.count) c.loop-line-test.false)
+
+pub returns-in_err-print_end-clause-cause : goal.returns-in_err-print_end-clause-cause
+returns-in_err-print_end-clause-cause g c = counted_later (g.K.Sink.faults c.args.sink.now) (g.K.Sink.faults c.loop-line.sink) (g.K.Sink.faults c.print_end.new.sink) _ _ c.loop-line.invariant.later c.in_err-print_end.ensures.cause
