@@ -8,7 +8,8 @@ use Rattle.claim_history.specs.Acts.{is_close}
 use Rattle.claim_history.specs.Callers.{call_of}
 use Rattle.claim_history.specs.History.{Call}
 use Rattle.claim_history.proofs.Histories.{is_of_rounds}
-use Rattle.trial_round.specs.Input.{acts_before_close, call_by_one, claim_acts, claim_cents, claim_key, debtor_place, due_day, filed_and_confirmed, firm_acts, firm_name}
+use Rattle.trial_round.specs.declared.days.TheConstants.{DUE_DAY}
+use Rattle.trial_round.specs.Input.{acts_before_close, call_by_one, claim_acts, claim_cents, claim_key, debtor_place, filed_and_confirmed, firm_acts, firm_name}
 
 abbrev pub OfNoRound : Act → Type 0
 OfNoRound a = is_of_rounds a ≡ false
@@ -22,7 +23,7 @@ claim_of_none : (firms seed claim : ℕ) → All OfNoRound (filed_and_confirmed 
 unfolding filed_and_confirmed
 claim_of_none firms seed claim =
     let confirmation = act.Confirm (claim_key firms seed claim) (firm_name (debtor_place firms seed claim + 1)) in
-    All-cons OfNoRound (act.File (claim_key firms seed claim) (firm_name (debtor_place firms seed claim + 1)) (claim_cents seed claim) due_day) (confirmation ∷ []) refl
+    All-cons OfNoRound (act.File (claim_key firms seed claim) (firm_name (debtor_place firms seed claim + 1)) (claim_cents seed claim) DUE_DAY) (confirmation ∷ []) refl
     (All-cons OfNoRound confirmation [] refl (All-nil OfNoRound))
 
 claims_of_none : (firms seed claims : ℕ) → All OfNoRound (claim_acts firms seed claims)

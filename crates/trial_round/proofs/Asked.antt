@@ -8,8 +8,9 @@ use Rattle.claim_history.specs.declared.act.Act.{Act}
 use Rattle.claim_history.specs.declared.act.Act.TheVariants as act
 use Rattle.claim_history.specs.Acts.{is_request}
 use Rattle.request_text.specs.Grammar.{CanBeAsked}
+use Rattle.trial_round.specs.declared.days.TheConstants.{DUE_DAY}
 use Rattle.trial_round.specs.Draws.{draw}
-use Rattle.trial_round.specs.Input.{acts_before_close, by_lane_one, claim_acts, claim_cents, claim_key, close_act, creditor_place, debtor_place, due_day, filed_and_confirmed, firm_acts, firm_name, invoice_name, trial_acts}
+use Rattle.trial_round.specs.Input.{acts_before_close, by_lane_one, claim_acts, claim_cents, claim_key, close_act, creditor_place, debtor_place, filed_and_confirmed, firm_acts, firm_name, invoice_name, trial_acts}
 use Rattle.trial_round.specs.Trial.{IsTrialSize}
 use Rattle.trial_round.proofs.Named.{firm_is_named, invoice_is_named}
 use Rattle.trial_round.proofs.Claims.{cents_valid}
@@ -52,7 +53,7 @@ claim_asked firms seed claim some few small =
     let debtor = firm_is_named (debtor_place firms seed claim + 1) (omega (arith, debtor_below firms seed claim some, few)) in
     let named : (is_name (firm_name (creditor_place firms seed claim + 1)) && is_name (invoice_name claim) && is_name (firm_name (debtor_place firms seed claim + 1))) ≡ true =
     ap₂ (λ (a b : Bool). a && b) (ap₂ (λ (a b : Bool). a && b) creditor invoice) debtor in
-    let filing = act.File (claim_key firms seed claim) (firm_name (debtor_place firms seed claim + 1)) (claim_cents seed claim) due_day in
+    let filing = act.File (claim_key firms seed claim) (firm_name (debtor_place firms seed claim + 1)) (claim_cents seed claim) DUE_DAY in
     let confirmation = act.Confirm (claim_key firms seed claim) (firm_name (debtor_place firms seed claim + 1)) in
     All-cons IsAskable filing (confirmation ∷ []) (ap₂ (λ (a b : Bool). a && b && true) named (cents_valid seed claim (claim_cents seed claim) refl))
     (All-cons IsAskable confirmation [] named (All-nil IsAskable))

@@ -24,7 +24,8 @@ use Rattle.request_text.specs.Grammar.{numbered}
 use Rattle.served_lines.specs.declared.answer.Answer.{Answer}
 use Rattle.served_lines.specs.Ends.{has_line_end, is_full_end, is_memory_end}
 use Rattle.served_lines.specs.Served.{EndsAtOnce, IsEnding, IsOne, IsRound, IsServed}
-use Rattle.trial_round.specs.Input.{acts_before_close, by_lane_one, call_by_one, close_act, horizon_day, trial_acts}
+use Rattle.trial_round.specs.declared.days.TheConstants.{HORIZON_DAY}
+use Rattle.trial_round.specs.Input.{acts_before_close, by_lane_one, call_by_one, close_act, trial_acts}
 use Rattle.trial_round.specs.Trial.{trial_batch, trial_cut}
 use Rattle.trial_round.specs.Round.{HasRound}
 use Rattle.trial_round.proofs.Acts.{acts_close_none, acts_of_none, entries_of_none}
@@ -67,7 +68,7 @@ module _ (firms claims seed : ℕ) (before : List Entry) (calls : map call_of be
       outcome = outcome;
       ends = record { front = before ++ close ∷ []; publication = publication; number = number; parts = sym (append_assoc before (close ∷ []) (publication ∷ [])); asks = asked };
       cuts_are = one_cut before close publication asks legal none of total told ∙ ap (λ (c : CutView). c ∷ []) is_cut;
-      formed = subst WellFormed is_cut (formed before 1 Plain horizon_day (legal_before before close publication asks legal none of) valid);
+      formed = subst WellFormed is_cut (formed before 1 Plain HORIZON_DAY (legal_before before close publication asks legal none of) valid);
       proved = subst (λ (c : CutView). Proves (obligations c) outcome.discharges outcome.prices) is_cut (proved before close publication asks legal none of total told greatest number outcome asked);
     }
 

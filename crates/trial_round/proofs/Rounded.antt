@@ -24,7 +24,8 @@ use Rattle.claim_history.proofs.Histories.{answer_leaves, is_of_rounds, reply_le
 use Rattle.claim_history.proofs.Pasts.{all_reverse, legal_first}
 use Rattle.claim_history.proofs.Published.{cuts_more}
 use Rattle.claim_history.proofs.Rounds.{same_open}
-use Rattle.trial_round.specs.Input.{close_act, horizon_day}
+use Rattle.trial_round.specs.declared.days.TheConstants.{HORIZON_DAY}
+use Rattle.trial_round.specs.Input.{close_act}
 use Rattle.trial_round.proofs.Replayed.{has_device_reply, none_in_first, none_in_parts, reply_due}
 
 -- ---- before the round
@@ -48,13 +49,13 @@ fresh_history history legal of = fresh_past (reverse history) legal (all_reverse
 -- ---- the opening
 
 fresh_answer : (s : State) (caller : ℕ) → IsFresh s → answer s caller close_act ≡ reply.Opened 1
-fresh_answer s caller fresh = ap₂ (λ (n : ℕ) (o : Option OpenRound). close_answer n o caller Plain horizon_day) fresh.openings fresh.none_open
+fresh_answer s caller fresh = ap₂ (λ (n : ℕ) (o : Option OpenRound). close_answer n o caller Plain HORIZON_DAY) fresh.openings fresh.none_open
 
 abbrev round_of : ℕ → State → OpenRound
-round_of caller s = record { owner = caller; horizon = horizon_day; cut = cut_of 1 s.ledger Plain horizon_day }
+round_of caller s = record { owner = caller; horizon = HORIZON_DAY; cut = cut_of 1 s.ledger Plain HORIZON_DAY }
 
 fresh_opens : (s : State) (caller : ℕ) → IsFresh s → (after caller close_act (reply.Opened 1) s).open_round ≡ Some (round_of caller s)
-fresh_opens s caller fresh = ap (λ (n : ℕ). Some (record { owner = caller; horizon = horizon_day; cut = cut_of (n + 1) s.ledger Plain horizon_day })) fresh.openings
+fresh_opens s caller fresh = ap (λ (n : ℕ). Some (record { owner = caller; horizon = HORIZON_DAY; cut = cut_of (n + 1) s.ledger Plain HORIZON_DAY })) fresh.openings
 
 -- a Close after acts that are not of rounds opens the first round
 pub opens_first : (before later : List Entry) (close : Entry) → close.act ≡ close_act → IsLegal (before ++ close ∷ later) → list_any has_device_reply (before ++ close ∷ later) ≡ false → All (λ e. is_of_rounds e.act ≡ false) before
@@ -67,7 +68,7 @@ opens_first before later close asks legal none of =
 
 -- the cut of a round that is closed then
 abbrev pub cut_after : List Entry → CutView
-cut_after before = cut_of 1 (state_of before).ledger Plain horizon_day
+cut_after before = cut_of 1 (state_of before).ledger Plain HORIZON_DAY
 
 -- the entries before a round, its opening and its publication
 module _ (before : List Entry) (close publication : Entry) (asks : close.act ≡ close_act)

@@ -6,7 +6,8 @@ use Rattle.claim_history.specs.declared.act.Act.{Act}
 use Rattle.claim_history.specs.declared.act.Act.TheVariants as act
 use Rattle.request_text.specs.Grammar.{Asked, batch_text, request_line}
 use Rattle.setoff_model.specs.declared.name.Key.{Key}
-use Rattle.trial_round.specs.Input.{acts_before_close, by_lane_one, claim_acts, claim_cents, claim_key, close_act, debtor_place, due_day, filed_and_confirmed, firm_acts, firm_name, text_of_acts, trial_acts, trial_input}
+use Rattle.trial_round.specs.declared.days.TheConstants.{DUE_DAY}
+use Rattle.trial_round.specs.Input.{acts_before_close, by_lane_one, claim_acts, claim_cents, claim_key, close_act, debtor_place, filed_and_confirmed, firm_acts, firm_name, text_of_acts, trial_acts, trial_input}
 
 pub text_none : text_of_acts [] ≡ []
 unfolding text_of_acts
@@ -56,18 +57,18 @@ claims_more old text firms seed claims is =
 
 pub claim_text : (old text : List ℕ) (firms seed number cents : ℕ) (key : Key) (debtor : List ℕ)
     → key ≡ claim_key firms seed number → debtor ≡ firm_name (debtor_place firms seed number + 1) → cents ≡ claim_cents seed number
-    → text ≡ old ++ request_line 1 (act.File key debtor cents due_day) ++ request_line 1 (act.Confirm key debtor)
+    → text ≡ old ++ request_line 1 (act.File key debtor cents DUE_DAY) ++ request_line 1 (act.Confirm key debtor)
     → text ≡ old ++ text_of_acts (filed_and_confirmed firms seed number)
 unfolding filed_and_confirmed
 claim_text old text firms seed number cents key debtor is_key is_debtor is_cents is =
-    let filing = act.File key debtor cents due_day in
+    let filing = act.File key debtor cents DUE_DAY in
     let confirmation = act.Confirm key debtor in
     is
     ∙ append_assoc old (request_line 1 filing) (request_line 1 confirmation)
     ∙ ap (λ (t : List ℕ). old ++ t) (sym (two_lines filing confirmation))
-    ∙ ap (λ (k : Key). old ++ text_of_acts (act.File k debtor cents due_day ∷ act.Confirm k debtor ∷ [])) is_key
-    ∙ ap (λ (d : List ℕ). old ++ text_of_acts (act.File (claim_key firms seed number) d cents due_day ∷ act.Confirm (claim_key firms seed number) d ∷ [])) is_debtor
-    ∙ ap (λ (n : ℕ). old ++ text_of_acts (act.File (claim_key firms seed number) (firm_name (debtor_place firms seed number + 1)) n due_day ∷ act.Confirm (claim_key firms seed number) (firm_name (debtor_place firms seed number + 1)) ∷ [])) is_cents where
+    ∙ ap (λ (k : Key). old ++ text_of_acts (act.File k debtor cents DUE_DAY ∷ act.Confirm k debtor ∷ [])) is_key
+    ∙ ap (λ (d : List ℕ). old ++ text_of_acts (act.File (claim_key firms seed number) d cents DUE_DAY ∷ act.Confirm (claim_key firms seed number) d ∷ [])) is_debtor
+    ∙ ap (λ (n : ℕ). old ++ text_of_acts (act.File (claim_key firms seed number) (firm_name (debtor_place firms seed number + 1)) n DUE_DAY ∷ act.Confirm (claim_key firms seed number) (firm_name (debtor_place firms seed number + 1)) ∷ [])) is_cents where
       two_lines : (a b : Act) → text_of_acts (a ∷ b ∷ []) ≡ request_line 1 a ++ request_line 1 b
       two_lines a b = text_append (a ∷ []) (b ∷ []) ∙ ap₂ (λ (s t : List ℕ). s ++ t) (text_one a) (text_one b)
 

@@ -6,6 +6,7 @@ use Rattle.claim_history.specs.declared.act.Act.{Act}
 use Rattle.claim_history.specs.declared.act.Act.TheVariants as act
 use Rattle.claim_history.specs.History.{Call}
 use Rattle.request_text.specs.Grammar.{Asked, batch_text}
+use Rattle.trial_round.specs.declared.days.TheConstants.{DUE_DAY, HORIZON_DAY}
 use Rattle.trial_round.specs.Draws.{draw}
 
 -- ---- the claim of a number, from 1, which three draws make
@@ -39,13 +40,6 @@ invoice_name number = codes "I-" ++ decimal number
 abbrev pub claim_key : ℕ → ℕ → ℕ → Key
 claim_key firms seed claim = record { creditor = firm_name (creditor_place firms seed claim + 1); invoice = invoice_name claim }
 
--- the day on which each claim is due, 2025-01-01, and the horizon of the round, 2025-12-31
-abbrev pub due_day : ℕ
-due_day = 20089
-
-abbrev pub horizon_day : ℕ
-horizon_day = 20453
-
 -- the first firms are registered
 unfoldable pub firm_acts : ℕ → List Act
 firm_acts zero = []
@@ -54,7 +48,7 @@ firm_acts (suc number) = firm_acts number ++ act.Firm (firm_name (suc number)) �
 -- a claim is filed and confirmed
 unfoldable pub filed_and_confirmed : ℕ → ℕ → ℕ → List Act
 filed_and_confirmed firms seed claim =
-    act.File (claim_key firms seed claim) (firm_name (debtor_place firms seed claim + 1)) (claim_cents seed claim) due_day
+    act.File (claim_key firms seed claim) (firm_name (debtor_place firms seed claim + 1)) (claim_cents seed claim) DUE_DAY
     ∷ act.Confirm (claim_key firms seed claim) (firm_name (debtor_place firms seed claim + 1))
     ∷ []
 
@@ -69,7 +63,7 @@ acts_before_close firms claims seed = firm_acts firms ++ claim_acts firms seed c
 
 -- the last act
 abbrev pub close_act : Act
-close_act = act.Close Plain horizon_day
+close_act = act.Close Plain HORIZON_DAY
 
 -- all acts, in the order of the lines
 unfoldable pub trial_acts : ℕ → ℕ → ℕ → List Act

@@ -10,7 +10,8 @@ use Rattle.claim_history.specs.History.{replay_of}
 use Rattle.claim_history.specs.States.{state_of}
 use Rattle.request_text.specs.declared.request.Request.{Request}
 use Rattle.request_text.specs.Grammar.{numbered}
-use Rattle.trial_round.specs.Input.{acts_before_close, by_lane_one, call_by_one, horizon_day, trial_acts}
+use Rattle.trial_round.specs.declared.days.TheConstants.{HORIZON_DAY}
+use Rattle.trial_round.specs.Input.{acts_before_close, by_lane_one, call_by_one, trial_acts}
 
 -- there are 2 to 16,384 firms and 1 to 262,144 claims
 pub record IsTrialSize (firms claims : ℕ) : Type 0 where
@@ -26,7 +27,7 @@ trial_batch firms claims seed = numbered 1 (map by_lane_one (trial_acts firms cl
 -- the cut of the round: that of the one history of the acts before the last
 unfoldable pub trial_cut : ℕ → ℕ → ℕ → CutView
 trial_cut firms claims seed = cut_of 1 (state_of (replay_of (map call_by_one (acts_before_close firms claims seed)))).ledger Plain
-    horizon_day
+    HORIZON_DAY
 
 -- the greatest total that a lawful set-off of the cut has
 pub record IsGreatestTotal (cut : CutView) (total : ℕ) : Type 0 where

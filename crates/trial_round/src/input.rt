@@ -5,10 +5,11 @@ ghost use Rattle.setoff_model.specs.Names.{is_letter, is_name};
 ghost use Rattle.claim_history.specs.Acts.{is_claim_amount, is_key, is_request};
 ghost use Rattle.claim_history.specs.declared.act.Act.TheVariants as acts;
 ghost use Rattle.request_text.specs.Grammar.{request_line};
-ghost use Rattle.trial_round.specs.Input.{claim_acts, claim_cents, claim_key, close_act, debtor_place, due_day};
+ghost use Rattle.trial_round.specs.Input.{claim_acts, claim_cents, claim_key, close_act, debtor_place};
 ghost use Rattle.trial_round.specs.Input.{filed_and_confirmed, firm_acts, firm_name, other_than, text_of_acts, trial_input};
 ghost use Rattle.trial_round.specs.Trial.{IsTrialSize, trial_batch};
 
+use crate::days::{DUE_DAY, HORIZON_DAY};
 use crate::draws::Draws;
 use claim_history::{Act, Day};
 use request_text::{
@@ -20,12 +21,6 @@ use std::alloc::{AllocError, Global};
 
 /// The bytes of room for a name.
 const NAME_BYTES: usize = 80;
-
-/// The day on which each claim is due, 2025-01-01, by its number.
-const DUE_DAY: u32 = 20_089;
-
-/// The horizon of the round, 2025-12-31, by its number.
-const HORIZON_DAY: u32 = 20_453;
 
 // The name of a letter, a dash and a number, which is written in the room of another text.
 fn numbered_name(room: &mut Vec<u8>, letter: u8, number: u32) -> Name
@@ -121,7 +116,7 @@ fn write_filed(text: &mut Vec<u8>, claim: DrawnClaim) -> Result<(), AllocError>
     requires key { is_key claim.key ≡ true }
     requires debtor { is_name claim.debtor ≡ true }
     requires amount { is_claim_amount claim.amount ≡ true }
-    ensures { OnOk result (text.new.items ≡ text.old.items ++ request_line 1 (acts.File claim.key claim.debtor claim.amount due_day)
+    ensures { OnOk result (text.new.items ≡ text.old.items ++ request_line 1 (acts.File claim.key claim.debtor claim.amount DUE_DAY)
         ++ request_line 1 (acts.Confirm claim.key claim.debtor)) }
 {
     let Some(due) = Day::of_number(DUE_DAY) else {

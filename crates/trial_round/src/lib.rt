@@ -10,6 +10,7 @@
 ghost use Rattle.std.specs.Prelude.{IfOk};
 ghost use Rattle.trial_round.specs.Trial.{IsTrialSize, IsTrialText};
 
+mod days;
 mod draws;
 mod input;
 mod line;

@@ -3,11 +3,9 @@ ghost use Rattle.std.specs.Prelude.{◌≡◌, ◌+◌, ◌≤◌, ◌++◌, dec
 ghost use Rattle.trial_round.specs.Trial.{trial_line};
 
 use crate::round::Sums;
+use setoff_model::limits::LINE_BYTES;
 use setoff_model::{put, write_cents, write_whole};
 use std::alloc::{AllocError, Global};
-
-/// The bytes of room for the line.
-const LINE_BYTES: usize = 400;
 
 // Writes words and a number.
 fn write_count(buffer: &mut Vec<u8>, words: &[u8], number: u32)
@@ -33,7 +31,7 @@ pub fn trial_line(
 ) -> Result<Vec<u8>, AllocError>
     ensures { IfOk result (λ text. text.items ≡ trial_line firms claims seed sums.claims sums.parties sums.total) }
 {
-    let mut text = Vec::with_capacity(alloc, LINE_BYTES)?;
+    let mut text = Vec::with_capacity(alloc, 2 * LINE_BYTES)?;
     write_count(&mut text, b"trial firms ", firms);
     write_count(&mut text, b" claims ", claims);
     write_count(&mut text, b" seed ", seed);
