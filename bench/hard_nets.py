@@ -340,11 +340,11 @@ def dag_few_back(draw, size):
 
 
 def tree(draw, size):
-    """A tree of two branches at each firm, each with a little liquidity and room, which owes its root all."""
+    """A deep tree: each firm owes one of the 30 before it, with a little liquidity and room."""
     net = Net()
     firms = net.firms(scaled(16_383, size), little(draw))
     for place in range(1, len(firms)):
-        net.owe(firms[place], firms[(place - 1) // 2], FAR)
+        net.owe(firms[place], firms[place - 1 - int(draw.random() * min(30, place))], FAR)
     return net.all()
 
 
@@ -380,5 +380,5 @@ HARD = {
     "local4": (local_of(16_384, 4, True), "each of 16,384 firms owes the next 4 in a ring, log-uniform"),
     "local16-open": (local_of(16_384, 16, False), "each owes the next 16 in a row, and the last the first all, log-uniform"),
     "dag-few-back": (dag_few_back, "200,000 drawn claims ahead among firms in a row, log-uniform, and 20 large ones back"),
-    "tree": (tree, "a tree of two branches with little windows, all claims equal and towards the root"),
+    "tree": (tree, "a tree with little windows, each firm owes one of the 30 before it, all claims equal"),
 }

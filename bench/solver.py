@@ -1,5 +1,5 @@
 #!/usr/bin/env python3
-"""Times the level solver beside LEMON on drawn nets: bench/solver.py [weighted] [FAMILY[:SEED[:SIZE]]]..
+"""Times the level solver beside LEMON on drawn nets: bench/solver.py [weighted] [growth] [FAMILY[:SEED[:SIZE]]]..
 
 The families are those of bench/nets.py; without one all are taken, at full size. With the word `weighted` the claims have drawn weights
 and are not merged, and the weighted set-off is timed. Each net is solved by a program that is made of the
@@ -8,6 +8,8 @@ bench/lemon.cc compiles from the headers of the package liblemon-dev. For each n
 milliseconds of either side, with the building of its graph, the least of three; how many times as fast the solver is as the
 best of LEMON; the bytes that the solver held at most, for each arc; and the load of the machine. The totals are compared, and the
 status is 1 where two differ.
+
+With the word `growth` the solver alone is timed, on each family at a quarter, a half and the whole of its size.
 
 The solver's milliseconds are those of the whole program that solves some times, less those of the one that reads alone. With
 BENCH_SECONDS a run of LEMON has so many seconds, by default 25. Run by hand.
@@ -27,7 +29,9 @@ LEMON = OUT / "lemon"
 COUNTER = OUT / "allocations.so"
 SECONDS = int(os.environ.get("BENCH_SECONDS", "25"))
 METHODS = ("simplex", "scaling", "push", "augment")
-WEIGHTED = sys.argv[1:2] == ["weighted"]
+WORDS = sys.argv[1:]
+WEIGHTED = WORDS[:1] == ["weighted"] and bool(WORDS.pop(0))
+GROWTH = WORDS[:1] == ["growth"] and bool(WORDS.pop(0))
 NAME = "timed_weighted" if WEIGHTED else "timed_solver"
 PROGRAM = COPY / "crates" / NAME / "out" / NAME
 DEPENDENCIES = "bureau_edge setoff_model statement_text " + ("weighted_setoff" if WEIGHTED else "flow_solver level_solver netting_graph")
@@ -130,11 +134,25 @@ def lemon(problem):
     return found
 
 
+def draw(folder, form, family, seed, size):
+    with open(folder / form, "w") as text:
+        subprocess.run([sys.executable, HERE / "nets.py", family, seed, form, str(size)], stdout=text, check=True)
+
+
+def growth(word, folder):
+    family, seed = (word.split(":") + ["1"])[:2]
+    cells = []
+    for size in (0.25, 0.5, 1):
+        draw(folder, "statement", family, seed, size)
+        cells.append(f"{solver(folder / 'statement')[2]:,.1f}")
+    print(f"| {family} | {' | '.join(cells)} | {os.getloadavg()[0]:.1f} |", flush=True)
+    return True
+
+
 def row(word, folder):
     family, seed, size = (word.split(":") + ["1", "1"][word.count(":"):])
     for form in ("statement", FORM):
-        with open(folder / form, "w") as text:
-            subprocess.run([sys.executable, HERE / "nets.py", family, seed, form, size], stdout=text, check=True)
+        draw(folder, form, family, seed, size)
     total, arcs, milliseconds, share = solver(folder / "statement")
     others = lemon(folder / FORM)
     best = min((value[0] for value in others.values() if value), default=None)
@@ -152,13 +170,16 @@ def row(word, folder):
 
 
 def main():
-    words = sys.argv[2 if WEIGHTED else 1 :] or families()
+    words = WORDS or families()
     build()
-    print("| net | seed | arcs | total | solver, ms | simplex, ms | scaling, ms | times as fast | bytes an arc | load |")
-    print("|---|---|---|---|---|---|---|---|---|---|")
+    columns = "net | a quarter, ms | a half, ms | whole, ms | load" if GROWTH else (
+        "net | seed | arcs | total | solver, ms | simplex, ms | scaling, ms | times as fast | bytes an arc | load")
+    print(f"| {columns} |")
+    print("|---" * (columns.count("|") + 1) + "|")
     with tempfile.TemporaryDirectory() as folder:
-        same = [row(word, pathlib.Path(folder)) for word in words]
+        same = [(growth if GROWTH else row)(word, pathlib.Path(folder)) for word in words]
     sys.exit(0 if all(same) else 1)
 
 
-main()
+if __name__ == "__main__":
+    main()

@@ -8,14 +8,15 @@ use level_engine::Advice;
 use residual_state::{State, augment, carry_all, reprice, surplus_of};
 use std::alloc::{AllocError, Global};
 
-// So many levels are tried at first, more where some units count more than one, and fewer where arcs are few. It is asked from so
-// many on whether they get on.
+// So many levels are tried at first, more where some units count more than one, and few where there are at most three halves of
+// arcs at a node.
 const MOST: usize = 32;
 
 const MOST_WEIGHTED: usize = 128;
 
 const FEW: usize = 4;
 
+// From so many levels on it is asked whether they get on, or from few where there are at most five halves at a node.
 const ASKED: usize = 16;
 
 // Goes from one level of prices to the next while they get on.
@@ -27,12 +28,17 @@ pub(crate) fn first_levels(
     requires { IsState state.old }
     ensures { OnOk result (IsNoWorse state.old state.new) }
 {
-    let sparse = advice.halves().len() / 5 <= state.excess.len();
-    let most = most_levels(state);
+    let halves = advice.halves().len();
+    let most = most_levels(state, halves);
+    let asked = if halves / 5 <= state.excess.len() {
+        FEW
+    } else {
+        ASKED
+    };
     let mut past = Vec::with_capacity(alloc, most)?;
     for _ in 0..most {
         let left = surplus_of(&state.excess);
-        if left == 0 || is_stalled(&past, left, sparse) {
+        if left == 0 || is_stalled(&past, left, asked) {
             return Ok(());
         }
         past.push(left)?;
@@ -42,7 +48,10 @@ pub(crate) fn first_levels(
 }
 
 // How many levels are tried at first.
-fn most_levels(state: &State) -> usize {
+fn most_levels(state: &State, halves: usize) -> usize {
+    if halves / 3 <= state.excess.len() {
+        return FEW;
+    }
     for edge in &state.edges {
         if 1 < edge.reward {
             return MOST_WEIGHTED;
@@ -52,12 +61,9 @@ fn most_levels(state: &State) -> usize {
 }
 
 // Whether levels get on no longer: more than three quarters is left of what was left at half the level.
-fn is_stalled(past: &[u128], left: u128, sparse: bool) -> bool {
+fn is_stalled(past: &[u128], left: u128, asked: usize) -> bool {
     let level = past.len();
-    if sparse && FEW <= level {
-        return true;
-    }
-    if level < ASKED {
+    if level < asked || level == 0 {
         return false;
     }
     let before = past[level / 2];

@@ -57,10 +57,10 @@ pub fn seek_solution(
     by_turns(alloc, position, halves, &mut drained, &mut warm, turns)
 }
 
-// The work that the undrained simplex has first: none where there are more than five halves at a node.
+// The work that the undrained simplex has first: none where there are more than three halves at a node.
 fn work_where_sparse(position: &Position, halves: &Halves) -> u64 {
     let many = halves.len() as u64;
-    if many / 5 <= position.excess.len() as u64 {
+    if many / 3 <= position.excess.len() as u64 {
         many.saturating_mul(SPARSE)
     } else {
         0
