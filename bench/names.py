@@ -62,18 +62,21 @@ def lent_lemmas():
     return found
 
 
-def listing(title, items):
-    """A list of heads, each with names behind it."""
-    lines = [f"- {head}: {', '.join(f'`{it}`' for it in names)}" for head, names in items]
-    return f"\n## {title}\n\n" + "\n".join(lines) + "\n"
+def quoted(names):
+    return ", ".join(f"`{it}`" for it in names)
 
 
 def index(listed):
     """The text of docs/INDEX.md."""
     lent = lent_lemmas()
-    lemmas = [(f"`{it}`", sorted(lent[it])) for it in listed if it in lent]
-    words = [(f"`{it}` {module}", names) for it in listed for module, names in spec_modules(it).items()]
-    return INDEX_HEAD + listing("Modules of `proofs/` that crates above import", lemmas) + listing("Words of `specs/`", words)
+    lemmas = [f"- `{it}`: {quoted(sorted(lent[it]))}\n" for it in listed if it in lent]
+    modules = {it: [f"{module} ({quoted(names)})" for module, names in spec_modules(it).items() if names] for it in listed}
+    words = [f"- `{it}`: {', '.join(found)}\n" for it, found in modules.items() if found]
+    return (
+        INDEX_HEAD
+        + "\n## Modules of `proofs/` that crates above import\n\n" + "".join(lemmas)
+        + "\n## Words of `specs/`, module by module\n\n" + "".join(words)
+    )
 
 
 def definitions(text):
