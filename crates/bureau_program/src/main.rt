@@ -5,11 +5,11 @@
 //! journal, and nothing else. Where the words are no command's, it tells the commands on the error stream.
 #![tactic(auto)]
 
-use batch_runs::Unhindered;
 use bureau_commands::{bureau, without_words};
 use bureau_edge::{StandardIn, StandardOut};
 use command_words::USAGE;
 use disk_model::FileDisk;
+use lane_runner::Unhindered;
 use printed_text::ExitStatus;
 use std::alloc::AllocError;
 use std::env;

@@ -10,11 +10,10 @@ ghost use Rattle.trial_round.specs.Round.{EndsWith, HasRound, HasServedAlone};
 ghost use Rattle.trial_round.specs.Opening.{IsWant};
 
 use crate::input::trial_batch;
-use batch_runs::Unhindered;
 use bureau_desk::{Desk, DeskCause, DeskRefused};
 use claim_history::{Act, Entry, publications_are_greatest};
 use disk_model::MemoryDisk;
-use lane_runner::{BatchEnd, run_batch};
+use lane_runner::{BatchEnd, Unhindered, run_batch};
 use level_solver::LevelSolver;
 use request_text::Batch;
 use round_cut::cut_of_a_history_is_of_its_facts;
