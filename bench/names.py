@@ -3,8 +3,8 @@
 Prints each name that stands on one side alone, and nothing where all agree. In docs/PROVED.md each public function, law and trait has an
 item, and each clause in parentheses there is one. In docs/LAYERS.md each crate has an item, and each file of a walk is there. In
 docs/DEFINITIONS.md the words of the glossary and of the top call's promise are words of specs/, and the reading list has the files
-that the clauses of `bureau` reach. docs/INDEX.md is what --write makes of the crates: what each stands on, the lemmas that others
-import, and the words of specs/. Status 1: something is missing.
+that the clauses of `bureau` reach. docs/INDEX.md is what --write makes of the crates: the lemmas that others import, and the words
+of specs/. Status 1: something is missing.
 """
 
 import re
@@ -17,19 +17,15 @@ DOCS = HOME / "docs"
 WORD = r"(?:abbrev |unfoldable )?pub (?:(record|data) )?([^\s:({]+)"
 INDEX_HEAD = """# Index
 
-What stands where, by name. `python3 bench/names.py --write` makes this file of `crates.txt` and of the crates, and nobody edits it;
-without `--write` the script says where it is not current.
+`python3 bench/names.py --write` makes this file of the crates, and nobody edits it.
 """
 
 
-def stands_on():
-    """Of each crate of crates.txt, the crates that it names."""
-    found = {}
-    for line in (HOME / "crates.txt").read_text().splitlines():
-        head, colon, tail = line.partition("#")[0].partition(":")
-        if colon:
-            found[head.split()[0]] = tail.split()
-    return found
+def crates_in_order():
+    """The names of the crates of crates.txt."""
+    lines = (HOME / "crates.txt").read_text().splitlines()
+    heads = [line.partition("#")[0].partition(":") for line in lines]
+    return [head.split()[0] for head, colon, _ in heads if colon]
 
 
 def spec_modules(crate):
@@ -66,27 +62,20 @@ def lent_lemmas():
     return found
 
 
-def table(title, heads, rows):
-    lines = [f"| {' | '.join(cells)} |" for cells in (heads, *rows)]
-    lines.insert(1, "|" + "---|" * len(heads))
-    return f"\n## {title}\n\n" + "\n".join(lines) + "\n"
-
-
 def quoted(names):
     return ", ".join(f"`{it}`" for it in names)
 
 
 def index(listed):
     """The text of docs/INDEX.md."""
-    below = [(f"`{it}`", quoted(names)) for it, names in listed.items()]
     lent = lent_lemmas()
-    lemmas = [(f"`{it}`", quoted(sorted(lent[it]))) for it in listed if it in lent]
-    words = [(f"`{it}` {module}", quoted(names)) for it in listed for module, names in spec_modules(it).items()]
+    lemmas = [f"- `{it}`: {quoted(sorted(lent[it]))}\n" for it in listed if it in lent]
+    modules = {it: [f"{module} ({quoted(names)})" for module, names in spec_modules(it).items() if names] for it in listed}
+    words = [f"- `{it}`: {', '.join(found)}\n" for it, found in modules.items() if found]
     return (
         INDEX_HEAD
-        + table("What each crate stands on", ("crate", "stands on"), below)
-        + table("Lemmas that crates above import", ("crate", "modules of `proofs/`"), lemmas)
-        + table("Words of `specs/`", ("crate and module", "words"), words)
+        + "\n## Modules of `proofs/` that crates above import\n\n" + "".join(lemmas)
+        + "\n## Words of `specs/`, module by module\n\n" + "".join(words)
     )
 
 
@@ -187,15 +176,14 @@ def sections(document):
     return dict(zip(parts[1::2], parts[2::2]))
 
 
-def rows(text):
-    """The rows of the tables of a text, each as its cells from place 1 on."""
-    return [re.split(r"(?<!\\)\|", line) for line in text.splitlines() if line.startswith("|")]
+def before_colons(text):
+    """What stands before the colon of each item of the lists of a text."""
+    return re.findall(r"^(?:-|\d+\.) (.*?): ", text, re.M)
 
 
 def heads(text):
     """The words in backquotes before the colon of each item of the lists of a text."""
-    items = re.findall(r"^- (.*?): ", text, re.M)
-    return {it for item in items for it in re.findall(r"`([^`]+)`", item)}
+    return {it for item in before_colons(text) for it in re.findall(r"`([^`]+)`", item)}
 
 
 def in_parentheses(text):
@@ -205,19 +193,19 @@ def in_parentheses(text):
 
 
 def walked(text):
-    """The files that the walks name, a crate in the first column and files of its src/ in the second."""
-    found, crate = set(), ""
-    for cells in rows(text):
-        crate = (re.findall(r"`(\w+)`", cells[1]) or [crate])[0]
-        found |= {f"{crate}/src/{it}" for it in re.findall(r"`([\w/]+\.rt)`", cells[2])}
+    """The files that the walks name, in each item a crate and then files of its src/."""
+    found = set()
+    for item in before_colons(text):
+        crate, *files = re.findall(r"`([\w/.]+)`", item)
+        found |= {f"{crate}/src/{it}" for it in files}
     return found
 
 
 def listed_files(text):
-    """The files of the reading list, as `crate Module`: in its second column a crate stands before its modules."""
+    """The files of the reading list, as `crate Module`: in each item crates, each before its modules."""
     found = set()
-    for cells in rows(text):
-        for crate, modules in re.findall(r"`(\w+)` ([\w, ]+)", cells[2]):
+    for item in before_colons(text):
+        for crate, modules in re.findall(r"`(\w+)` ([\w, ]+)", item):
             found |= {f"{crate} {module.strip()}" for module in modules.split(",")}
     return found
 
@@ -248,7 +236,7 @@ def check_definitions(listed):
 
 
 def main():
-    listed = stands_on()
+    listed = crates_in_order()
     if sys.argv[1:] == ["--write"]:
         (DOCS / "INDEX.md").write_text(index(listed))
         return 0
