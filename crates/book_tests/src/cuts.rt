@@ -1,6 +1,6 @@
 //! Cuts of claims and accounts, and windows.
 use crate::acts::name;
-use crate::facts::are_facts;
+use crate::facts::{are_facts, keeps_limits};
 use claim_history::{AccountFact, ClaimFact, Day, Status};
 use round_cut::{build_cut, cut_of_a_history_is_of_its_facts, open_cut_is_well_formed, window};
 use setoff_model::limits::FIRST_CEILING;

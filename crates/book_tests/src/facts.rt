@@ -69,7 +69,7 @@ fn has_account(accounts: &[AccountFact], firm: &Name) -> bool
         .any(|account| same_names(firm, &account.firm))
 }
 
-fn keeps_limits(account: &AccountFact) -> bool
+pub(crate) fn keeps_limits(account: &AccountFact) -> bool
     ensures { IsTrue result → KeepsLimits account.now }
 {
     account.credit <= MOST_AMOUNT
