@@ -1,6 +1,6 @@
 #!/usr/bin/env bash
-# Prints how many nanoseconds it takes to show one entry of a book with 100 and with 16,384 firms, and how many rows 1, 2, 4 and 8
-# readers read a second beside a writer that shows an entry at a time: of a board, and of a book behind a lock. It runs
+# Prints how many nanoseconds it takes to show one entry of a book with 100 and with 16,384 firms, and what 1, 2, 4 and 8 readers read
+# a second, in rows, beside a writer that shows an entry at a time: of a board, and of a book behind a lock. It runs
 # bench/timed_readers.txt without proof, in a copy of the repository. Run by hand.
 set -eu
 
