@@ -1,6 +1,6 @@
 -- Acts are read as they are written.
-use Rattle.std.proofs.Common.{◌≡◌, ℕ, ◌^◌, ◌<◌, ◌≤◌, Bool, true, false, cond, eqb, List, [], ◌∷◌, ◌++◌, length, Option, Some, None, refl, sym, ap, subst, ◌∙◌, arith}
-use Rattle.std.specs.Prelude.{ℤ, ◌&&◌, nat_le, nat_lt, unsigned_abs}
+use Rattle.std.proofs.Common.{◌≡◌, ℕ, ◌^◌, ◌<◌, ◌≤◌, Bool, true, false, cond, eqb, List, [], ◌∷◌, ◌++◌, length, Option, Some, None, refl, sym, ap, ap₂, subst, ◌∙◌, arith}
+use Rattle.std.specs.Prelude.{ℤ, ◌&&◌, if◌then◌else◌, nat_le, nat_lt, unsigned_abs}
 use Rattle.std.specs.Int.{w32, w64}
 use Rattle.std.specs.List.{list_all, AllByRecursion}
 use Rattle.std.proofs.lemmas.Bool.{eqb-true, leb-true, ltb-true, and_parts}
@@ -8,16 +8,19 @@ use Rattle.std.proofs.lemmas.List.{append-nil, nil_from_length}
 use Rattle.setoff_model.specs.declared.limits.TheConstants.{MOST_AMOUNT, MOST_CLAIMS, MOST_FIRMS}
 use Rattle.setoff_model.specs.declared.name.Key.{Key}
 use Rattle.setoff_model.specs.Names.{is_name}
+use Rattle.setoff_model.proofs.SameNames.{same_name_is}
 use Rattle.setoff_model.specs.declared.kind.Kind.{Kind}
 use Rattle.setoff_model.specs.CutView.{OutcomeView}
 use Rattle.claim_history.specs.declared.act.Act.{Act}
 use Rattle.claim_history.specs.declared.act.Act.TheVariants as act
+use Rattle.claim_history.specs.declared.call.Call.{Call}
+use Rattle.claim_history.specs.Pools.{is_main, main_pool}
 use Rattle.claim_history.specs.Acts.{is_valid, is_key, is_amount, is_claim_amount, is_day, is_round, is_outcome}
-use Rattle.act_bodies.specs.Bodies.{four, eight, name_bytes, key_bytes, outcome_bytes, fields_of, body_of, is_keepable}
+use Rattle.act_bodies.specs.Bodies.{four, eight, name_bytes, key_bytes, outcome_bytes, pool_mark, called, fields_of, body_of, is_keepable}
 use Rattle.act_bodies.specs.Laws.{OneCallLaw}
-use Rattle.act_bodies.specs.Reading.{◌>>=◌, both_at, made_at, number_at, name_at, day_at, kind_at, key_at, claim_at, account_at, outcome_at, firm_at, file_at, confirm_at, dispute_at, withdraw_at, receive_at, fund_at, draw_at, limit_at, offer_at, position_at, close_at, publish_at, fields_at, act_at, call_at}
-use Rattle.act_bodies.proofs.Keepable.{caller_fits, act_valid}
-use Rattle.act_bodies.proofs.Readers.{IsBytes, IsBytes-rest, bind_some, given, some_is, Takes, then, IsField, field32, field64, both_field}
+use Rattle.act_bodies.specs.Reading.{◌>>=◌, both_at, made_at, number_at, name_at, day_at, kind_at, key_at, claim_at, account_at, outcome_at, firm_at, file_at, confirm_at, dispute_at, withdraw_at, receive_at, fund_at, draw_at, limit_at, offer_at, position_at, close_at, publish_at, fields_at, act_at, other_pool, pool_at, call_at}
+use Rattle.act_bodies.proofs.Keepable.{caller_fits, pool_named, act_valid}
+use Rattle.act_bodies.proofs.Readers.{IsBytes, IsBytes-rest, bind_some, given, past, some_is, Takes, then as joined, IsField, field32, field64, both_field}
 use Rattle.act_bodies.proofs.Values.{passed, made_again, Named, name_field, Dated, day_field, kind_bytes, AnyKind, kind_field, HasNames, key_field, claim_bytes, IsClaim, claim_field, IsMoney, account_bytes, IsAccount, account_field, HasLists, outcome_field, near_stored, IsStored}
 
 -- what a tag's reader takes is the fields of the act that it gives
@@ -135,7 +138,7 @@ fields_take tag bytes a rest fits e =
     (λ e. step tag 11 position_at _ bytes a rest fits position_takes (λ e. step tag 12 close_at _ bytes a rest fits close_takes
     (λ e. step tag 13 abandon_at _ bytes a rest fits abandon_takes (λ e. absurd cc) e) e) e) e) e) e) e) e) e) e) e) e) e
 
-act_takes : (bytes : List ℕ) (a : Act) (rest : List ℕ) → IsBytes bytes → act_at bytes ≡ Some (a, rest) → Takes bytes (fields_of a) rest
+pub act_takes : (bytes : List ℕ) (a : Act) (rest : List ℕ) → IsBytes bytes → act_at bytes ≡ Some (a, rest) → Takes bytes (fields_of a) rest
 unfolding act_at
 act_takes [] a rest fits e = absurd cc
 act_takes (tag ∷ bytes) a rest fits e =
@@ -187,7 +190,7 @@ lists outcome h =
     let n : length outcome.prices ≤ MOST_FIRMS = leb-true (length outcome.prices) MOST_FIRMS counts.1 in
     ((omega arith, monies outcome.discharges cents.1), (omega arith, stored (length outcome.prices) n outcome.prices near.1))
 
-act_again : (a : Act) (rest : List ℕ) → is_valid a ≡ true → act_at (fields_of a ++ rest) ≡ Some (a, rest)
+pub act_again : (a : Act) (rest : List ℕ) → is_valid a ≡ true → act_at (fields_of a ++ rest) ≡ Some (a, rest)
 unfolding fields_of act_at fields_at firm_at file_at confirm_at dispute_at withdraw_at receive_at fund_at draw_at limit_at offer_at position_at close_at publish_at
 act_again (act.Firm firm) rest h = made_again name_bytes Named name_at name_field (λ f. act.Firm f) firm rest h
 act_again (act.File key debtor amount due) rest h =
@@ -214,34 +217,85 @@ act_again (act.Publish round outcome) rest h =
     let small : round < 2 ^ 32 = ltb-true round (2 ^ 32) (and_parts (nat_le 1 round) (nat_lt round (2 ^ 32)) found.0).1 in
     made_again _ _ _ publish_field (λ (r, o). act.Publish r o) (round, outcome) rest (small, lists outcome found.1)
 
+-- ---- the pool
+
+marked : (b : Bool) (pool : List ℕ) → is_main pool ≡ b → pool_mark pool ≡ (if b then [] else 15 ∷ name_bytes pool)
+marked b pool e = ap (λ (t : Bool). if t then [] else 15 ∷ name_bytes pool) e
+
+pool_step : (tag : ℕ) (bytes pool rest : List ℕ) (b : Bool) → eqb tag 15 ≡ b → IsBytes (tag ∷ bytes) → cond b (name_at bytes >>= other_pool) (Some (main_pool, tag ∷ bytes)) ≡ Some (pool, rest)
+    → Takes (tag ∷ bytes) (pool_mark pool) rest
+pool_step tag bytes pool rest true is fits e =
+    let u = bind_some (name_at bytes) other_pool (pool, rest) e in
+    let g = past (is_main u.0.0) u.0 (pool, rest) u.2 in
+    let s = name_field.takes bytes u.0.0 u.0.1 (IsBytes-rest tag bytes fits) u.1 in
+    let parts : tag ∷ bytes ≡ pool_mark u.0.0 ++ u.0.1 = ap₂ (λ (t : ℕ) (l : List ℕ). t ∷ l) (eqb-true tag 15 is) s.0.parts ∙ ap (λ (l : List ℕ). l ++ u.0.1) (sym (marked false u.0.0 g.0)) in
+    subst (λ (z : List ℕ × List ℕ). Takes (tag ∷ bytes) (pool_mark z.0) z.1) g.1 (record { parts = parts; rest_fits = s.0.rest_fits })
+pool_step tag bytes pool rest false is fits e =
+    let found : List ℕ × List ℕ = (main_pool, tag ∷ bytes) in
+    subst (λ (z : List ℕ × List ℕ). Takes (tag ∷ bytes) (pool_mark z.0) z.1) (some_is found (pool, rest) e) (record { parts = refl; rest_fits = fits })
+
+pool_takes : (bytes pool rest : List ℕ) → IsBytes bytes → pool_at bytes ≡ Some (pool, rest) → Takes bytes (pool_mark pool) rest
+unfolding pool_at
+pool_takes [] pool rest fits e = absurd cc
+pool_takes (tag ∷ bytes) pool rest fits e = pool_step tag bytes pool rest (eqb tag 15) refl fits e
+
+-- no act has the tag of a pool
+no_pool : (a : Act) → pool_at (fields_of a) ≡ Some (main_pool, fields_of a)
+unfolding pool_at fields_of
+no_pool (act.Firm firm) = refl
+no_pool (act.File key debtor amount due) = refl
+no_pool (act.Confirm key debtor) = refl
+no_pool (act.Dispute key debtor) = refl
+no_pool (act.Withdraw key) = refl
+no_pool (act.Receive key amount) = refl
+no_pool (act.Fund firm amount) = refl
+no_pool (act.Draw firm amount) = refl
+no_pool (act.Limit firm credit ceiling) = refl
+no_pool (act.Offer firm amount) = refl
+no_pool (act.Position firm) = refl
+no_pool (act.Close kind horizon) = refl
+no_pool act.Abandon = refl
+no_pool (act.Publish round outcome) = refl
+
+again_step : (pool : List ℕ) (a : Act) (b : Bool) → is_main pool ≡ b → Named pool → pool_at ((if b then [] else 15 ∷ name_bytes pool) ++ fields_of a) ≡ Some (pool, fields_of a)
+unfolding pool_at
+again_step pool a true e named = no_pool a ∙ ap (λ (q : List ℕ). given (q, fields_of a)) (sym ((same_name_is pool main_pool).0 e))
+again_step pool a false e named = rw (name_field.again pool (fields_of a) named, e) refl
+
+pool_again : (pool : List ℕ) (a : Act) → Named pool → pool_at (pool_mark pool ++ fields_of a) ≡ Some (pool, fields_of a)
+pool_again pool a named = again_step pool a (is_main pool) refl named
+
 -- ---- whole calls
 
-abbrev ended : ℕ → Act × List ℕ → Option (ℕ × Act)
-ended caller a = cond (eqb (length a.1) 0 && is_keepable caller a.0) (Some (caller, a.0)) None
+abbrev ended : ℕ → List ℕ → Act × List ℕ → Option Call
+ended caller pool a = cond (eqb (length a.1) 0 && is_keepable (called caller pool a.0)) (Some (called caller pool a.0)) None
 
-pub call_takes : (bytes : List ℕ) (caller : ℕ) (a : Act) → IsBytes bytes → call_at bytes ≡ Some (caller, a) → (is_keepable caller a ≡ true) × (body_of caller a ≡ bytes)
+pub call_takes : (bytes : List ℕ) (call : Call) → IsBytes bytes → call_at bytes ≡ Some call → (is_keepable call ≡ true) × (body_of call ≡ bytes)
 unfolding call_at body_of
-call_takes bytes caller a fits e =
-    let u = bind_some (number_at w32 bytes) (λ u. act_at u.1 >>= ended u.0) (caller, a) e in
-    let v = bind_some (act_at u.0.1) (ended u.0.0) (caller, a) u.2 in
-    let g = passed (eqb (length v.0.1) 0 && is_keepable u.0.0 v.0.0) (u.0.0, v.0.0) (caller, a) v.2 in
-    let kept = and_parts (eqb (length v.0.1) 0) (is_keepable u.0.0 v.0.0) g.0 in
+call_takes bytes call fits e =
+    let u = bind_some (number_at w32 bytes) (λ u. pool_at u.1 >>= λ p. act_at p.1 >>= ended u.0 p.0) call e in
+    let p = bind_some (pool_at u.0.1) (λ p. act_at p.1 >>= ended u.0.0 p.0) call u.2 in
+    let v = bind_some (act_at p.0.1) (ended u.0.0 p.0.0) call p.2 in
+    let made = called u.0.0 p.0.0 v.0.0 in
+    let g = passed (eqb (length v.0.1) 0 && is_keepable made) made call v.2 in
+    let kept = and_parts (eqb (length v.0.1) 0) (is_keepable made) g.0 in
     let s = field32.takes bytes u.0.0 u.0.1 fits u.1 in
-    let t = act_takes u.0.1 v.0.0 v.0.1 s.0.rest_fits v.1 in
+    let q = pool_takes u.0.1 p.0.0 p.0.1 s.0.rest_fits p.1 in
+    let t = act_takes p.0.1 v.0.0 v.0.1 q.rest_fits v.1 in
     let nothing : v.0.1 ≡ [] = nil_from_length v.0.1 (eqb-true _ _ kept.0) in
-    let both_parts = (then bytes (four u.0.0) u.0.1 (fields_of v.0.0) v.0.1 s.0 t).parts in
-    let whole : body_of u.0.0 v.0.0 ≡ bytes = sym (both_parts ∙ ap (λ (l : List ℕ). (four u.0.0 ++ fields_of v.0.0) ++ l) nothing ∙ append-nil (four u.0.0 ++ fields_of v.0.0)) in
-    subst (λ (z : ℕ × Act). (is_keepable z.0 z.1 ≡ true) × (body_of z.0 z.1 ≡ bytes)) g.1 (kept.1, whole)
+    let behind = joined u.0.1 (pool_mark p.0.0) p.0.1 (fields_of v.0.0) v.0.1 q t in
+    let both_parts = (joined bytes (four u.0.0) u.0.1 (pool_mark p.0.0 ++ fields_of v.0.0) v.0.1 s.0 behind).parts in
+    let whole : body_of made ≡ bytes = sym (both_parts ∙ ap (λ (l : List ℕ). (four u.0.0 ++ (pool_mark p.0.0 ++ fields_of v.0.0)) ++ l) nothing ∙ append-nil (four u.0.0 ++ (pool_mark p.0.0 ++ fields_of v.0.0))) in
+    subst (λ (z : Call). (is_keepable z ≡ true) × (body_of z ≡ bytes)) g.1 (kept.1, whole)
 
-pub call_again : (caller : ℕ) (a : Act) → is_keepable caller a ≡ true → call_at (body_of caller a) ≡ Some (caller, a)
+pub call_again : (call : Call) → is_keepable call ≡ true → call_at (body_of call) ≡ Some call
 unfolding call_at body_of
-call_again caller a h =
-    let number = field32.again caller (fields_of a) (caller_fits caller a h) in
-    let act : act_at (fields_of a) ≡ Some (a, []) = ap act_at (sym (append-nil (fields_of a))) ∙ act_again a [] (act_valid caller a h) in
-    rw (number, act, h) refl
+call_again call h =
+    let number = field32.again call.caller (pool_mark call.pool ++ fields_of call.act) (caller_fits call h) in
+    let place = pool_again call.pool call.act (pool_named call h) in
+    let fields : act_at (fields_of call.act) ≡ Some (call.act, []) = ap act_at (sym (append-nil (fields_of call.act))) ∙ act_again call.act [] (act_valid call h) in
+    rw (number, place, fields, h) refl
 
 pub one_call_law : OneCallLaw
-one_call_law caller other a b one two same =
-    let e : given (caller, a) ≡ given (other, b) = sym (call_again caller a one) ∙ ap call_at same ∙ call_again other b two in
-    let pair : (caller, a) ≡ (other, b) = some_is (caller, a) (other, b) e in
-    (ap (λ (z : ℕ × Act). z.0) pair, ap (λ (z : ℕ × Act). z.1) pair)
+one_call_law call other one two same =
+    some_is call other (sym (call_again call one) ∙ ap call_at same ∙ call_again other two)

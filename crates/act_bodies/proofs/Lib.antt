@@ -6,4 +6,5 @@ pub mod Loops
 pub mod Found
 pub mod Lengths
 pub mod Written
+pub mod Tags
 mod Worked

@@ -1,4 +1,4 @@
-//! The tag of each act: the byte after the caller.
+//! The tag of each act: the byte after the caller, or after the pool where one is named.
 
 pub(crate) const FIRM: u8 = 1;
 
@@ -27,3 +27,6 @@ pub(crate) const CLOSE: u8 = 12;
 pub(crate) const ABANDON: u8 = 13;
 
 pub(crate) const PUBLISH: u8 = 14;
+
+/// The tag before the name of a pool, which no act has.
+pub(crate) const POOL: u8 = 15;

@@ -5,24 +5,39 @@ ghost use Rattle.setoff_model.specs.declared.limits.TheConstants.{MOST_CLAIMS, M
 ghost use Rattle.setoff_model.specs.declared.kind.Kind.{Kind};
 ghost use Rattle.claim_history.specs.Acts.{is_valid};
 ghost use Rattle.claim_history.specs.Needs.{body_length_of};
-ghost use Rattle.act_bodies.specs.Bodies.{four, eight, name_bytes, key_bytes, kind_byte, stored_price, outcome_bytes, fields_of, body_of, is_keepable};
+ghost use Rattle.claim_history.specs.PoolNeeds.{pool_bytes};
+ghost use Rattle.act_bodies.specs.Bodies.{four, eight, name_bytes, key_bytes, kind_byte, stored_price, outcome_bytes, pool_mark, called, fields_of, body_of, is_keepable};
 
 use crate::tag;
-use claim_history::{Act, Day};
+use claim_history::{Act, Day, is_main};
 use setoff_model::{Key, Kind, Name, Outcome, put};
 
 /// Replaces what the buffer holds by the body of a call. The buffer has room for it, so this takes no memory.
 #[tactic(auto, unfolding(crate::specs::Bodies::body_of))]
-pub fn encode(buffer: &mut Vec<u8>, caller: u32, act: &Act)
-    requires kept { is_keepable caller act.now ≡ true }
-    requires spare { body_length_of act.now ≤ vec_capacity buffer.old }
-    ensures body { buffer.new.items ≡ body_of caller act.now }
-    ensures len { length buffer.new.items ≡ body_length_of act.now }
+pub fn encode(buffer: &mut Vec<u8>, caller: u32, pool: &Name, act: &Act)
+    requires kept { is_keepable (called caller pool.now act.now) ≡ true }
+    requires spare { body_length_of act.now + pool_bytes pool.now ≤ vec_capacity buffer.old }
+    ensures body { buffer.new.items ≡ body_of (called caller pool.now act.now) }
+    ensures len { length buffer.new.items ≡ body_length_of act.now + pool_bytes pool.now }
     ensures room { vec_capacity buffer.old ≤ vec_capacity buffer.new }
 {
     buffer.clear();
     put(buffer, &caller.to_be_bytes());
+    put_pool(buffer, pool);
     put_act(buffer, act);
+}
+
+// The tag and the name of a pool other than MAIN.
+fn put_pool(buffer: &mut Vec<u8>, pool: &Name)
+    requires { vec_len buffer.old + pool_bytes pool.now ≤ vec_capacity buffer.old }
+    ensures text { buffer.new.items ≡ buffer.old.items ++ pool_mark pool.now }
+    ensures len { vec_len buffer.new ≡ vec_len buffer.old + pool_bytes pool.now }
+    ensures room { vec_capacity buffer.old ≤ vec_capacity buffer.new }
+{
+    if is_main(pool) {
+        return;
+    }
+    put_firm(buffer, tag::POOL, pool);
 }
 
 // The tag and the fields.
@@ -92,7 +107,7 @@ fn put_eight(buffer: &mut Vec<u8>, number: u64)
     put(buffer, &number.to_be_bytes());
 }
 
-// A tag and a firm.
+// A tag and a name.
 fn put_firm(buffer: &mut Vec<u8>, tag: u8, firm: &Name)
     requires { vec_len buffer.old + 2 + length firm.now ≤ vec_capacity buffer.old }
     ensures text { buffer.new.items ≡ buffer.old.items ++ tag ∷ name_bytes firm.now }

@@ -10,7 +10,7 @@ use Rattle.std.specs.Io.KnownBytes.{Appends}
 use Rattle.bureau_edge.specs.Streams.{AppendsPart}
 use Rattle.bureau_edge.proofs.Known.{Appends-none, Appends-then, AppendsPart-after}
 use Rattle.disk_model.specs.Calls.{Seen}
-use Rattle.claim_history.specs.declared.entry.Entry.{Entry}
+use Rattle.claim_history.specs.declared.call.PoolEntry.{PoolEntry}
 use Rattle.claim_history.specs.Needs.{is_of_device}
 use Rattle.request_text.specs.declared.request.Request.{Request}
 use Rattle.bureau_desk.specs.declared.base.DeskBase.{DeskBase}
@@ -47,12 +47,12 @@ opening_of {D} old new is = record {
 
 -- ---- one batch
 
-served_by : (batch : List Request) (answers : Option (List Answer)) (before added : List Entry) → MatchOption answers (added ≡ []) (λ list. IsServed batch list before added) → IsServed batch (answers_of batch answers) before added
+served_by : (batch : List Request) (answers : Option (List Answer)) (before added : List PoolEntry) → MatchOption answers (added ≡ []) (λ list. IsServed batch list before added) → IsServed batch (answers_of batch answers) before added
 served_by batch None before added none = subst (IsServed batch (unanswered batch) before) (sym none) (unanswered_served batch before)
 served_by batch (Some answers) before added served = served
 
 -- a batch none of whose lines was asked adds nothing
-none_added : (answers : Option (List Answer)) (added : List Entry) (P : List Answer → Type 0) → answers ≡ None → MatchOption answers (added ≡ []) P → added ≡ []
+none_added : (answers : Option (List Answer)) (added : List PoolEntry) (P : List Answer → Type 0) → answers ≡ None → MatchOption answers (added ≡ []) P → added ≡ []
 none_added answers added P none h = subst (λ (a : Option (List Answer)). MatchOption a (added ≡ []) P) none h
 
 pub unasked_adds : {D : Type 0} (seen : D → Seen) (now new : DeskView D) (batch : List Request) (answers : Option (List Answer)) (from : ℕ) → HasRunBatch seen now new batch answers → from ≡ length now.history → answers ≡ None → drop from new.history ≡ []
@@ -64,7 +64,7 @@ unasked_adds seen now new batch answers from ran place none =
 
 module _ (bs : List Done) (b : Done) where
   pub added_more : all_added (bs ++ b ∷ []) ≡ all_added bs ++ b.added
-  added_more = flat_map-append (λ (x : Done). x.added) bs (b ∷ []) ∙ ap (λ (l : List Entry). all_added bs ++ l) (append-nil b.added)
+  added_more = flat_map-append (λ (x : Done). x.added) bs (b ∷ []) ∙ ap (λ (l : List PoolEntry). all_added bs ++ l) (append-nil b.added)
 
   end_more : (test : LineEnd → Bool) → some_end test (bs ++ b ∷ []) ≡ (some_end test bs || has_line_end test b.answers)
   end_more test = list_any-append (λ (x : Done). has_line_end test x.answers) bs (b ∷ []) ∙ ap (λ (c : Bool). some_end test bs || c) (or_false (has_line_end test b.answers)) where
@@ -72,8 +72,8 @@ module _ (bs : List Done) (b : Done) where
     or_false true = refl
     or_false false = refl
 
-  device_more : some_device (bs ++ b ∷ []) ≡ (some_device bs || list_any (λ e. is_of_device e.reply) b.added)
-  device_more = ap (list_any (λ (e : Entry). is_of_device e.reply)) added_more ∙ list_any-append (λ (e : Entry). is_of_device e.reply) (all_added bs) b.added
+  device_more : some_device (bs ++ b ∷ []) ≡ (some_device bs || list_any (λ m. is_of_device m.entry.reply) b.added)
+  device_more = ap (list_any (λ (m : PoolEntry). is_of_device m.entry.reply)) added_more ∙ list_any-append (λ (m : PoolEntry). is_of_device m.entry.reply) (all_added bs) b.added
 
   not_none : bs ++ b ∷ [] ≡ [] → ⊥
   not_none is = no_end bs is where
@@ -81,21 +81,21 @@ module _ (bs : List Done) (b : Done) where
     no_end [] e = let n : 1 ≡ 0 = ap (λ (x : List Done). length x) e in omega (arith, n)
     no_end (x ∷ l) e = let n : suc (length (l ++ b ∷ [])) ≡ 0 = ap (λ (y : List Done). length y) e in omega (arith, n)
 
-served_more : (before : List Entry) (bs : List Done) (b : Done) → AreServed before bs → IsServed b.requests b.answers (before ++ all_added bs) b.added → AreServed before (bs ++ b ∷ [])
-served_more before [] b all served = (subst (λ (h : List Entry). IsServed b.requests b.answers h b.added) (append-nil before) served, tt)
+served_more : (before : List PoolEntry) (bs : List Done) (b : Done) → AreServed before bs → IsServed b.requests b.answers (before ++ all_added bs) b.added → AreServed before (bs ++ b ∷ [])
+served_more before [] b all served = (subst (λ (h : List PoolEntry). IsServed b.requests b.answers h b.added) (append-nil before) served, tt)
 served_more before (x ∷ bs) b all served =
-    (all.0, served_more (before ++ x.added) bs b all.1 (subst (λ (h : List Entry). IsServed b.requests b.answers h b.added) (sym (append_assoc before x.added (all_added bs))) served))
+    (all.0, served_more (before ++ x.added) bs b all.1 (subst (λ (h : List PoolEntry). IsServed b.requests b.answers h b.added) (sym (append_assoc before x.added (all_added bs))) served))
 
-text_more : (before : List Entry) (bs : List Done) (b : Done) → text_of before (bs ++ b ∷ []) ≡ text_of before bs ++ printed_of (before ++ all_added bs) b.added b.answers
-text_more before [] b = append-nil (printed_of before b.added b.answers) ∙ ap (λ (h : List Entry). printed_of h b.added b.answers) (sym (append-nil before))
+text_more : (before : List PoolEntry) (bs : List Done) (b : Done) → text_of before (bs ++ b ∷ []) ≡ text_of before bs ++ printed_of (before ++ all_added bs) b.added b.answers
+text_more before [] b = append-nil (printed_of before b.added b.answers) ∙ ap (λ (h : List PoolEntry). printed_of h b.added b.answers) (sym (append-nil before))
 text_more before (x ∷ bs) b =
     let here = printed_of before x.added x.answers in
     ap (λ (t : List ℕ). here ++ t) (text_more (before ++ x.added) bs b)
     ∙ sym (append_assoc here (text_of (before ++ x.added) bs) (printed_of ((before ++ x.added) ++ all_added bs) b.added b.answers))
-    ∙ ap (λ (h : List Entry). (here ++ text_of (before ++ x.added) bs) ++ printed_of h b.added b.answers) (append_assoc before x.added (all_added bs))
+    ∙ ap (λ (h : List PoolEntry). (here ++ text_of (before ++ x.added) bs) ++ printed_of h b.added b.answers) (append_assoc before x.added (all_added bs))
 
 -- the text of the first of some batches, and then the rest
-text_first : (before : List Entry) (n : ℕ) (bs : List Done) → (more : List ℕ) × (text_of before bs ≡ text_of before (take n bs) ++ more)
+text_first : (before : List PoolEntry) (n : ℕ) (bs : List Done) → (more : List ℕ) × (text_of before bs ≡ text_of before (take n bs) ++ more)
 text_first before zero bs = (text_of before bs, refl)
 text_first before (suc n) [] = ([], refl)
 text_first before (suc n) (b ∷ bs) =
@@ -153,23 +153,23 @@ module _ {D : Type 0} (seen : D → Seen) (first : DeskView D) (x : Option (List
 
     text_is : text_of first.history so.done ++ text ≡ text_of first.history done
     text_is = ap (λ (t : List ℕ). text_of first.history so.done ++ t)
-        (ap₂ (λ (l m : List Entry). printed_of l m (answers_of batch answers)) front behind)
+        (ap₂ (λ (l m : List PoolEntry). printed_of l m (answers_of batch answers)) front behind)
         ∙ sym (text_more first.history so.done one)
 
     all : batches ++ batch ∷ [] ≡ map (λ (b : Done). b.requests) done
     all = ap (λ (l : List (List Request)). l ++ batch ∷ []) so.all ∙ sym (map-append (λ (b : Done). b.requests) so.done (one ∷ []))
 
     history : new.history ≡ first.history ++ all_added done
-    history = ran.history ∙ ap (λ (h : List Entry). h ++ ran.added) so.history ∙ append_assoc first.history (all_added so.done) ran.added ∙ ap (λ (l : List Entry). first.history ++ l) (sym (added_more so.done one))
+    history = ran.history ∙ ap (λ (h : List PoolEntry). h ++ ran.added) so.history ∙ append_assoc first.history (all_added so.done) ran.added ∙ ap (λ (l : List PoolEntry). first.history ++ l) (sym (added_more so.done one))
 
     served : AreServed first.history done
-    served = served_more first.history so.done one so.served (subst (λ (h : List Entry). IsServed batch (answers_of batch answers) h ran.added) so.history (served_by batch answers now.history ran.added ran.served))
+    served = served_more first.history so.done one so.served (subst (λ (h : List PoolEntry). IsServed batch (answers_of batch answers) h ran.added) so.history (served_by batch answers now.history ran.added ran.served))
 
     opening : HasSameOpening first new
     opening = opening_then first now new so.opening (opening_of now new ran.base)
 
     -- it was written
-    pub more : (tally' : Tally) → tally'.memory ≡ (tally.memory || has_line_end is_memory_end (answers_of batch answers)) → tally'.device ≡ (tally.device || list_any (λ e. is_of_device e.reply) (drop (length now.history) new.history))
+    pub more : (tally' : Tally) → tally'.memory ≡ (tally.memory || has_line_end is_memory_end (answers_of batch answers)) → tally'.device ≡ (tally.device || list_any (λ m. is_of_device m.entry.reply) (drop (length now.history) new.history))
         → tally'.full ≡ (tally.full || has_line_end is_full_end (answers_of batch answers)) → Appends y z text → SoFar seen first x new (batches ++ batch ∷ []) z tally'
     more tally' memory device full taken = record {
       done = done;
@@ -181,7 +181,7 @@ module _ {D : Type 0} (seen : D → Seen) (first : DeskView D) (x : Option (List
       taken = subst (Appends x z) text_is (Appends-then x y z (text_of first.history so.done) text so.taken taken);
       told = record {
         memory = memory ∙ ap (λ (c : Bool). c || has_line_end is_memory_end (answers_of batch answers)) so.told.memory ∙ sym (end_more so.done one is_memory_end);
-        device = device ∙ ap₂ (λ (c : Bool) (l : List Entry). c || list_any (λ e. is_of_device e.reply) l) so.told.device behind ∙ sym (device_more so.done one);
+        device = device ∙ ap₂ (λ (c : Bool) (l : List PoolEntry). c || list_any (λ m. is_of_device m.entry.reply) l) so.told.device behind ∙ sym (device_more so.done one);
         full = full ∙ ap (λ (c : Bool). c || has_line_end is_full_end (answers_of batch answers)) so.told.full ∙ sym (end_more so.done one is_full_end);
       };
     }

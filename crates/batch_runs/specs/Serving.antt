@@ -3,7 +3,7 @@ use Rattle.std.specs.Prelude.{◌≡◌, ◌&&◌, ◌||◌, ℕ, Bool, List, []
 use Rattle.std.specs.Io.KnownBytes.{Appends}
 use Rattle.std.specs.List.{list_any}
 use Rattle.disk_model.specs.Calls.{Seen}
-use Rattle.claim_history.specs.declared.entry.Entry.{Entry}
+use Rattle.claim_history.specs.declared.call.PoolEntry.{PoolEntry}
 use Rattle.bureau_edge.specs.Streams.{AppendsPart}
 use Rattle.claim_history.specs.Needs.{is_of_device}
 use Rattle.request_text.specs.declared.request.Request.{Request}
@@ -49,7 +49,7 @@ pub record IsTally (tally : Tally) (done : List Done) : Type 0 where
   pub full : tally.full ≡ some_end is_full_end done
 
 -- the text of a batch that was served between two histories
-abbrev pub text_between : (old new : List Entry) → List Request → Option (List Answer) → List ℕ
+abbrev pub text_between : (old new : List PoolEntry) → List Request → Option (List Answer) → List ℕ
 text_between old new batch answers = printed_of (take (length old) new) (drop (length old) new) (answers_of batch answers)
 
 -- One batch was served, and counted into a tally. Its text was written after that, or the sink failed at it.
@@ -58,7 +58,7 @@ pub record HasToldBatch {D T E : Type 0} (seen : D → Seen) (old new : DeskView
   pub answers : Option (List Answer)
   pub ran : HasRunBatch seen old new batch answers
   pub memory : after.memory ≡ (before.memory || has_line_end is_memory_end (answers_of batch answers))
-  pub device : after.device ≡ (before.device || list_any (λ e. is_of_device e.reply) (drop (length old.history) new.history))
+  pub device : after.device ≡ (before.device || list_any (λ m. is_of_device m.entry.reply) (drop (length old.history) new.history))
   pub full : after.full ≡ (before.full || has_line_end is_full_end (answers_of batch answers))
   pub ok : OnOk written (Appends held_old held_new (text_between old.history new.history batch answers))
   pub part : OnErr written (AppendsPart held_old held_new (text_between old.history new.history batch answers))

@@ -173,7 +173,7 @@ fn life_of_a_claim(rt: HostRuntime) {
 // ---- a full register
 
 // The name of A with the hexadecimal-like letters of a number.
-fn numbered(rt: &impl Abort, number: u32) -> Name {
+pub(crate) fn numbered(rt: &impl Abort, number: u32) -> Name {
     let text = [
         b'A',
         b'A' + (number >> 12 & 15) as u8,

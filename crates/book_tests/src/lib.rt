@@ -13,4 +13,8 @@ mod cuts;
 #[cfg(test)]
 mod facts;
 #[cfg(test)]
+mod limits;
+#[cfg(test)]
+mod pools;
+#[cfg(test)]
 mod rounds;

@@ -11,17 +11,17 @@ use std::process::Abort;
 
 // Three firms, of which each owes the next on its invoice I-1, due on 31 January 2025.
 #[derive(Clone, Copy)]
-struct Circle {
+pub(crate) struct Circle {
     a: Name,
     b: Name,
     c: Name,
     owed_by_a: Key,
     owed_by_b: Key,
     owed_by_c: Key,
-    due: Day,
+    pub(crate) due: Day,
 }
 
-fn make_circle(rt: &impl Abort) -> Circle {
+pub(crate) fn make_circle(rt: &impl Abort) -> Circle {
     let a = name(rt, b"A");
     let b = name(rt, b"B");
     let c = name(rt, b"C");
@@ -37,8 +37,8 @@ fn make_circle(rt: &impl Abort) -> Circle {
     }
 }
 
-// Lets A owe B 10.00, B owe C 7.00 and C owe A 12.00.
-fn fill(rt: &impl Abort, alloc: Global, book: &mut Book, circle: &Circle) {
+// The acts by which A owes B 10.00, B owes C 7.00 and C owes A 12.00.
+pub(crate) fn circle_acts(rt: &impl Abort, alloc: Global, circle: &Circle) -> Vec<Act> {
     let Circle { a, b, c, due, .. } = *circle;
     let acts = vec![in alloc;
         Act::Firm { firm: a },
@@ -51,7 +51,12 @@ fn fill(rt: &impl Abort, alloc: Global, book: &mut Book, circle: &Circle) {
         confirm(circle.owed_by_b, b),
         confirm(circle.owed_by_c, c),
     ];
-    replies(rt, book, 1, acts.expect(rt, "memory"), &[Reply::Done; 9]);
+    acts.expect(rt, "memory")
+}
+
+fn fill(rt: &impl Abort, alloc: Global, book: &mut Book, circle: &Circle) {
+    let acts = circle_acts(rt, alloc, circle);
+    replies(rt, book, 1, acts, &[Reply::Done; 9]);
 }
 
 // Opens round 1 of caller 1.

@@ -4,7 +4,7 @@ use Rattle.std.proofs.Common.{◌≡◌, ◌∙◌, ⊎_elim, ℕ, ◌≤◌, Bo
 use Rattle.fault_count.specs.Counts.{HasRisen}
 use Rattle.fault_count.proofs.Rising.{risen_within}
 use Rattle.disk_model.specs.Calls.{Seen}
-use Rattle.claim_history.specs.History.{IsLegal}
+use Rattle.claim_history.specs.Pools.{IsLegal}
 use Rattle.request_text.specs.declared.request.Request.{Request}
 use Rattle.recorded_book.specs.Devices.{AreBetween}
 use Rattle.bureau_desk.specs.declared.desk_refused.DeskCause.{DeskCause}

@@ -1,23 +1,36 @@
 -- A run over a desk.
-use Rattle.std.specs.Prelude.{Option, IsTrue, drop, take}
-use Rattle.std.proofs.Common.{◌≡◌, ◌∙◌, ⊎_elim, inr, ℕ, ◌≤◌, Bool, List, [], ◌∷◌, ◌++◌, length, refl, sym, ap, subst, arith, append_assoc, length-append}
+use Rattle.std.specs.Prelude.{Option, None, Some, IsTrue, drop, filter, map, take}
+use Rattle.std.proofs.Common.{◌≡◌, ◌∙◌, inr, ℕ, ◌≤◌, Bool, true, List, All, [], ◌∷◌, ◌++◌, length, refl, sym, ap, subst, true≢false, arith, append_assoc, length-append}
 use Rattle.std.proofs.lemmas.List.{append-nil}
-use Rattle.std.proofs.lemmas.List.Elements.{All-weaker}
-use Rattle.std.proofs.Math.Seq.{take-append_seam}
+use Rattle.std.proofs.lemmas.List.Elements.{All-head, All-tail, All-weaker, filter_passes}
+use Rattle.std.proofs.Math.Seq.{drop-length, take-append_seam, take-length}
 use Rattle.std.specs.Io.KnownBytes.{Appends}
 use Rattle.bureau_edge.specs.Streams.{AppendsPart}
 use Rattle.bureau_edge.proofs.Known.{Appends-then, AppendsPart-front}
+use Rattle.setoff_model.specs.CutView.{CutView}
 use Rattle.disk_model.specs.Calls.{Seen, GoesOn}
-use Rattle.claim_history.specs.declared.act.Act.TheVariants as act
+use Rattle.claim_history.specs.declared.call.PoolEntry.{PoolEntry}
 use Rattle.claim_history.specs.declared.entry.Entry.{Entry}
+use Rattle.claim_history.specs.declared.entry.Reply.{Reply}
 use Rattle.claim_history.specs.declared.entry.Reply.TheVariants as reply
-use Rattle.claim_history.specs.History.{AreValid, IsLegal}
-use Rattle.claim_history.specs.Rounds.{cuts_after}
+use Rattle.claim_history.specs.History as one
+use Rattle.claim_history.specs.History.{is_opening}
+use Rattle.claim_history.specs.Laws.{IsGreatestPublication}
+use Rattle.claim_history.specs.Pools.{AreValid, IsLegal, call_of, entries_in, open_round_in}
+use Rattle.claim_history.specs.PoolRounds.{cuts_after, cuts_of, ending_of, ending_reply, is_left_open, left_open}
+use Rattle.claim_history.specs.Rounds.{cut_published}
+use Rattle.claim_history.specs.States.{OpenRound}
 use Rattle.claim_history.proofs.Greatest.{greatest_law}
-use Rattle.claim_history.proofs.Published.{cuts_more, cuts_none}
+use Rattle.claim_history.proofs.PoolCuts.{cuts_law}
+use Rattle.claim_history.proofs.PoolEnds.{opens_so}
+use Rattle.claim_history.proofs.Pools.{in_append, legal_in, past_own}
+use Rattle.setoff_model.proofs.SameNames.{name_same}
+use Rattle.setoff_model.proofs.Lists.{All-first}
+use Rattle.act_bodies.specs.Bodies.{is_keepable}
 use Rattle.request_text.specs.declared.request.Request.{Request}
 use Rattle.journal_replay.specs.Replays.{history_of}
-use Rattle.recorded_book.specs.Acting.{IsOpenedHistory, entry_of}
+use Rattle.recorded_book.specs.Acting.{IsOpenedHistory}
+use Rattle.recorded_book.specs.Calls.{CanBeKept}
 use Rattle.recorded_book.specs.Devices.{AreBetween, IsBetween}
 use Rattle.recorded_book.specs.Moments.{HasMoments}
 use Rattle.bureau_desk.specs.Desks.{DeskView, KeepsDesk}
@@ -40,22 +53,52 @@ use Rattle.bureau_reports.proofs.Written.{written_after, wrote_line}
 
 -- ---- an opened history
 
--- it begins with the records', and what is behind them publishes nothing
-pub begun_parts : (opened begun : List Entry) → IsOpenedHistory opened begun → (rest : List Entry) × (begun ≡ opened ++ rest) × (cuts_after (length opened) begun ≡ [])
-begun_parts opened begun is = ⊎_elim
-    (λ same. ([], same.1 ∙ sym (append-nil opened), ap (cuts_after (length opened)) same.1 ∙ cuts_none opened))
-    (λ more. (
-      entry_of 0 act.Abandon (reply.Abandoned more.0) ∷ [],
-      more.1,
-      ap (cuts_after (length opened)) more.1 ∙ cuts_more (length opened) opened (entry_of 0 act.Abandon (reply.Abandoned more.0)) (omega arith) ∙ ap (λ l. l ++ []) (cuts_none opened),
-    ))
-    is
+cuts_none : (history : List PoolEntry) → cuts_after (length history) history ≡ []
+cuts_none history =
+    ap (λ (first : List PoolEntry). drop (length (cuts_of first)) (cuts_of history)) (take-length history) ∙ drop-length (cuts_of history)
 
--- A desk that was opened has the entries of the records, and has published nothing since.
+-- an abandonment publishes nothing
+silent : (r : Reply) (o : Option OpenRound) → is_opening r ≡ true → cut_published o (ending_reply r) ≡ []
+silent (reply.Opened number) o opens = refl
+silent r o opens = absurd (true≢false (sym opens))
+
+ends_silent : (count : ℕ) (history ms : List PoolEntry) → count ≤ length history → All (λ m. is_opening m.entry.reply ≡ true) ms
+    → cuts_after count (history ++ map ending_of ms) ≡ cuts_after count history
+ends_silent count history [] le all = ap (cuts_after count) (append-nil history)
+ends_silent count history (m ∷ ms) le all =
+    let P : PoolEntry → Type 0 = λ x. is_opening x.entry.reply ≡ true in
+    let e = ending_of m in
+    ap (cuts_after count) (sym (append_assoc history (e ∷ []) (map ending_of ms)))
+    ∙ ends_silent count (history ++ e ∷ []) ms (omega (arith, le, length-append history (e ∷ []))) (All-tail P m ms all)
+    ∙ cuts_law count history e le
+    ∙ ap (λ (cuts : List CutView). cuts_after count history ++ cuts) (silent m.entry.reply (open_round_in history m.pool) (All-head P m ms all))
+    ∙ append-nil (cuts_after count history)
+
+-- it begins with the records', and what is behind them publishes nothing
+pub begun_parts : (opened begun : List PoolEntry) → IsOpenedHistory opened begun
+    → (rest : List PoolEntry) × (begun ≡ opened ++ rest) × (cuts_after (length opened) begun ≡ [])
+begun_parts opened begun is =
+    let left : PoolEntry → Type 0 = λ m. is_left_open opened m ≡ true in
+    let opens : All (λ m. is_opening m.entry.reply ≡ true) (left_open opened) =
+    All-weaker left (λ m. is_opening m.entry.reply ≡ true) (λ m h. opens_so (open_round_in opened m.pool) m.entry.reply h) (left_open opened) (filter_passes (is_left_open opened) opened) in
+    (map ending_of (left_open opened), is, ap (cuts_after (length opened)) is ∙ ends_silent (length opened) opened (left_open opened) (omega arith) opens ∙ cuts_none opened)
+
+-- ---- a round of a pool
+
+-- the publication of a round in a legal history is the greatest of its pool
+greatest_in : (before later : List PoolEntry) (m : PoolEntry) (total : ℕ) → IsLegal (before ++ m ∷ later) → m.entry.reply ≡ reply.Published total
+    → IsGreatestPublication (entries_in m.pool before) m.entry total
+greatest_in before later m total legal published =
+    let parts : entries_in m.pool (before ++ m ∷ later) ≡ entries_in m.pool before ++ m.entry ∷ entries_in m.pool later =
+    in_append m.pool before (m ∷ later) ∙ ap (λ (es : List Entry). entries_in m.pool before ++ es) (past_own m.pool m later (name_same m.pool)) in
+    greatest_law (entries_in m.pool before) (entries_in m.pool later) m.entry total
+    (subst one.IsLegal parts (legal_in (before ++ m ∷ later) m.pool legal)) published
+
+-- A desk that was opened has the members of the records, and has published nothing since.
 pub begun_few : {D : Type 0} (seen : D → Seen) (old : D) (d : DeskView D) → IsDeskOpen seen old d → d.opened_with ≤ length d.history
 begun_few seen old d opening =
     let parts = begun_parts (history_of opening.records) d.history opening.history in
-    omega (arith, opening.opened_with, ap (λ (l : List Entry). length l) parts.1, length-append (history_of opening.records) parts.0)
+    omega (arith, opening.opened_with, ap (λ (l : List PoolEntry). length l) parts.1, length-append (history_of opening.records) parts.0)
 
 pub none_begun : {D : Type 0} (seen : D → Seen) (old : D) (d : DeskView D) → IsDeskOpen seen old d → d.rounds ≡ cuts_after d.opened_with d.history
 none_begun seen old d opening =
@@ -65,10 +108,10 @@ taken_after : (x y z : Option (List ℕ)) (first text : List ℕ) → Appends x 
 taken_after x y z first text before taken = (taken.0, subst (Appends x z) (sym (append_assoc first text taken.0)) (Appends-then x y z first (text ++ taken.0) before taken.1))
 
 module _ {D : Type 0} (seen : D → Seen) (old : D) (first last : DeskView D) (opening : IsDeskOpen seen old first) (keeps : KeepsDesk seen last) (base : HasSameOpening first last) where
-  abbrev opened : List Entry
+  abbrev opened : List PoolEntry
   opened = history_of opening.records
 
-  abbrev begun : (rest : List Entry) × (first.history ≡ opened ++ rest) × (cuts_after (length opened) first.history ≡ [])
+  abbrev begun : (rest : List PoolEntry) × (first.history ≡ opened ++ rest) × (cuts_after (length opened) first.history ≡ [])
   begun = begun_parts opened first.history opening.history
 
   from_one : take first.opened_with first.history ≡ opened
@@ -77,10 +120,10 @@ module _ {D : Type 0} (seen : D → Seen) (old : D) (first last : DeskView D) (o
   same_rest : drop first.opened_with first.history ≡ drop (length opened) first.history
   same_rest = ap (λ (n : ℕ). drop n first.history) opening.opened_with
 
-  -- the line of the abandonment
+  -- the lines of the abandonments
   begun_text : printed_of (take first.opened_with first.history) (drop first.opened_with first.history) [] ≡ added_text opened (drop (length opened) first.history)
   begun_text = append-nil (added_text (take first.opened_with first.history) (drop first.opened_with first.history))
-      ∙ ap (λ (l : List Entry). added_text l (drop first.opened_with first.history)) from_one ∙ ap (added_text opened) same_rest
+      ∙ ap (λ (l : List PoolEntry). added_text l (drop first.opened_with first.history)) from_one ∙ ap (added_text opened) same_rest
 
   first_tells : (seen first.at_opening_end).tells ≡ (seen old).tells
   first_tells = ap (λ (d : D). (seen d).tells) opening.at_opening_end ∙ opening.same
@@ -142,8 +185,8 @@ module _ {D : Type 0} (seen : D → Seen) (old : D) (first last : DeskView D) (o
     valid = keeps.valid;
     between = between;
     served = served;
-    none_full = none_full_of opening.records first.history batches status done all opening.sound opening.history served (subst IsLegal parts keeps.legal) (subst AreValid parts keeps.valid) asked;
-    greatest = λ before later e total is published. greatest_law before later e total (subst IsLegal is keeps.legal) published;
+    none_full = none_full_of opening.records first.history batches status done all (All-first (λ (m : PoolEntry). is_keepable (call_of m) ≡ true) first.history (all_added done) (subst CanBeKept parts keeps.keepable)) opening.history served (subst IsLegal parts keeps.legal) (subst AreValid parts keeps.valid) asked;
+    greatest = λ before later m total is published. greatest_in before later m total (subst IsLegal is keeps.legal) published;
     survives = survives;
     early = leaves done none;
   }
@@ -163,7 +206,7 @@ module _ {D : Type 0} (seen : D → Seen) (old : D) (first last : DeskView D) (o
       wrote_line (IsBatchesDue seen Taken old last.disk batches) x z ran.due text status (served_due ran.due text (headline Taken batches ran.done ran.due asked ran.all ran.history ran.served ran.none taken))
       (written_after x y z (added_text opened (drop (length opened) first.history)) _ ran.due status line ran.written)
 
-  -- the sink failed at the abandonment's line
+  -- the sink failed at the lines of the abandonments
   pub wrote_begun : (x y : Option (List ℕ)) (batches : List (List Request)) → AreRequests (requests_of batches) → last ≡ first → AppendsPart x y (printed_of (take first.opened_with first.history) (drop first.opened_with first.history) [])
       → WroteTaking (λ Taken. IsBatchesDue seen Taken old last.disk batches) x y statuses.Sink
   wrote_begun x y batches asked same part =

@@ -1,12 +1,11 @@
 -- What a run of batches is.
 use Rattle.std.specs.Prelude.{◌≡◌, ℕ, Bool, false, List, [], ◌∷◌, ◌++◌, length, drop, IsTrue}
 use Rattle.disk_model.specs.Calls.{Seen, GoesOn, IsPresent}
-use Rattle.claim_history.specs.declared.entry.Entry.{Entry}
+use Rattle.claim_history.specs.declared.call.PoolEntry.{PoolEntry}
 use Rattle.claim_history.specs.declared.entry.Reply.TheVariants as reply
-use Rattle.claim_history.specs.History.{AreValid, IsLegal}
-use Rattle.claim_history.specs.Callers.{accepted_calls}
+use Rattle.claim_history.specs.Pools.{AreValid, IsLegal, accepted_calls, entries_in}
 use Rattle.claim_history.specs.Laws.{IsGreatestPublication}
-use Rattle.claim_history.specs.Needs.{IsWithinLimits}
+use Rattle.claim_history.specs.PoolNeeds.{IsWithinLimits}
 use Rattle.request_text.specs.declared.request.Request.{Request}
 use Rattle.round_journal.specs.declared.record.Record.{Record}
 use Rattle.round_journal.specs.Opened.{AreFound}
@@ -22,9 +21,9 @@ use Rattle.served_lines.specs.Ends.{is_full_end}
 use Rattle.batch_runs.specs.Runs.{Done, AreOf, AreServed, all_added, but_last, requests_of, some_end, text_of}
 use Rattle.bureau_commands.specs.Journals.{HasRoomForAll, HoldsSound}
 
--- The history: that of the records that the disk held, with the abandonment where they leave a round open, and then what the
+-- The history: that of the records that the disk held, with one abandonment for each round that they leave open, and then what the
 -- batches added.
-pub record IsRunHistory (tells : Bool) (bytes : List ℕ) (opened begun : List Entry) (done : List Done) (history : List Entry) : Type 0 where
+pub record IsRunHistory (tells : Bool) (bytes : List ℕ) (opened begun : List PoolEntry) (done : List Done) (history : List PoolEntry) : Type 0 where
   pub records : List Record
   pub found : AreFound tells bytes records
   pub sound : AreSound records
@@ -32,25 +31,25 @@ pub record IsRunHistory (tells : Bool) (bytes : List ℕ) (opened begun : List E
   pub begins : IsOpenedHistory opened begun
   pub parts : history ≡ begun ++ all_added done
 
--- the abandonment's line, and the text of each batch
-abbrev pub run_text : List Entry → List Entry → List Done → List ℕ
+-- the lines of the abandonments, and the text of each batch
+abbrev pub run_text : List PoolEntry → List PoolEntry → List Done → List ℕ
 run_text opened begun done = added_text opened (drop (length opened) begun) ++ text_of begun done
 
 -- The text that the sink has, whatever the status: that of all batches but the last, where any was served.
-abbrev pub sure_text : List Entry → List Entry → List Done → List ℕ
+abbrev pub sure_text : List PoolEntry → List PoolEntry → List Done → List ℕ
 sure_text opened begun [] = []
 sure_text opened begun (b ∷ done) = run_text opened begun (but_last (b ∷ done))
 
--- Each published entry is the publication of its own round, whose prices prove that no lawful set-off of the round's cut
+-- Each published member is the publication of a round of its own pool, whose prices prove that no lawful set-off of the round's cut
 -- discharges more.
-abbrev pub RoundsAreGreatest : List Entry → Type 0
+abbrev pub RoundsAreGreatest : List PoolEntry → Type 0
 RoundsAreGreatest history =
-    (before later : List Entry) (e : Entry) (total : ℕ) → history ≡ before ++ e ∷ later → e.reply ≡ reply.Published total
-    → IsGreatestPublication before e total
+    (before later : List PoolEntry) (m : PoolEntry) (total : ℕ) → history ≡ before ++ m ∷ later → m.entry.reply ≡ reply.Published total
+    → IsGreatestPublication (entries_in m.pool before) m.entry total
 
 -- What a call leaves of the disk that ends before its first batch. Until the first sync had succeeded the disk reads as at the
--- start and no image is new; from then on each image holds the records of the start, alone or with the abandonment. More than
--- nine bytes that stand for no sound records stay as they were.
+-- start and no image is new; from then on each image holds the records of the start, with the first of the abandonments, any number of
+-- them. More than nine bytes that stand for no sound records stay as they were.
 pub record LeavesDisk (old new : Seen) : Type 0 where
   pub opened : HasDeskOpened old new
   pub spared : SparesUnsound old.reads new.reads
@@ -58,7 +57,7 @@ pub record LeavesDisk (old new : Seen) : Type 0 where
 -- A crash at any moment since that of the opening's first sync, which is the first of the moments: of the disk that the opening
 -- left, each image since that sync holds the records of the start, and no earlier one is new. The images of the moments up to the
 -- end of the opening stay.
-pub record SurvivesCrashes {D : Type 0} (seen : D → Seen) (old new : D) (opened : ℕ) (history : List Entry) : Type 0 where
+pub record SurvivesCrashes {D : Type 0} (seen : D → Seen) (old new : D) (opened : ℕ) (history : List PoolEntry) : Type 0 where
   pub first : ℕ
   pub begun : D
   pub turned : HasDeskTurned (seen old) first (seen begun)
@@ -70,13 +69,13 @@ pub record SurvivesCrashes {D : Type 0} (seen : D → Seen) (old new : D) (opene
 -- took of it at least; what the disk reads at the end, which stands for the accepted calls, perhaps followed by one whose write
 -- failed, and so for sound records; that the history is legal and within the limits, its acts are valid, and the counts of its
 -- devices lie between those of the disk; the calls of each lane; that within the bound no line is full; the rounds; crashes; and
--- what a run leaves that failed to write the abandonment's line.
+-- what a run leaves that failed to write the lines of the abandonments.
 pub record IsHeadline {D : Type 0} (seen : D → Seen) (Taken : List ℕ → Type 0) (old new : D) (batches : List (List Request))
     (status : ExitStatus) (text : List ℕ) : Type 0 where
-  pub opened : List Entry
-  pub begun : List Entry
+  pub opened : List PoolEntry
+  pub begun : List PoolEntry
   pub done : List Done
-  pub history : List Entry
+  pub history : List PoolEntry
   pub is_history : IsRunHistory (seen old).tells (seen old).reads opened begun done history
   pub all : AreOf batches status done
   pub text_is : text ≡ run_text opened begun done

@@ -4,13 +4,14 @@ use Rattle.std.specs.List.{sum_by}
 use Rattle.setoff_model.specs.declared.limits.TheConstants.{MOST_ENTRIES, MOST_JOURNAL_BYTES}
 use Rattle.disk_model.specs.Calls.{Seen}
 use Rattle.claim_history.specs.Acts.{is_filing, is_registration}
-use Rattle.claim_history.specs.Needs.{endings_with, record_length_of}
+use Rattle.claim_history.specs.PoolNeeds.{call_bytes}
+use Rattle.claim_history.specs.PoolRounds.{left_open}
 use Rattle.request_text.specs.declared.request.Request.{Request}
 use Rattle.round_journal.specs.declared.record.Record.{Record}
 use Rattle.round_journal.specs.Opened.{AreFound}
-use Rattle.journal_replay.specs.Replays.{AreSound}
+use Rattle.journal_replay.specs.Replays.{AreSound, history_of, recorded_call}
 use Rattle.printed_text.specs.declared.exit_status.ExitStatus.{ExitStatus}
-use Rattle.served_lines.specs.Bound.{closes}
+use Rattle.served_lines.specs.Bound.{closes, most_endings}
 use Rattle.bureau_desk.specs.declared.desk_refused.DeskCause.{DeskCause}
 use Rattle.bureau_desk.specs.Laws.{IsFault}
 use Rattle.bureau_reports.specs.DiskTexts.{unsound_status}
@@ -32,7 +33,11 @@ pub record HasAuditFault (bytes : List ℕ) (status : ExitStatus) : Type 0 where
 
 -- the bytes of a journal of these records: 8 at its head, and theirs
 abbrev pub journal_bytes : List Record → ℕ
-journal_bytes records = 8 + sum_by (λ r. record_length_of r.act) records
+journal_bytes records = 8 + sum_by (λ r. call_bytes (recorded_call r)) records
+
+-- how many rounds they leave open, of all pools
+abbrev pub rounds_left : List Record → ℕ
+rounds_left records = length (left_open (history_of records))
 
 -- how many records and requests file a claim
 abbrev pub claims_asked : List Record → List Request → ℕ
@@ -42,10 +47,10 @@ claims_asked records requests = count_by (λ r. is_filing r.act) records + count
 abbrev pub firms_asked : List Record → List Request → ℕ
 firms_asked records requests = count_by (λ r. is_registration r.act) records + count_by (λ request. is_registration request.act) requests
 
--- Behind the records there is room for all of the requests. Of entries: one for each, one for the publication of each Close, one
--- for the abandonment at the opening, and two for both endings of a round. Of bytes: 10 for that abandonment, 80 for each
--- request, and both endings of a round of all claims and firms for each Close and once more.
+-- Behind the records there is room for all of the requests. Of entries: one for each, two for both endings of the round of each
+-- Close, one for each abandonment at the opening, and three. Of bytes: 28 for each of these abandonments, 100 for each request,
+-- and both endings of a round of all claims and firms for each Close and once more, in a pool with a name of 16 bytes.
 pub record HasRoomForAll (records : List Record) (requests : List Request) : Type 0 where
-  pub entries : length records + length requests + closes requests + 3 ≤ MOST_ENTRIES
-  pub bytes : journal_bytes records + 10 + 80 * length requests + endings_with (claims_asked records requests)
+  pub entries : length records + rounds_left records + length requests + 2 * closes requests + 3 ≤ MOST_ENTRIES
+  pub bytes : journal_bytes records + 28 * rounds_left records + 100 * length requests + most_endings (claims_asked records requests)
       (firms_asked records requests) * (closes requests + 1) ≤ MOST_JOURNAL_BYTES

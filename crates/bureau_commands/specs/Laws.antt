@@ -1,7 +1,7 @@
 -- What the promise of a run comes to: of each moment after a crash, and of the next call.
 use Rattle.std.specs.Prelude.{◌<◌, ◌≤◌, ℕ, List}
 use Rattle.disk_model.specs.Calls.{Seen, IsPresent}
-use Rattle.claim_history.specs.declared.entry.Entry.{Entry}
+use Rattle.claim_history.specs.declared.call.PoolEntry.{PoolEntry}
 use Rattle.printed_text.specs.declared.exit_status.ExitStatus.{ExitStatus}
 use Rattle.bureau_desk.specs.Opening.{HoldsOpened}
 use Rattle.bureau_commands.specs.Journals.{HasAuditFault, HoldsSound}
@@ -9,8 +9,8 @@ use Rattle.bureau_commands.specs.Headline.{SurvivesCrashes}
 use Rattle.bureau_commands.specs.Causes.{HoldsUnsound}
 
 -- The disk that comes back is tied to the one that was handed in: the images of the start are as they were, and none between it and
--- the first sync is new. From the first sync up to the end of the opening each holds the records of the start, alone or with the
--- abandonment.
+-- the first sync is new. From the first sync up to the end of the opening each holds the records of the start, with the first of the
+-- abandonments, any number of them.
 pub record IsTied (old new : Seen) (first ended : ℕ) : Type 0 where
   pub begins : old.moment ≤ first
   pub follows : first ≤ ended
@@ -22,7 +22,7 @@ pub record IsTied (old new : Seen) (first ended : ℕ) : Type 0 where
 
 -- so it is wherever the clause on crashes holds
 abbrev pub CrashLaw : {D : Type 0} → (D → Seen) → Type 0
-CrashLaw {D} seen = (old new : D) (opened : ℕ) (history : List Entry) (s : SurvivesCrashes seen old new opened history)
+CrashLaw {D} seen = (old new : D) (opened : ℕ) (history : List PoolEntry) (s : SurvivesCrashes seen old new opened history)
     → IsTied (seen old) (seen new) s.first (seen s.begun).moment
 
 -- no cause of the status `Unsound` is there, and none of `No` of an audit

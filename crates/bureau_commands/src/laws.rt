@@ -5,7 +5,7 @@ use disk_model::Disk;
 
 /// The clause on crashes is tied to the disk that comes back. Of its images those of the start are as they were, and none between
 /// the start and the opening's first sync is new; from that sync up to the end of the opening each holds the records of the start,
-/// alone or with the abandonment.
+/// with the first of the abandonments, any number of them.
 pub fn crashes_are_told_of_the_disk<D: Disk>()
     ensures { CrashLaw D.seen }
 {}

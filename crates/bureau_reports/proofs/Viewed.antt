@@ -2,7 +2,7 @@
 use Rattle.std.specs.Prelude.{Option}
 use Rattle.std.proofs.Common.{◌≡◌, ◌∙◌, ◌⊎◌, ⊎_elim, inl, inr, ℕ, ◌≤◌, Bool, false, List, [], ◌∷◌, refl, subst, sym, true≢false, arith}
 use Rattle.fault_count.specs.Counts.{HasRisen}
-use Rattle.claim_history.specs.declared.entry.Entry.{Entry}
+use Rattle.claim_history.specs.declared.call.PoolEntry.{PoolEntry}
 use Rattle.claim_history.specs.declared.entry.Reply.{Reply}
 use Rattle.claim_history.specs.declared.entry.Reply.TheVariants as reply
 use Rattle.claim_history.specs.History.{is_no_refusal}
@@ -68,8 +68,8 @@ unsound_among (Overfull offset) = inl refl
 
 pub unviewed_among : (report : JournalReport) (cause : DeskCause) → IsOneOf (statuses.No ∷ statuses.Disk ∷ statuses.Unsound ∷ statuses.Memory ∷ []) (unviewed_status report cause)
 unviewed_among journals.Audit cause = unsound_among cause
-unviewed_among journals.Positions cause = inr (opening_among cause)
-unviewed_among (journals.Notices today) cause = inr (opening_among cause)
+unviewed_among (journals.Positions pool) cause = inr (opening_among cause)
+unviewed_among (journals.Notices today pool) cause = inr (opening_among cause)
 unviewed_among (journals.Weigh kind today) cause = inr (opening_among cause)
 
 -- where one tells of a device, the disk's count rose
@@ -87,14 +87,14 @@ view_rose tells bytes low high (Overfull offset) h disk = absurd (⊎_elim (λ e
 
 pub unviewed_rose : (report : JournalReport) (tells : Bool) (bytes : List ℕ) (low high : ℕ) (cause : DeskCause) → HasViewCause tells bytes low high cause → unviewed_status report cause ≡ statuses.Disk → HasRisen low high
 unviewed_rose journals.Audit tells bytes low high cause h disk = view_rose tells bytes low high cause h (inr disk)
-unviewed_rose journals.Positions tells bytes low high cause h disk = view_rose tells bytes low high cause h (inl disk)
-unviewed_rose (journals.Notices today) tells bytes low high cause h disk = view_rose tells bytes low high cause h (inl disk)
+unviewed_rose (journals.Positions pool) tells bytes low high cause h disk = view_rose tells bytes low high cause h (inl disk)
+unviewed_rose (journals.Notices today pool) tells bytes low high cause h disk = view_rose tells bytes low high cause h (inl disk)
 unviewed_rose (journals.Weigh kind today) tells bytes low high cause h disk = view_rose tells bytes low high cause h (inl disk)
 
 -- ---- books
 
 -- what is due for a book is due for the disk that has it
-pub book_due : (report : JournalReport) (tells : Bool) (bytes : List ℕ) (low high : ℕ) (history : List Entry) → HasViewed tells bytes history → (status : ExitStatus) (text : List ℕ)
+pub book_due : (report : JournalReport) (tells : Bool) (bytes : List ℕ) (low high : ℕ) (history : List PoolEntry) → HasViewed tells bytes history → (status : ExitStatus) (text : List ℕ)
     → IsBookDue report history status text → IsJournalDue report tells bytes low high status text
 book_due report tells bytes low high history has status text no_text_memory = no_view_memory
 book_due report tells bytes low high history has status text (made t is) = viewed history has t is

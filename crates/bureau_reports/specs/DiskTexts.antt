@@ -1,6 +1,6 @@
 -- What is told of a disk: why no desk was opened on it, and what an audit finds.
 use Rattle.std.specs.Prelude.{ℕ, List, ◌++◌, length, count_by, codes, decimal}
-use Rattle.claim_history.specs.declared.entry.Entry.{Entry}
+use Rattle.claim_history.specs.declared.call.PoolEntry.{PoolEntry}
 use Rattle.claim_history.specs.Acts.{is_publication}
 use Rattle.claim_history.specs.Laws.{IsReplyInRange}
 use Rattle.entry_text.specs.Entries.{reply_text}
@@ -55,10 +55,10 @@ opening_status _ = statuses.Unsound
 
 -- ---- audits
 
--- how many acts the history of a sound journal has, and how many of them publish a round
-abbrev pub sound_text : List Entry → List ℕ
+-- how many acts the history of a sound journal has, of all pools, and how many of them publish a round
+abbrev pub sound_text : List PoolEntry → List ℕ
 sound_text history = codes "yes acts " ++ decimal (length history) ++ codes " rounds "
-    ++ decimal (count_by (λ e. is_publication e.act) history) ++ codes "\n"
+    ++ decimal (count_by (λ m. is_publication m.entry.act) history) ++ codes "\n"
 
 -- its first act that is refused or full; or why it was not read, as at an opening
 abbrev pub unsound_text : DeskCause → List ℕ

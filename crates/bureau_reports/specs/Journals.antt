@@ -1,7 +1,8 @@
 -- Which status and which text a report on a journal comes to.
 use Rattle.std.specs.Prelude.{◌≡◌, Bool, ℕ, List, [], ◌∷◌}
-use Rattle.claim_history.specs.declared.entry.Entry.{Entry}
-use Rattle.claim_book.specs.Book.{ledger_of}
+use Rattle.claim_history.specs.declared.call.PoolEntry.{PoolEntry}
+use Rattle.claim_history.specs.Facts.{Ledger}
+use Rattle.claim_history.specs.Pools.{ledger_in}
 use Rattle.bureau_desk.specs.declared.desk_refused.DeskCause.{DeskCause}
 use Rattle.bureau_desk.specs.Opening.{HasViewCause, HasViewed}
 use Rattle.firm_notices.specs.Notices.{notices_text}
@@ -12,38 +13,43 @@ use Rattle.printed_text.specs.Texts.{memory_text}
 use Rattle.weighed_round.specs.Weighed.{IsWeighedText}
 use Rattle.command_words.specs.declared.journal_report.JournalReport.{JournalReport}
 use Rattle.command_words.specs.declared.journal_report.JournalReport.TheVariants as journals
+use Rattle.command_words.specs.Words.{pool_of}
 use Rattle.bureau_reports.specs.DiskTexts.{opening_status, opening_text, sound_text, unsound_status, unsound_text}
 
--- what the report tells of the history that a journal holds
-abbrev pub IsTextOf : JournalReport → List Entry → List ℕ → Type 0
+-- what is known of the claims and accounts of the pool of which a report speaks
+abbrev pub ledger_told : JournalReport → List PoolEntry → Ledger
+ledger_told report history = ledger_in history (pool_of report)
+
+-- what the report tells of the history that a journal holds: an audit of all pools, the others of one
+abbrev pub IsTextOf : JournalReport → List PoolEntry → List ℕ → Type 0
 IsTextOf journals.Audit history text = text ≡ sound_text history
-IsTextOf journals.Positions history text = text ≡ positions_text (ledger_of history)
-IsTextOf (journals.Notices today) history text = text ≡ notices_text today (ledger_of history)
-IsTextOf (journals.Weigh kind today) history text = IsWeighedText kind today (ledger_of history) text
+IsTextOf (journals.Positions pool) history text = text ≡ positions_text (ledger_told (journals.Positions pool) history)
+IsTextOf (journals.Notices today pool) history text = text ≡ notices_text today (ledger_told (journals.Notices today pool) history)
+IsTextOf (journals.Weigh kind today) history text = IsWeighedText kind today (ledger_told (journals.Weigh kind today) history) text
 
 -- this, or there was no memory for it
-pub data IsBookDue (report : JournalReport) (history : List Entry) : ExitStatus → List ℕ → Type 0 where
+pub data IsBookDue (report : JournalReport) (history : List PoolEntry) : ExitStatus → List ℕ → Type 0 where
   no_text_memory : IsBookDue report history statuses.Memory memory_text
   made : (text : List ℕ) → IsTextOf report history text → IsBookDue report history statuses.Done text
 
--- the status and the text where there is no book: an audit tells the act that is refused or full, the others a fault of the journal
+-- the status and the text where there are no books: an audit tells the act that is refused or full, the others a fault of the journal
 abbrev pub unviewed_status : JournalReport → DeskCause → ExitStatus
 unviewed_status journals.Audit cause = unsound_status cause
-unviewed_status journals.Positions cause = opening_status cause
-unviewed_status (journals.Notices today) cause = opening_status cause
+unviewed_status (journals.Positions pool) cause = opening_status cause
+unviewed_status (journals.Notices today pool) cause = opening_status cause
 unviewed_status (journals.Weigh kind today) cause = opening_status cause
 
 abbrev pub unviewed_text : JournalReport → DeskCause → List ℕ
 unviewed_text journals.Audit cause = unsound_text cause
-unviewed_text journals.Positions cause = opening_text cause
-unviewed_text (journals.Notices today) cause = opening_text cause
+unviewed_text (journals.Positions pool) cause = opening_text cause
+unviewed_text (journals.Notices today pool) cause = opening_text cause
 unviewed_text (journals.Weigh kind today) cause = opening_text cause
 
 -- Of a disk that is told to have these bytes, and whose counts were these before and after: there was no memory; the journal was
--- replayed, and this is told of its history; or why there is no book.
+-- replayed, and this is told of its history; or why there are no books.
 pub data IsJournalDue (report : JournalReport) (tells : Bool) (bytes : List ℕ) (low high : ℕ) : ExitStatus → List ℕ → Type 0 where
   no_view_memory : IsJournalDue report tells bytes low high statuses.Memory memory_text
-  viewed : (history : List Entry) → HasViewed tells bytes history → (text : List ℕ) → IsTextOf report history text
+  viewed : (history : List PoolEntry) → HasViewed tells bytes history → (text : List ℕ) → IsTextOf report history text
       → IsJournalDue report tells bytes low high statuses.Done text
   unviewed : (cause : DeskCause) → HasViewCause tells bytes low high cause
       → IsJournalDue report tells bytes low high (unviewed_status report cause) (unviewed_text report cause)

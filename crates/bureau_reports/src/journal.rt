@@ -12,8 +12,7 @@ use crate::fault_line::{status_of_opening, write_opening_fault};
 use crate::sound_line::{status_of_unsound, write_sound, write_unsound};
 use bureau_desk::{Desk, DeskCause};
 use bureau_edge::Sink;
-use claim_book::Book;
-use claim_history::Entry;
+use claim_book::Books;
 use command_words::JournalReport;
 use disk_model::Disk;
 use firm_notices::{notices, positions};
@@ -23,27 +22,28 @@ use std::alloc::{AllocError, Global};
 use weighed_round::weigh;
 
 // The line of an audit of a sound journal.
-fn sound_line(alloc: Global, history: &[Entry]) -> Result<Vec<u8>, AllocError>
-    ensures { IfOk result (λ text. text.items ≡ sound_text history.now) }
+fn sound_line(alloc: Global, books: &Books) -> Result<Vec<u8>, AllocError>
+    ensures { IfOk result (λ text. text.items ≡ sound_text books.now.members) }
 {
     let mut line = Vec::with_capacity(alloc, LINE_BYTES)?;
-    write_sound(&mut line, history);
+    write_sound(&mut line, books);
     Ok(line)
 }
 
-// What a report tells of a book.
-fn text_of(alloc: Global, report: &JournalReport, book: &Book) -> Result<Vec<u8>, AllocError>
-    ensures { IfOk result (λ text. IsTextOf report.now book.now.history text.items) }
+// What a report tells of the books of all pools.
+fn text_of(alloc: Global, report: &JournalReport, books: &Books) -> Result<Vec<u8>, AllocError>
+    ensures { IfOk result (λ text. IsTextOf report.now books.now.members text.items) }
 {
+    let book = books.book(&report.pool());
     match report {
-        JournalReport::Audit => sound_line(alloc, book.history()),
-        JournalReport::Positions => positions(alloc, book),
-        JournalReport::Notices { today } => notices(alloc, book, *today),
+        JournalReport::Audit => sound_line(alloc, books),
+        JournalReport::Positions { .. } => positions(alloc, book),
+        JournalReport::Notices { today, .. } => notices(alloc, book, *today),
         JournalReport::Weigh { kind, today } => weigh(alloc, book, *kind, *today),
     }
 }
 
-// Writes why there is no book, as the report tells it.
+// Writes why there are no books, as the report tells it.
 fn write_unviewed(buffer: &mut Vec<u8>, report: &JournalReport, cause: DeskCause)
     requires tellable { IsTellable cause }
     requires empty { buffer.old.items ≡ [] }
@@ -52,7 +52,7 @@ fn write_unviewed(buffer: &mut Vec<u8>, report: &JournalReport, cause: DeskCause
 {
     match report {
         JournalReport::Audit => write_unsound(buffer, cause),
-        JournalReport::Positions => write_opening_fault(buffer, cause),
+        JournalReport::Positions { .. } => write_opening_fault(buffer, cause),
         JournalReport::Notices { .. } => write_opening_fault(buffer, cause),
         JournalReport::Weigh { .. } => write_opening_fault(buffer, cause),
     }
@@ -64,24 +64,24 @@ fn status_of_unviewed(report: &JournalReport, cause: DeskCause) -> ExitStatus
 {
     match report {
         JournalReport::Audit => status_of_unsound(cause),
-        JournalReport::Positions => status_of_opening(cause),
+        JournalReport::Positions { .. } => status_of_opening(cause),
         JournalReport::Notices { .. } => status_of_opening(cause),
         JournalReport::Weigh { .. } => status_of_opening(cause),
     }
 }
 
-// Prints what the report tells of a book, or that there was no memory for it.
+// Prints what the report tells of the books, or that there was no memory for it.
 #[tactic(none)]
-fn print_book<K: Sink>(
+fn print_books<K: Sink>(
     alloc: Global,
     report: &JournalReport,
-    book: &Book,
+    books: &Books,
     sink: &mut K,
 ) -> ExitStatus
-    ensures wrote { Wrote (IsBookDue report.now book.now.history) (K.held sink.old) (K.held sink.new) result }
+    ensures wrote { Wrote (IsBookDue report.now books.now.members) (K.held sink.old) (K.held sink.new) result }
     ensures write_fault { result ≡ statuses.Sink → HasRisen (K.faults sink.old) (K.faults sink.new) }
 {
-    match text_of(alloc, report, book) {
+    match text_of(alloc, report, books) {
         Ok(text) => end_with(sink, ExitStatus::Done, text.as_slice()),
         Err(_) => tell_no_memory(sink),
     }
@@ -110,9 +110,9 @@ pub fn report_journal<K: Sink, D: Disk>(
         return tell_no_memory(sink);
     };
     match Desk::view(alloc, disk) {
-        Ok(book) => {
-            let status = print_book(alloc, &report, &book, sink);
-            drop(book);
+        Ok(books) => {
+            let status = print_books(alloc, &report, &books, sink);
+            drop(books);
             status
         }
         Err(cause) => {

@@ -1,7 +1,7 @@
 //! Reports: what is told of an input or of a journal that stays as it is.
 //!
 //! A report on an input is the verdict on a statement, the chains that explain it, or the lines that file invoices. A report on a
-//! journal tells whether it is sound, or prints a table of its book: the positions, the open claims, or a weighted set-off. For each
+//! journal tells whether it is sound, or prints a table of one pool: the positions, the open claims, or, of the pool MAIN, a weighted set-off. For each
 //! there is a word of `specs/` that says which status and which text are due; the sink takes that text, or some first bytes of it
 //! where it failed, and then the status is 4. No report writes to a disk.
 #![tactic(auto)]

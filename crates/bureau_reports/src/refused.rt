@@ -1,4 +1,4 @@
-//! The fault line of a disk that has no desk, or no book.
+//! The fault line of a disk that has no desk, or no books.
 ghost use Rattle.std.specs.Prelude.{◌≡◌, ◌≤◌, [], vec_capacity};
 ghost use Rattle.setoff_model.specs.declared.limits.TheConstants.{LINE_BYTES};
 ghost use Rattle.fault_count.specs.Counts.{HasRisen};
@@ -11,7 +11,7 @@ use bureau_desk::DeskCause;
 use bureau_edge::Sink;
 use printed_text::{ExitStatus, end_with};
 
-/// Tells why no desk was opened on a disk, or no book made of it, and says the status. The buffer is empty and has room for
+/// Tells why no desk was opened on a disk, or no books made of it, and says the status. The buffer is empty and has room for
 /// `LINE_BYTES`.
 #[tactic(none)]
 pub fn tell_refused<K: Sink>(sink: &mut K, buffer: &mut Vec<u8>, cause: DeskCause) -> ExitStatus

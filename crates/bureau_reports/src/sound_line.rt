@@ -6,15 +6,18 @@ ghost use Rattle.bureau_reports.specs.DiskTexts.{sound_text, unsound_text, unsou
 
 use crate::fault_line::{status_of_opening, write_opening_fault, write_told};
 use bureau_desk::DeskCause;
-use claim_history::Entry;
+use claim_book::Books;
 use printed_text::ExitStatus;
 use setoff_model::{put, write_whole};
 
-fn rounds_in(history: &[Entry]) -> u64
-    ensures { result ≡ count_by (λ e. is_publication e.act) history.now }
+// How many acts of all pools publish a round.
+fn rounds_in(books: &Books) -> u64
+    ensures { result ≡ count_by (λ m. is_publication m.entry.act) books.now.members }
 {
+    let len = books.len();
     let mut rounds = 0;
-    for entry in history {
+    for place in 0..len {
+        let (_pool, entry) = books.member(place);
         if entry.act.publishes() {
             rounds += 1;
         }
@@ -22,17 +25,17 @@ fn rounds_in(history: &[Entry]) -> u64
     rounds
 }
 
-/// Writes the line `yes acts N rounds M` of a journal that is sound, whose history is this.
-pub(crate) fn write_sound(buffer: &mut Vec<u8>, history: &[Entry])
+/// Writes the line `yes acts N rounds M` of a journal that is sound, whose history is that of these books.
+pub(crate) fn write_sound(buffer: &mut Vec<u8>, books: &Books)
     requires { vec_len buffer.old + LINE_BYTES ≤ vec_capacity buffer.old }
-    ensures text { buffer.new.items ≡ buffer.old.items ++ sound_text history.now }
+    ensures text { buffer.new.items ≡ buffer.old.items ++ sound_text books.now.members }
     ensures len { vec_len buffer.new ≤ vec_len buffer.old + LINE_BYTES }
     ensures room { vec_capacity buffer.old ≤ vec_capacity buffer.new }
 {
     put(buffer, b"yes acts ");
-    write_whole(buffer, history.len() as u64);
+    write_whole(buffer, books.len());
     put(buffer, b" rounds ");
-    write_whole(buffer, rounds_in(history));
+    write_whole(buffer, rounds_in(books));
     put(buffer, b"\n");
 }
 

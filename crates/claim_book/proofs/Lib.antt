@@ -2,9 +2,11 @@ pub mod Known
 pub mod Sound
 pub mod Tables
 pub mod Marks
-pub mod Books
+pub mod Parts
 pub mod Lookups
 pub mod Found
 pub mod Kept
 pub mod Openings
 pub mod Threads
+pub mod Pools
+pub mod Applied

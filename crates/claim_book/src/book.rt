@@ -99,7 +99,7 @@ impl Book {
     }
 
     // For how many entries an act needs room.
-    fn room_for(&self, act: &Act) -> usize
+    pub(crate) fn room_for(&self, act: &Act) -> usize
         ensures { result ≡ room_for (state_of self.now.history) act.now }
     {
         match act {

@@ -29,6 +29,11 @@ pub mod Open
 pub mod Valid
 mod WorkedRounds
 mod WorkedNeeds
+mod WorkedPools
 pub mod Room
+pub mod Pools
+pub mod PoolRoom
 pub mod Bounds
+pub mod PoolCuts
+pub mod PoolEnds
 pub mod Touching

@@ -1,5 +1,5 @@
 -- A firm that no later entry touches stays as it is.
-use Rattle.std.specs.Prelude.{reverse, filter, filter_map, sum, Option, Some, None, is_some, cond, ℤ, pos, ◌-ℤ◌, ◌-◌, if◌then◌else◌}
+use Rattle.std.specs.Prelude.{reverse, filter, filter_map, sum, Some, None, is_some, cond, ℤ, pos, ◌-ℤ◌, ◌-◌, if◌then◌else◌}
 use Rattle.std.specs.List.{cons_option}
 use Rattle.std.proofs.Common.{◌≡◌, ℕ, ◌+◌, Bool, true, false, ◌&&◌, ◌||◌, List, [], ◌∷◌, ◌++◌, All, sum_by, refl, sym, ◌∙◌, ap, ap₂, subst, true≢false, arith}
 use Rattle.std.proofs.lemmas.Bool.{or_parts, false_from_ne_true}

@@ -9,5 +9,8 @@ pub mod Rounds
 pub mod Laws
 pub mod Register
 pub mod Needs
-pub mod Bounds
 pub mod Touched
+pub mod Pools
+pub mod PoolNeeds
+pub mod PoolLaws
+pub mod PoolRounds

@@ -1,7 +1,8 @@
-//! What holds of every legal history. Each of these calls does nothing.
-ghost use Rattle.claim_history.specs.Laws.{ActsLaw, CutLaw, OneCutLaw, OpenLaw, NoneOpenLaw, GrowthLaw, ReplayLaw, LimitsLaw, FormulasLaw, SizesLaw, RepliesLaw, FrozenLaw, OwnedLaw, PublicationLaw, GreatestLaw, OpeningsLaw};
-ghost use Rattle.claim_history.specs.Needs.{RoomLaw, EndingsLaw, RecordsLaw, UseLaw, CallsLaw, NeedsLaw, FullLaw};
-ghost use Rattle.claim_history.specs.Bounds.{CutBoundLaw, UseBoundLaw};
+//! What holds of every legal history, of the entries of one pool or of all. Each of these calls does nothing.
+ghost use Rattle.claim_history.specs.Laws.{ActsLaw, CutLaw, OneCutLaw, OpenLaw, NoneOpenLaw, LimitsLaw, FormulasLaw, SizesLaw, RepliesLaw, FrozenLaw, PublicationLaw, GreatestLaw, OpeningsLaw};
+ghost use Rattle.claim_history.specs.PoolLaws.{PoolsLaw, JoinLaw, ReplayLaw, MainLaw, OwnedLaw};
+ghost use Rattle.claim_history.specs.PoolNeeds.{RoomLaw, EndingsLaw, RecordsLaw, UseLaw, CallsLaw, ReserveLaw, NeedsLaw, FullLaw, UseBoundLaw};
+ghost use Rattle.claim_history.specs.PoolRounds.{CutsLaw, CutBoundLaw, EndedLaw};
 ghost use Rattle.claim_history.specs.Register.{FullRegister};
 ghost use Rattle.claim_history.specs.Touched.{TouchLaw};
 
@@ -23,13 +24,6 @@ pub fn each_round_has_one_cut()
 pub fn round_is_open_until_its_end()
     ensures open { OpenLaw }
     ensures none { NoneOpenLaw }
-{}
-
-/// A legal history stays legal with one more entry whose reply is the history's one reply or tells of a device, and
-/// each list of calls, replayed, gives a legal history.
-pub fn legal_history_grows()
-    ensures growth { GrowthLaw }
-    ensures replay { ReplayLaw }
 {}
 
 /// After every legal history each account is within its limits, and of no claim is more received and discharged than
@@ -55,12 +49,6 @@ pub fn open_cut_is_frozen()
     ensures { FrozenLaw }
 {}
 
-/// After an accepted CLOSE its round stays open with its cut as long as neither its owner nor the bureau itself asks
-/// anything.
-pub fn owned_round_stays_open()
-    ensures { OwnedLaw }
-{}
-
 /// A publication keeps every firm's receivable less its payable plus its balance.
 pub fn publication_keeps_net_positions()
     ensures { PublicationLaw }
@@ -72,32 +60,61 @@ pub fn publications_are_greatest()
     ensures { GreatestLaw }
 {}
 
-/// While a round is open in a legal history, where each act was within the limits when it was asked, there is room for
-/// both endings of the round: for two entries, and for the bytes of its publication and of an abandonment. So neither
-/// of them is above a limit where it would be accepted. These bytes are those of the two records.
+/// The entries of each pool of a legal history of the bureau are a legal history, so all laws here of the entries of one pool hold
+/// of them. It stays legal with one more member that may stand next, and then no other pool changes. Calls, replayed, are such a
+/// history, and entries of the pool MAIN alone are one exactly where they are a legal history.
+pub fn each_pool_has_its_history()
+    ensures pools { PoolsLaw }
+    ensures join { JoinLaw }
+    ensures replay { ReplayLaw }
+    ensures main { MainLaw }
+{}
+
+/// After an accepted CLOSE its round stays open with its cut as long as neither its owner nor the bureau itself asks anything in
+/// its pool, whatever is asked in other pools.
+pub fn owned_round_stays_open()
+    ensures { OwnedLaw }
+{}
+
+/// In a legal history, where each call was within the limits when it was asked, there is room for both endings of each open round:
+/// for two entries, and for the bytes of its publication and of an abandonment. So none of them is above a limit where it would
+/// be accepted. These bytes are those of the two records.
 pub fn room_for_endings_is_kept()
     ensures room { RoomLaw }
     ensures endings { EndingsLaw }
     ensures records { RecordsLaw }
 {}
 
-/// With each entry a history uses one entry more, unless its reply tells of a device, and the bytes of its record where
-/// it is accepted, and it stays within the limits where the act is. A list of calls uses an entry for each, and a
-/// record for each where all are accepted. An act needs what the history uses with it and its reply, and both endings
-/// of the round that is open then. It is full exactly where one of the two needs is above its limit.
+/// With each member a history uses one entry more, unless its reply tells of a device, and the bytes of its record where it is
+/// accepted. What is reserved changes by the open round of its pool alone, and the history stays within the limits where the call
+/// is. A list of calls uses an entry for each, and a record for each where all are accepted. A call needs what is used and
+/// reserved, its own, and in place of the open round of its pool the one that is open there afterwards. It is full exactly where
+/// one of its two needs is above its limit.
 pub fn use_is_counted()
     ensures growth { UseLaw }
     ensures calls { CallsLaw }
+    ensures reserve { ReserveLaw }
     ensures needs { NeedsLaw }
     ensures full { FullLaw }
 {}
 
-/// The calls bound what a history uses, whatever their replies: an entry for each, and the bytes of their records. They
-/// bound the cut of each round too: it has at most as many claims as calls file one, and as many parties as calls
-/// register a firm.
+/// The calls bound what a history uses, whatever their replies: an entry for each, and the bytes of their records. They bound the
+/// cut of each round of each pool too: it has at most as many claims as calls of all pools file one, and as many parties as calls
+/// of all pools register a firm.
 pub fn calls_bound_use_and_cuts()
     ensures use_of_calls { UseBoundLaw }
     ensures cut { CutBoundLaw }
+{}
+
+/// One more member adds the cut of the round that it publishes in its pool, in the order of the publications of all pools.
+pub fn published_cuts_are_in_order()
+    ensures { CutsLaw }
+{}
+
+/// A history that leaves rounds open, one in a pool at most, leaves none open with the bureau's own abandonments of them. An
+/// abandonment ends no round but that of its own pool, so each of them finds its round open, in whatever order they come.
+pub fn rounds_left_open_are_ended()
+    ensures { EndedLaw }
 {}
 
 /// Where 262,143 claims were filed, two registered firms may file one more, and where 262,144 were, the next one is

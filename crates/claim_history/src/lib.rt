@@ -22,6 +22,7 @@
 
 mod act;
 mod act_text;
+mod call;
 mod day;
 mod entry;
 mod fact;
@@ -30,12 +31,14 @@ pub mod record_bytes;
 
 pub use act::{Act, each_act_has_its_own_text};
 pub use act_text::write_act;
+pub use call::{Call, PoolEntry, is_main, main_pool_name, pool_bytes};
 pub use day::{Day, days_are_civil_dates};
 pub use entry::{Entry, Reply, Why, accepted, tells_of_device};
 pub use fact::{AccountFact, ClaimFact, Position, Status};
 pub use laws::{
-    calls_bound_use_and_cuts, each_round_has_one_cut, full_register_refuses_claims,
-    legal_history_grows, limits_hold, open_cut_is_frozen, owned_round_stays_open,
-    publication_keeps_net_positions, publications_are_greatest, room_for_endings_is_kept,
-    round_is_open_until_its_end, state_is_of_the_history, untouched_firms_stay, use_is_counted,
+    calls_bound_use_and_cuts, each_pool_has_its_history, each_round_has_one_cut,
+    full_register_refuses_claims, limits_hold, open_cut_is_frozen, owned_round_stays_open,
+    publication_keeps_net_positions, publications_are_greatest, published_cuts_are_in_order,
+    room_for_endings_is_kept, round_is_open_until_its_end, rounds_left_open_are_ended,
+    state_is_of_the_history, untouched_firms_stay, use_is_counted,
 };

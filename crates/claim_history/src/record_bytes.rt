@@ -8,3 +8,6 @@ pub const CLOSE_BODY: u64 = 10;
 
 /// The bytes of the body of an Abandon.
 pub const ABANDON_BODY: u64 = 5;
+
+/// The most bytes that name a pool in a body: 1 for its tag, 1 for the length of its name, and a name of 16.
+pub const POOL_BYTES: u64 = 18;

@@ -1,5 +1,5 @@
 -- A command and its words.
-use Rattle.std.proofs.Common.{true≢false, ◌≡◌, ◌∙◌, ◌==◌, ◌+◌, ◌<◌, ◌≤◌, ◌^◌, ℕ, zero, suc, true, false, List, [], ◌∷◌, map, Option, Some, None, refl, ap, ap₂, sym, subst, codes, decimal, get_or, arith}
+use Rattle.std.proofs.Common.{true≢false, ◌≡◌, ◌∙◌, ◌==◌, ◌&&◌, ◌+◌, ◌<◌, ◌≤◌, ◌^◌, ℕ, zero, suc, Bool, true, false, List, [], ◌∷◌, map, Option, Some, None, refl, ap, ap₂, sym, subst, codes, decimal, get_or, arith}
 use Rattle.std.specs.List.{list_any}
 use Rattle.std.specs.Int.Digits.{digits_of}
 use Rattle.std.proofs.lemmas.Fmt.{decimal-digits_of, decimal_digit, decimal_injective}
@@ -8,6 +8,7 @@ use Rattle.clap.specs.Simple.{Shape, subcommand_of}
 use Rattle.clap.specs.Faults.{fault_of}
 use Rattle.setoff_model.specs.declared.kind.Kind.{Kind}
 use Rattle.setoff_model.specs.declared.kind.Kind.TheVariants.{Plain, Funded}
+use Rattle.setoff_model.specs.Names.{is_letter, is_name}
 use Rattle.setoff_model.specs.Texts.{kind_text}
 use Rattle.claim_history.specs.Days.{DayTextsLaw, day_text}
 use Rattle.command_words.specs.declared.command.Command.{Command}
@@ -15,9 +16,9 @@ use Rattle.command_words.specs.declared.command.Command.TheVariants as commands
 use Rattle.command_words.specs.declared.input_report.InputReport.TheVariants as inputs
 use Rattle.command_words.specs.declared.journal_report.JournalReport.TheVariants as journals
 use Rattle.command_words.specs.Program.{program}
-use Rattle.command_words.specs.Words.{AreNoWords, AreWordsOf, IsCommand, OneCommandLaw, name_of, values_of, words_of}
+use Rattle.command_words.specs.Words.{AreNoWords, AreWordsOf, IsCommand, IsPool, OneCommandLaw, name_of, pool_values, values_of, words_of}
 use Rattle.command_words.specs.Reading.{IsFoundIn, IsGiven, is_option}
-use Rattle.command_words.proofs.Walks.{IsEntered, IsPlain, audit_entered, check_entered, explain_entered, first_is, found_is, import_entered, import_rest, import_taken, import_values, known_name, name_and, name_and_three, name_and_two, no_words, notices_entered, notices_rest, notices_taken, notices_values, or_false, plain_of, plain_rest, plain_taken, positions_entered, run_entered, sub_is, trial_entered, trial_rest, trial_taken, trial_values, weigh_entered, weigh_rest, weigh_taken, weigh_values}
+use Rattle.command_words.proofs.Walks.{IsEntered, IsPlain, IsPlainPool, audit_entered, check_entered, explain_entered, first_is, found_is, import_entered, import_rest, import_taken, import_values, known_name, name_and, name_and_day, name_and_three, name_and_two, no_words, notices_entered, notices_rest, notices_taken, notices_values, or_false, plain_of, plain_rest, plain_taken, positions_entered, positions_rest, positions_taken, positions_values, run_entered, sub_is, trial_entered, trial_rest, trial_taken, trial_values, weigh_entered, weigh_rest, weigh_taken, weigh_values}
 
 -- ---- texts of values
 
@@ -38,6 +39,25 @@ kind_plain Funded = refl
 
 day_plain : (d : ℕ) → is_option (day_text d) ≡ false
 day_plain d = digit_plain _
+
+left_true : (a b : Bool) → (a && b) ≡ true → a ≡ true
+left_true true b e = refl
+left_true false b e = e
+
+letter_plain : (c : ℕ) → is_letter c ≡ true → (c == 45) ≡ false
+letter_plain c e = grind (arith, e)
+
+name_plain : (name : Text) → is_name name ≡ true → is_option name ≡ false
+name_plain [] e = refl
+name_plain (c ∷ cs) e = letter_plain c (left_true (is_letter c) _ (left_true _ _ e))
+
+pool_plain : (pool : Option Text) → IsPool pool → list_any is_option (pool_values pool) ≡ false
+pool_plain None p = refl
+pool_plain (Some x) p = rw (name_plain x p) refl
+
+pool_word : (pool : Option Text) → IsPool pool → IsPlainPool pool
+pool_word None p = tt
+pool_word (Some x) p = plain_of x (name_plain x p)
 
 -- no number of a range has the text of one outside of it
 pub no_number : (text : List ℕ) (number : ℕ) → number < 2 ^ 64 → text ≡ decimal number → (least most : ℕ) → most < 2 ^ 32 → (least ≤ number → number ≤ most → ⊥)
@@ -63,15 +83,30 @@ kind_is Plain Funded e = absurd (cc e)
 kind_is Funded Plain e = absurd (cc e)
 kind_is Funded Funded e = refl
 
+abbrev tail_of : List Text → List Text
+tail_of [] = []
+tail_of (x ∷ xs) = xs
+
+pool_is : (x y : Option Text) → pool_values x ≡ pool_values y → x ≡ y
+pool_is None None e = refl
+pool_is None (Some y) e = absurd (cc e)
+pool_is (Some x) None e = absurd (cc e)
+pool_is (Some x) (Some y) e = ap (λ (ws : List Text). Some (get_or ws 0 [])) e
+
 -- a command with the words of another
 of_words : DayTextsLaw → (c d : Command) → IsCommand c → IsCommand d → words_of c ≡ words_of d → c ≡ d
 of_words days commands.Run d p q e = grind (arith, same_name commands.Run d e)
 of_words days (commands.OnInput inputs.Check) d p q e = grind (arith, same_name (commands.OnInput inputs.Check) d e)
 of_words days (commands.OnInput inputs.Explain) d p q e = grind (arith, same_name (commands.OnInput inputs.Explain) d e)
 of_words days (commands.OnJournal journals.Audit) d p q e = grind (arith, same_name (commands.OnJournal journals.Audit) d e)
-of_words days (commands.OnJournal journals.Positions) d p q e = grind (arith, same_name (commands.OnJournal journals.Positions) d e)
-of_words days (commands.OnJournal (journals.Notices x)) (commands.OnJournal (journals.Notices y)) p q e = ap (λ (n : ℕ). commands.OnJournal (journals.Notices n)) (days x y p q (same_value (commands.OnJournal (journals.Notices x)) (commands.OnJournal (journals.Notices y)) 1 e))
-of_words days (commands.OnJournal (journals.Notices x)) d p q e = grind (arith, same_name (commands.OnJournal (journals.Notices x)) d e)
+of_words days (commands.OnJournal (journals.Positions x)) (commands.OnJournal (journals.Positions y)) p q e =
+    ap (λ (pool : Option Text). commands.OnJournal (journals.Positions pool)) (pool_is x y (ap tail_of e))
+of_words days (commands.OnJournal (journals.Positions x)) d p q e = grind (arith, same_name (commands.OnJournal (journals.Positions x)) d e)
+of_words days (commands.OnJournal (journals.Notices x u)) (commands.OnJournal (journals.Notices y v)) p q e =
+    let a = days x y p.0 q.0 (same_value (commands.OnJournal (journals.Notices x u)) (commands.OnJournal (journals.Notices y v)) 1 e) in
+    let b = pool_is u v (ap (λ (ws : List Text). tail_of (tail_of ws)) e) in
+    rw (a, b) refl
+of_words days (commands.OnJournal (journals.Notices x u)) d p q e = grind (arith, same_name (commands.OnJournal (journals.Notices x u)) d e)
 of_words days (commands.OnInput (inputs.Import x)) (commands.OnInput (inputs.Import y)) p q e = ap (λ (n : ℕ). commands.OnInput (inputs.Import n)) (same_number x y (omega (arith, p.1)) (omega (arith, q.1)) (same_value (commands.OnInput (inputs.Import x)) (commands.OnInput (inputs.Import y)) 1 e))
 of_words days (commands.OnInput (inputs.Import x)) d p q e = grind (arith, same_name (commands.OnInput (inputs.Import x)) d e)
 of_words days (commands.OnJournal (journals.Weigh j x)) (commands.OnJournal (journals.Weigh k y)) p q e =
@@ -97,8 +132,8 @@ words_plain commands.Run p = refl
 words_plain (commands.OnInput inputs.Check) p = refl
 words_plain (commands.OnInput inputs.Explain) p = refl
 words_plain (commands.OnJournal journals.Audit) p = refl
-words_plain (commands.OnJournal journals.Positions) p = refl
-words_plain (commands.OnJournal (journals.Notices d)) p = rw (day_plain d) refl
+words_plain (commands.OnJournal (journals.Positions pool)) p = pool_plain pool p
+words_plain (commands.OnJournal (journals.Notices d pool)) p = rw (day_plain d) (pool_plain pool p.1)
 words_plain (commands.OnInput (inputs.Import n)) p = rw (decimal_plain n (omega (arith, p.1))) refl
 words_plain (commands.OnJournal (journals.Weigh k d)) p = rw (kind_plain k, day_plain d) refl
 words_plain (commands.Trial x y z) p = rw (decimal_plain x (omega (arith, p.1)), decimal_plain y (omega (arith, p.3)), decimal_plain z (omega (arith, p.4))) refl
@@ -109,8 +144,8 @@ words_taken commands.Run p = plain_taken _ run_entered
 words_taken (commands.OnInput inputs.Check) p = plain_taken _ check_entered
 words_taken (commands.OnInput inputs.Explain) p = plain_taken _ explain_entered
 words_taken (commands.OnJournal journals.Audit) p = plain_taken _ audit_entered
-words_taken (commands.OnJournal journals.Positions) p = plain_taken _ positions_entered
-words_taken (commands.OnJournal (journals.Notices d)) p = notices_taken _ (plain_of _ (day_plain d))
+words_taken (commands.OnJournal (journals.Positions pool)) p = positions_taken pool (pool_word pool p)
+words_taken (commands.OnJournal (journals.Notices d pool)) p = notices_taken _ pool (plain_of _ (day_plain d)) (pool_word pool p.1)
 words_taken (commands.OnInput (inputs.Import n)) p = import_taken _ (plain_of _ (decimal_plain n (omega (arith, p.1))))
 words_taken (commands.OnJournal (journals.Weigh k d)) p = weigh_taken _ _ (plain_of _ (kind_plain k)) (plain_of _ (day_plain d))
 words_taken (commands.Trial x y z) p = trial_taken _ _ _ (plain_of _ (decimal_plain x (omega (arith, p.1)))) (plain_of _ (decimal_plain y (omega (arith, p.3)))) (plain_of _ (decimal_plain z (omega (arith, p.4))))
@@ -128,10 +163,15 @@ words_name commands.Run p found rows e = (known_name _ _ run_entered refl [] fou
 words_name (commands.OnInput inputs.Check) p found rows e = (known_name _ _ check_entered refl [] found rows e, tt)
 words_name (commands.OnInput inputs.Explain) p found rows e = (known_name _ _ explain_entered refl [] found rows e, tt)
 words_name (commands.OnJournal journals.Audit) p found rows e = (known_name _ _ audit_entered refl [] found rows e, tt)
-words_name (commands.OnJournal journals.Positions) p found rows e = (known_name _ _ positions_entered refl [] found rows e, tt)
-words_name (commands.OnJournal (journals.Notices d)) p found rows e =
-    let is = found_is (name_and (codes "DATE")) (words_of (commands.OnJournal (journals.Notices d))) _ (notices_values (day_text d) (day_word d)) found rows e in
+words_name (commands.OnJournal (journals.Positions pool)) p found rows e =
+    let is = found_is (name_and (codes "POOL")) (words_of (commands.OnJournal (journals.Positions pool))) _ (positions_values pool (pool_word pool p)) found rows e in
     (ap (λ (q : Text × Option Text). q.0) is, ap (λ (q : Text × Option Text). q.1) is)
+words_name (commands.OnJournal (journals.Notices d pool)) p found rows e =
+    let is = found_is name_and_day (words_of (commands.OnJournal (journals.Notices d pool))) _
+    (notices_values (day_text d) pool (day_word d) (pool_word pool p.1)) found rows e in (
+      ap (λ (q : Text × Option Text × Option Text). q.0) is,
+      (ap (λ (q : Text × Option Text × Option Text). q.1) is, ap (λ (q : Text × Option Text × Option Text). q.2) is),
+    )
 words_name (commands.OnInput (inputs.Import n)) p found rows e =
     let is = found_is (name_and (codes "LANE")) (words_of (commands.OnInput (inputs.Import n))) _ (import_values (decimal n) (number_word n (omega (arith, p.1)))) found rows e in
     (ap (λ (q : Text × Option Text). q.0) is, ap (λ (q : Text × Option Text). q.1) is)
@@ -154,8 +194,8 @@ words_named commands.Run e = not_found _ _ run_entered [] e
 words_named (commands.OnInput inputs.Check) e = not_found _ _ check_entered [] e
 words_named (commands.OnInput inputs.Explain) e = not_found _ _ explain_entered [] e
 words_named (commands.OnJournal journals.Audit) e = not_found _ _ audit_entered [] e
-words_named (commands.OnJournal journals.Positions) e = not_found _ _ positions_entered [] e
-words_named (commands.OnJournal (journals.Notices d)) e = not_found _ _ notices_entered (day_text d ∷ []) e
+words_named (commands.OnJournal (journals.Positions pool)) e = not_found _ _ positions_entered (pool_values pool) e
+words_named (commands.OnJournal (journals.Notices d pool)) e = not_found _ _ notices_entered (day_text d ∷ pool_values pool) e
 words_named (commands.OnInput (inputs.Import n)) e = not_found _ _ import_entered (decimal n ∷ []) e
 words_named (commands.OnJournal (journals.Weigh k d)) e = not_found _ _ weigh_entered (kind_text k ∷ day_text d ∷ []) e
 words_named (commands.Trial x y z) e = not_found _ _ trial_entered (decimal x ∷ decimal y ∷ decimal z ∷ []) e
@@ -177,8 +217,8 @@ after_name commands.Run found rows given rest plain none is = plain_rest _ run_e
 after_name (commands.OnInput inputs.Check) found rows given rest plain none is = plain_rest _ check_entered rest plain none
 after_name (commands.OnInput inputs.Explain) found rows given rest plain none is = plain_rest _ explain_entered rest plain none
 after_name (commands.OnJournal journals.Audit) found rows given rest plain none is = plain_rest _ audit_entered rest plain none
-after_name (commands.OnJournal journals.Positions) found rows given rest plain none is = plain_rest _ positions_entered rest plain none
-after_name (commands.OnJournal (journals.Notices d)) found rows given rest plain none is = notices_rest rest plain none found rows is _ given.1
+after_name (commands.OnJournal (journals.Positions pool)) found rows given rest plain none is = positions_rest rest plain none found rows is pool given.1
+after_name (commands.OnJournal (journals.Notices d pool)) found rows given rest plain none is = notices_rest rest plain none found rows is _ pool given.1.0 given.1.1
 after_name (commands.OnInput (inputs.Import n)) found rows given rest plain none is = import_rest rest plain none found rows is _ given.1
 after_name (commands.OnJournal (journals.Weigh k d)) found rows given rest plain none is = weigh_rest rest plain none found rows is _ _ given.1.0 given.1.1
 after_name (commands.Trial x y z) found rows given rest plain none is = trial_rest rest plain none found rows is _ _ _ given.1.0 given.1.1 given.1.2

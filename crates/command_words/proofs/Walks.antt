@@ -13,7 +13,8 @@ use Rattle.clap.specs.Faults.{check_fault, defaults_fault, entered_fault, fault_
 use Rattle.clap.proofs.OnLiterals.{clap_on_literals}
 use Rattle.clap.proofs.WalkLemmas.{walk_stopped}
 use Rattle.clap.proofs.FaultLemmas.{stopped_fault}
-use Rattle.command_words.specs.Program.{bare, program, value}
+use Rattle.command_words.specs.Program.{bare, choice, program, value}
+use Rattle.command_words.specs.Words.{pool_values}
 use Rattle.command_words.specs.Reading.{is_option}
 
 pub is_free : is_simple_and_free program ≡ true
@@ -109,6 +110,36 @@ one_value name id (x ∷ y ∷ xs) plain e =
     let q = plain_of y (or_false (is_option y) (list_any is_option xs) first.1).0 in
     some_kind _ _ (rw (p.dashes, p.long, p.short, q.dashes, q.long, q.short) at e)
 
+-- the one value of a command that may be left out
+one_choice : (name id : Text) (rest : List Text) → list_any is_option rest ≡ false → level_fault (leaf name (choice id ∷ [])) [] nothing_held rest false [] ≡ []
+    → (x : Option Text) × (rest ≡ pool_values x)
+unfolding clap_on_literals
+one_choice name id [] plain e = (None, refl)
+one_choice name id (x ∷ []) plain e = (Some x, refl)
+one_choice name id (x ∷ y ∷ xs) plain e =
+    let first = or_false (is_option x) (list_any is_option (y ∷ xs)) plain in
+    let p = plain_of x first.0 in
+    let q = plain_of y (or_false (is_option y) (list_any is_option xs) first.1).0 in
+    some_kind _ _ (rw (p.dashes, p.long, p.short, q.dashes, q.long, q.short) at e)
+
+-- the values of the table of claims, the last of which may be left out
+abbrev notices_leaf : Shape
+notices_leaf = leaf (codes "notices") (value (codes "DATE") ∷ choice (codes "POOL") ∷ [])
+
+one_or_two_values : (rest : List Text) → list_any is_option rest ≡ false → level_fault notices_leaf [] nothing_held rest false [] ≡ []
+    → (x : Text) × ((y : Option Text) × (rest ≡ x ∷ pool_values y))
+unfolding clap_on_literals
+one_or_two_values [] plain e = some_kind _ _ e
+one_or_two_values (x ∷ []) plain e = (x, (None, refl))
+one_or_two_values (x ∷ y ∷ []) plain e = (x, (Some y, refl))
+one_or_two_values (x ∷ y ∷ other ∷ xs) plain e =
+    let first = or_false (is_option x) (list_any is_option (y ∷ other ∷ xs)) plain in
+    let second = or_false (is_option y) (list_any is_option (other ∷ xs)) first.1 in
+    let p = plain_of x first.0 in
+    let q = plain_of y second.0 in
+    let r = plain_of other (or_false (is_option other) (list_any is_option xs) second.1).0 in
+    some_kind _ _ (rw (p.dashes, p.long, p.short, q.dashes, q.long, q.short, r.dashes, r.long, r.short) at e)
+
 -- the values of a weighing
 abbrev weigh_leaf : Shape
 weigh_leaf = leaf (codes "weigh") (value (codes "KIND") ∷ value (codes "DATE") ∷ [])
@@ -174,11 +205,11 @@ pub audit_entered : IsEntered (codes "audit") (leaf (codes "audit") [])
 unfolding clap_on_literals
 audit_entered = record { walked_to = refl; no_fault = refl; found = refl }
 
-pub positions_entered : IsEntered (codes "positions") (leaf (codes "positions") [])
+pub positions_entered : IsEntered (codes "positions") (leaf (codes "positions") (choice (codes "POOL") ∷ []))
 unfolding clap_on_literals
 positions_entered = record { walked_to = refl; no_fault = refl; found = refl }
 
-pub notices_entered : IsEntered (codes "notices") (leaf (codes "notices") (value (codes "DATE") ∷ []))
+pub notices_entered : IsEntered (codes "notices") notices_leaf
 unfolding clap_on_literals
 notices_entered = record { walked_to = refl; no_fault = refl; found = refl }
 
@@ -258,9 +289,25 @@ found_is f words x known found rows is = ap (λ o. unwrap_or o x) (sym (ap (opti
 abbrev pub name_and : Text → Text × List Row → Text × Option Text
 name_and id p = (p.0, first_of id p.1)
 
-pub notices_values : (x : Text) → IsPlain x → option_map (name_and (codes "DATE")) (subcommand_of program (codes "notices" ∷ x ∷ [])) ≡ Some (codes "notices", Some x)
+-- a value, where there is one, is no flag
+abbrev pub IsPlainPool : Option Text → Type 0
+IsPlainPool None = Unit {0}
+IsPlainPool (Some pool) = IsPlain pool
+
+pub positions_values : (pool : Option Text) → IsPlainPool pool
+    → option_map (name_and (codes "POOL")) (subcommand_of program (codes "positions" ∷ pool_values pool)) ≡ Some (codes "positions", pool)
 unfolding clap_on_literals
-notices_values x p = rw (p.dashes, p.long, p.short) refl
+positions_values None p = refl
+positions_values (Some x) p = rw (p.dashes, p.long, p.short) refl
+
+abbrev pub name_and_day : Text × List Row → Text × Option Text × Option Text
+name_and_day p = (p.0, first_of (codes "DATE") p.1, first_of (codes "POOL") p.1)
+
+pub notices_values : (x : Text) (pool : Option Text) → IsPlain x → IsPlainPool pool
+    → option_map name_and_day (subcommand_of program (codes "notices" ∷ x ∷ pool_values pool)) ≡ Some (codes "notices", Some x, pool)
+unfolding clap_on_literals
+notices_values x None p q = rw (p.dashes, p.long, p.short) refl
+notices_values x (Some y) p q = rw (p.dashes, p.long, p.short, q.dashes, q.long, q.short) refl
 
 pub import_values : (x : Text) → IsPlain x → option_map (name_and (codes "LANE")) (subcommand_of program (codes "import" ∷ x ∷ [])) ≡ Some (codes "import", Some x)
 unfolding clap_on_literals
@@ -300,9 +347,34 @@ one_rest name id e values rest plain none found rows is text given =
     let value_is : first_of id rows ≡ Some x = ap (λ (q : Text × Option Text). q.1) (found_is (name_and id) (name ∷ x ∷ []) (name, Some x) (values x p) found rows at) in
     one.1 ∙ ap (λ (t : Text). t ∷ []) (some_text (sym value_is ∙ given))
 
+plain_pool : (pool : Option Text) → list_any is_option (pool_values pool) ≡ false → IsPlainPool pool
+plain_pool None plain = tt
+plain_pool (Some x) plain = plain_of x (or_false (is_option x) false plain).0
+
+pub positions_rest : (rest : List Text) → list_any is_option rest ≡ false → fault_of program (codes "positions" ∷ rest) ≡ [] → (found : Text) (rows : List Row)
+    → subcommand_of program (codes "positions" ∷ rest) ≡ Some (found, rows) → (pool : Option Text) → first_of (codes "POOL") rows ≡ pool → rest ≡ pool_values pool
+positions_rest rest plain none found rows is pool given =
+    let one = one_choice (codes "positions") (codes "POOL") rest plain (taken_below (codes "positions") _ positions_entered rest none) in
+    let x = one.0 in
+    let p = plain_pool x (ap (list_any is_option) (sym one.1) ∙ plain) in
+    let at : subcommand_of program (codes "positions" ∷ pool_values x) ≡ Some (found, rows) = ap (λ (r : List Text). subcommand_of program (codes "positions" ∷ r)) (sym one.1) ∙ is in
+    let value_is = ap (λ (q : Text × Option Text). q.1)
+    (found_is (name_and (codes "POOL")) (codes "positions" ∷ pool_values x) (codes "positions", x) (positions_values x p) found rows at) in
+    one.1 ∙ ap pool_values (sym value_is ∙ given)
+
 pub notices_rest : (rest : List Text) → list_any is_option rest ≡ false → fault_of program (codes "notices" ∷ rest) ≡ [] → (found : Text) (rows : List Row)
-    → subcommand_of program (codes "notices" ∷ rest) ≡ Some (found, rows) → (text : Text) → first_of (codes "DATE") rows ≡ Some text → rest ≡ text ∷ []
-notices_rest = one_rest (codes "notices") (codes "DATE") notices_entered notices_values
+    → subcommand_of program (codes "notices" ∷ rest) ≡ Some (found, rows) → (text : Text) (pool : Option Text) → first_of (codes "DATE") rows ≡ Some text
+    → first_of (codes "POOL") rows ≡ pool → rest ≡ text ∷ pool_values pool
+notices_rest rest plain none found rows is text pool ex ey =
+    let two = one_or_two_values rest plain (taken_below (codes "notices") _ notices_entered rest none) in
+    let u = two.0 in
+    let v = two.1.0 in
+    let parts = or_false (is_option u) (list_any is_option (pool_values v)) (ap (list_any is_option) (sym two.1.1) ∙ plain) in
+    let at : subcommand_of program (codes "notices" ∷ u ∷ pool_values v) ≡ Some (found, rows) = ap (λ (r : List Text). subcommand_of program (codes "notices" ∷ r)) (sym two.1.1) ∙ is in
+    let values = found_is name_and_day (codes "notices" ∷ u ∷ pool_values v) (codes "notices", Some u, v) (notices_values u v (plain_of u parts.0) (plain_pool v parts.1)) found rows at in
+    let a : u ≡ text = some_text (sym (ap (λ (q : Text × Option Text × Option Text). q.1) values) ∙ ex) in
+    let b : v ≡ pool = sym (ap (λ (q : Text × Option Text × Option Text). q.2) values) ∙ ey in
+    two.1.1 ∙ rw (a, b) refl
 
 pub import_rest : (rest : List Text) → list_any is_option rest ≡ false → fault_of program (codes "import" ∷ rest) ≡ [] → (found : Text) (rows : List Row)
     → subcommand_of program (codes "import" ∷ rest) ≡ Some (found, rows) → (text : Text) → first_of (codes "LANE") rows ≡ Some text → rest ≡ text ∷ []
@@ -347,9 +419,15 @@ pub plain_taken : (name : Text) → IsEntered name (leaf name []) → fault_of p
 unfolding clap_on_literals
 plain_taken name e = below_is name (leaf name []) e []
 
-pub notices_taken : (x : Text) → IsPlain x → fault_of program (codes "notices" ∷ x ∷ []) ≡ []
+pub positions_taken : (pool : Option Text) → IsPlainPool pool → fault_of program (codes "positions" ∷ pool_values pool) ≡ []
 unfolding clap_on_literals
-notices_taken x p = rw (p.dashes, p.long, p.short) refl
+positions_taken None p = refl
+positions_taken (Some x) p = rw (p.dashes, p.long, p.short) refl
+
+pub notices_taken : (x : Text) (pool : Option Text) → IsPlain x → IsPlainPool pool → fault_of program (codes "notices" ∷ x ∷ pool_values pool) ≡ []
+unfolding clap_on_literals
+notices_taken x None p q = rw (p.dashes, p.long, p.short) refl
+notices_taken x (Some y) p q = rw (p.dashes, p.long, p.short, q.dashes, q.long, q.short) refl
 
 pub import_taken : (x : Text) → IsPlain x → fault_of program (codes "import" ∷ x ∷ []) ≡ []
 unfolding clap_on_literals

@@ -1,11 +1,18 @@
 -- The program as `clap` sees it.
-use Rattle.std.specs.Prelude.{ℕ, List, [], ◌∷◌, true, codes}
+use Rattle.std.specs.Prelude.{ℕ, List, [], ◌∷◌, Bool, true, false, codes}
 use Rattle.clap.specs.Simple.{App, Shape, new_rule, new_shape, with_subcommand}
 use Rattle.clap.specs.Walk.{Rule}
 
--- a value that a command asks for
+-- a value of a command, which it may ask for
+abbrev pub value_of : List ℕ → Bool → Rule
+value_of id asked = record (new_rule id) { required = asked }
+
+-- one that it asks for, and one that may be left out
 abbrev pub value : List ℕ → Rule
-value id = record (new_rule id) { required = true }
+value id = value_of id true
+
+abbrev pub choice : List ℕ → Rule
+choice id = value_of id false
 
 -- the program without its commands: its first word is no name of a program, and it has no help
 abbrev pub bare : App
@@ -29,8 +36,11 @@ knowing name rules app = with_subcommand app (shape_of name rules)
 
 -- the program with the commands that take no value
 abbrev pub plain : App
-plain = knowing (codes "positions") [] (knowing (codes "audit") []
-    (knowing (codes "explain") [] (knowing (codes "check") [] (knowing (codes "run") [] bare))))
+plain = knowing (codes "audit") [] (knowing (codes "explain") [] (knowing (codes "check") [] (knowing (codes "run") [] bare)))
+
+-- the values of the table of claims
+abbrev pub notices_values : List Rule
+notices_values = value (codes "DATE") ∷ choice (codes "POOL") ∷ []
 
 -- the values of a weighing
 abbrev pub weigh_values : List Rule
@@ -45,4 +55,5 @@ abbrev pub program : App
 program = knowing (codes "trial") trial_values
     (knowing (codes "weigh") weigh_values
     (knowing (codes "import") (value (codes "LANE") ∷ [])
-    (knowing (codes "notices") (value (codes "DATE") ∷ []) plain)))
+    (knowing (codes "notices") notices_values
+    (knowing (codes "positions") (choice (codes "POOL") ∷ []) plain))))

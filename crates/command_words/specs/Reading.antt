@@ -22,8 +22,9 @@ AreGiven (commands.OnInput inputs.Check) value = Unit {0}
 AreGiven (commands.OnInput inputs.Explain) value = Unit {0}
 AreGiven (commands.OnInput (inputs.Import lane)) value = value (codes "LANE") ≡ Some (decimal lane)
 AreGiven (commands.OnJournal journals.Audit) value = Unit {0}
-AreGiven (commands.OnJournal journals.Positions) value = Unit {0}
-AreGiven (commands.OnJournal (journals.Notices today)) value = value (codes "DATE") ≡ Some (day_text today)
+AreGiven (commands.OnJournal (journals.Positions pool)) value = value (codes "POOL") ≡ pool
+AreGiven (commands.OnJournal (journals.Notices today pool)) value = (value (codes "DATE") ≡ Some (day_text today))
+    × (value (codes "POOL") ≡ pool)
 AreGiven (commands.OnJournal (journals.Weigh kind today)) value = (value (codes "KIND") ≡ Some (kind_text kind))
     × (value (codes "DATE") ≡ Some (day_text today))
 AreGiven (commands.Trial firms claims seed) value = (value (codes "FIRMS") ≡ Some (decimal firms))

@@ -1,13 +1,21 @@
 -- The words of the program's command line.
-use Rattle.std.specs.Prelude.{◌≡◌, ◌≤◌, ◌<◌, ◌^◌, ℕ, List, [], ◌∷◌, codes, decimal}
+use Rattle.std.specs.Prelude.{◌≡◌, ◌≤◌, ◌<◌, ◌^◌, ℕ, List, [], ◌∷◌, Option, Some, None, true, codes, decimal}
 use Rattle.setoff_model.specs.declared.limits.TheConstants.{LAST_DAY, MOST_FIRMS, MOST_CLAIMS}
+use Rattle.setoff_model.specs.Names.{is_name}
 use Rattle.setoff_model.specs.Texts.{kind_text}
 use Rattle.claim_history.specs.Days.{day_text}
+use Rattle.claim_history.specs.Pools.{main_pool}
 use Rattle.request_text.specs.Lanes.{IsLane}
 use Rattle.command_words.specs.declared.command.Command.{Command}
 use Rattle.command_words.specs.declared.command.Command.TheVariants as commands
 use Rattle.command_words.specs.declared.input_report.InputReport.TheVariants as inputs
+use Rattle.command_words.specs.declared.journal_report.JournalReport.{JournalReport}
 use Rattle.command_words.specs.declared.journal_report.JournalReport.TheVariants as journals
+
+-- the pool has a name, where one is given
+abbrev pub IsPool : Option (List ℕ) → Type 0
+IsPool None = Unit {0}
+IsPool (Some pool) = is_name pool ≡ true
 
 -- the values of a command are in their ranges
 abbrev pub IsCommand : Command → Type 0
@@ -16,8 +24,8 @@ IsCommand (commands.OnInput inputs.Check) = Unit {0}
 IsCommand (commands.OnInput inputs.Explain) = Unit {0}
 IsCommand (commands.OnInput (inputs.Import lane)) = IsLane lane
 IsCommand (commands.OnJournal journals.Audit) = Unit {0}
-IsCommand (commands.OnJournal journals.Positions) = Unit {0}
-IsCommand (commands.OnJournal (journals.Notices today)) = today ≤ LAST_DAY
+IsCommand (commands.OnJournal (journals.Positions pool)) = IsPool pool
+IsCommand (commands.OnJournal (journals.Notices today pool)) = (today ≤ LAST_DAY) × IsPool pool
 IsCommand (commands.OnJournal (journals.Weigh kind today)) = today ≤ LAST_DAY
 IsCommand (commands.Trial firms claims seed) = (2 ≤ firms) × (firms ≤ MOST_FIRMS) × (1 ≤ claims) × (claims ≤ MOST_CLAIMS) × (seed < 2 ^ 32)
 
@@ -28,10 +36,15 @@ name_of (commands.OnInput inputs.Check) = codes "check"
 name_of (commands.OnInput inputs.Explain) = codes "explain"
 name_of (commands.OnInput (inputs.Import lane)) = codes "import"
 name_of (commands.OnJournal journals.Audit) = codes "audit"
-name_of (commands.OnJournal journals.Positions) = codes "positions"
-name_of (commands.OnJournal (journals.Notices today)) = codes "notices"
+name_of (commands.OnJournal (journals.Positions pool)) = codes "positions"
+name_of (commands.OnJournal (journals.Notices today pool)) = codes "notices"
 name_of (commands.OnJournal (journals.Weigh kind today)) = codes "weigh"
 name_of (commands.Trial firms claims seed) = codes "trial"
+
+-- the value that names a pool, where one is given
+abbrev pub pool_values : Option (List ℕ) → List (List ℕ)
+pool_values None = []
+pool_values (Some pool) = pool ∷ []
 
 -- the values of a command, as they are spelled
 abbrev pub values_of : Command → List (List ℕ)
@@ -40,8 +53,8 @@ values_of (commands.OnInput inputs.Check) = []
 values_of (commands.OnInput inputs.Explain) = []
 values_of (commands.OnInput (inputs.Import lane)) = decimal lane ∷ []
 values_of (commands.OnJournal journals.Audit) = []
-values_of (commands.OnJournal journals.Positions) = []
-values_of (commands.OnJournal (journals.Notices today)) = day_text today ∷ []
+values_of (commands.OnJournal (journals.Positions pool)) = pool_values pool
+values_of (commands.OnJournal (journals.Notices today pool)) = day_text today ∷ pool_values pool
 values_of (commands.OnJournal (journals.Weigh kind today)) = kind_text kind ∷ day_text today ∷ []
 values_of (commands.Trial firms claims seed) = decimal firms ∷ decimal claims ∷ decimal seed ∷ []
 
@@ -60,3 +73,9 @@ AreNoWords words = (command : Command) → AreWordsOf command words → ⊥
 -- two commands with the same words are one
 abbrev pub OneCommandLaw : Type 0
 OneCommandLaw = (words : List (List ℕ)) (command other : Command) → AreWordsOf command words → AreWordsOf other words → command ≡ other
+
+-- the pool of which a report speaks: the one that its words name, else MAIN
+abbrev pub pool_of : JournalReport → List ℕ
+pool_of (journals.Positions (Some pool)) = pool
+pool_of (journals.Notices today (Some pool)) = pool
+pool_of report = main_pool

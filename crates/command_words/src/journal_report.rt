@@ -1,18 +1,26 @@
 //! Reports on a journal.
-use claim_history::Day;
-use setoff_model::Kind;
+ghost use Rattle.std.specs.Prelude.{◌≡◌};
+ghost use Rattle.command_words.specs.Words.{pool_of};
+
+use claim_history::{Day, main_pool_name};
+use setoff_model::{Kind, Name};
 
 /// What tells of the disk's journal: it is read and not written, and the source is not called.
 #[derive(Clone, Copy, PartialEq, Eq)]
 pub enum JournalReport {
     /// `audit`: replays it, and tells whether it is sound.
     Audit,
-    /// `positions`: prints the position of every firm.
-    Positions,
-    /// `notices DATE`: prints the open claims, with the days that they are overdue.
+    /// `positions` or `positions POOL`: prints the position of every firm of a pool.
+    Positions {
+        /// The pool, where the words name one. Else it is MAIN.
+        pool: Option<Name>,
+    },
+    /// `notices DATE` or `notices DATE POOL`: prints the open claims of a pool, with the days that they are overdue.
     Notices {
         /// The day on which that is counted.
         today: Day,
+        /// The pool, where the words name one. Else it is MAIN.
+        pool: Option<Name>,
     },
     /// `weigh KIND DATE`: prints a set-off in which claims that are longer overdue count more.
     Weigh {
@@ -21,4 +29,20 @@ pub enum JournalReport {
         /// The last day on which a claim of the cut is due, and the day on which it is counted how long claims are overdue.
         today: Day,
     },
+}
+
+impl JournalReport {
+    /// The pool of which a report speaks: the one that its words name, else MAIN. An audit counts the acts of all pools.
+    pub fn pool(&self) -> Name
+        ensures { result ≡ pool_of self.now }
+    {
+        match self {
+            JournalReport::Positions { pool: Some(pool) } => *pool,
+            JournalReport::Notices {
+                pool: Some(pool),
+                ..
+            } => *pool,
+            _ => main_pool_name(),
+        }
+    }
 }

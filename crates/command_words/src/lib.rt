@@ -1,12 +1,13 @@
 //! The words of the program's command line.
 //!
-//! A command is a first word and the values that it takes: `run`, `check`, `explain`, `audit`, `positions`, `notices DATE`,
-//! `weigh KIND DATE`, `import LANE` or `trial FIRMS CLAIMS SEED`. The words are exactly such a list, or are refused.
+//! A command is a first word and the values that it takes: `run`, `check`, `explain`, `audit`, `positions`, `positions POOL`,
+//! `notices DATE`, `notices DATE POOL`, `weigh KIND DATE`, `import LANE` or `trial FIRMS CLAIMS SEED`. The words are exactly such a
+//! list, or are refused.
 //!
 //! - A word that begins with `-` is refused before the parse.
 //! - `clap` decides which command the first word names, and how many values there are. It has no `help` here, and no
 //!   flags.
-//! - What a value may be is decided by the readers of the product: a day, a kind, or decimal digits without a superfluous
+//! - What a value may be is decided by the readers of the product: a day, a kind, a name, or decimal digits without a superfluous
 //!   leading zero, in the range of the value.
 #![tactic(auto)]
 

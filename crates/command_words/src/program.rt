@@ -2,17 +2,22 @@
 ghost use Rattle.std.specs.Prelude.{◌≡◌, ◌∷◌, [], IfOk, codes, false};
 ghost use Rattle.clap.specs.Words.{app_of, with_rule};
 ghost use Rattle.clap.specs.declared.builder.command.Command.TheViews.{out-Command};
-ghost use Rattle.command_words.specs.Program.{knowing, plain, program as whole, shape_of, trial_values, value, weigh_values};
+ghost use Rattle.command_words.specs.Program.{knowing, plain, program as whole, shape_of, trial_values, value, value_of};
 
 use clap::{Arg, Command};
 use std::alloc::{AllocError, Global};
 
-// The command with one more value, which it asks for.
-fn taking<'a>(alloc: Global, command: Command<'a>, id: &'a str) -> Result<Command<'a>, AllocError>
-    ensures shape { IfOk result (λ c. app_of c ≡ with_rule (app_of command.entry) (value id.entry.now)) }
+// The command with one more value, which it asks for, or which may be left out.
+fn taking<'a>(
+    alloc: Global,
+    command: Command<'a>,
+    id: &'a str,
+    asked: bool,
+) -> Result<Command<'a>, AllocError>
+    ensures shape { IfOk result (λ c. app_of c ≡ with_rule (app_of command.entry) (value_of id.entry.now asked)) }
     ensures globals { (out-Command command.entry).has_globals ≡ false → IfOk result (λ c. (out-Command c).has_globals ≡ false) }
 {
-    command.arg(Arg::new(alloc, id).required(true))
+    command.arg(Arg::new(alloc, id).required(asked))
 }
 
 // A command that takes one value, added to the program.
@@ -21,10 +26,11 @@ fn with_one<'a>(
     program: Command<'a>,
     name: &'a str,
     id: &'a str,
+    asked: bool,
 ) -> Result<Command<'a>, AllocError>
-    ensures shape { IfOk result (λ c. app_of c ≡ knowing name.entry.now (value id.entry.now ∷ []) (app_of program.entry)) }
+    ensures shape { IfOk result (λ c. app_of c ≡ knowing name.entry.now (value_of id.entry.now asked ∷ []) (app_of program.entry)) }
 {
-    match taking(alloc, Command::new(alloc, name), id) {
+    match taking(alloc, Command::new(alloc, name), id, asked) {
         Ok(command) => program.subcommand(command),
         Err(e) => {
             drop(program);
@@ -33,22 +39,35 @@ fn with_one<'a>(
     }
 }
 
-// The command `weigh`, which takes two values.
-fn weigh<'a>(alloc: Global) -> Result<Command<'a>, AllocError>
-    ensures shape { IfOk result (λ c. (app_of c).top ≡ shape_of (codes "weigh") weigh_values) }
+// A command that takes two values, the first of which it asks for.
+fn of_two<'a>(
+    alloc: Global,
+    name: &'a str,
+    first: &'a str,
+    second: &'a str,
+    asked: bool,
+) -> Result<Command<'a>, AllocError>
+    ensures shape { IfOk result (λ c. (app_of c).top ≡ shape_of name.entry.now (value first.entry.now ∷ value_of second.entry.now asked ∷ [])) }
     ensures globals { IfOk result (λ c. (out-Command c).has_globals ≡ false) }
 {
-    let weigh = taking(alloc, Command::new(alloc, "weigh"), "KIND")?;
-    let weigh = taking(alloc, weigh, "DATE")?;
-    Ok(weigh)
+    let command = taking(alloc, Command::new(alloc, name), first, true)?;
+    let command = taking(alloc, command, second, asked)?;
+    Ok(command)
 }
 
 // The same, added to the program.
-fn with_weigh<'a>(alloc: Global, program: Command<'a>) -> Result<Command<'a>, AllocError>
-    ensures shape { IfOk result (λ c. app_of c ≡ knowing (codes "weigh") weigh_values (app_of program.entry)) }
+fn with_two<'a>(
+    alloc: Global,
+    program: Command<'a>,
+    name: &'a str,
+    first: &'a str,
+    second: &'a str,
+    asked: bool,
+) -> Result<Command<'a>, AllocError>
+    ensures shape { IfOk result (λ c. app_of c ≡ knowing name.entry.now (value first.entry.now ∷ value_of second.entry.now asked ∷ []) (app_of program.entry)) }
 {
-    match weigh(alloc) {
-        Ok(weigh) => program.subcommand(weigh),
+    match of_two(alloc, name, first, second, asked) {
+        Ok(command) => program.subcommand(command),
         Err(e) => {
             drop(program);
             Err(e)
@@ -61,9 +80,9 @@ fn trial<'a>(alloc: Global) -> Result<Command<'a>, AllocError>
     ensures shape { IfOk result (λ c. (app_of c).top ≡ shape_of (codes "trial") trial_values) }
     ensures globals { IfOk result (λ c. (out-Command c).has_globals ≡ false) }
 {
-    let trial = taking(alloc, Command::new(alloc, "trial"), "FIRMS")?;
-    let trial = taking(alloc, trial, "CLAIMS")?;
-    let trial = taking(alloc, trial, "SEED")?;
+    let trial = taking(alloc, Command::new(alloc, "trial"), "FIRMS", true)?;
+    let trial = taking(alloc, trial, "CLAIMS", true)?;
+    let trial = taking(alloc, trial, "SEED", true)?;
     Ok(trial)
 }
 
@@ -84,9 +103,10 @@ fn with_trial<'a>(alloc: Global, program: Command<'a>) -> Result<Command<'a>, Al
 fn with_values<'a>(alloc: Global, program: Command<'a>) -> Result<Command<'a>, AllocError>
     ensures shape { app_of program.entry ≡ plain → IfOk result (λ c. app_of c ≡ whole) }
 {
-    let known = with_one(alloc, program, "notices", "DATE")?;
-    let known = with_one(alloc, known, "import", "LANE")?;
-    let known = with_weigh(alloc, known)?;
+    let known = with_one(alloc, program, "positions", "POOL", false)?;
+    let known = with_two(alloc, known, "notices", "DATE", "POOL", false)?;
+    let known = with_one(alloc, known, "import", "LANE", true)?;
+    let known = with_two(alloc, known, "weigh", "KIND", "DATE", true)?;
     with_trial(alloc, known)
 }
 
@@ -102,7 +122,6 @@ pub(crate) fn program<'a>(alloc: Global) -> Result<Command<'a>, AllocError>
         .subcommand(Command::new(alloc, "run"))?
         .subcommand(Command::new(alloc, "check"))?
         .subcommand(Command::new(alloc, "explain"))?
-        .subcommand(Command::new(alloc, "audit"))?
-        .subcommand(Command::new(alloc, "positions"))?;
+        .subcommand(Command::new(alloc, "audit"))?;
     with_values(alloc, program)
 }

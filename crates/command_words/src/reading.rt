@@ -1,5 +1,5 @@
 //! The words, as a command.
-ghost use Rattle.std.specs.Prelude.{◌≡◌, ◌≤◌, ℕ, codes, [], map, string_bytes, decimal, IfOk, IfErr, IfSome, IfNone, Some};
+ghost use Rattle.std.specs.Prelude.{◌≡◌, ◌≤◌, ℕ, List, Option, codes, [], map, string_bytes, decimal, IfOk, IfErr, IfSome, IfNone, Some};
 ghost use Rattle.std.specs.List.{list_any};
 ghost use Rattle.setoff_model.specs.declared.limits.TheConstants.{LAST_DAY};
 ghost use Rattle.setoff_model.specs.Texts.{kind_text};
@@ -10,7 +10,7 @@ ghost use Rattle.clap.specs.Values.{kind_of};
 ghost use Rattle.clap.specs.declared.error.kind.ErrorKind.TheVariants.{OutOfMemory};
 ghost use Rattle.command_words.specs.declared.command.Command.{Command as CommandOf};
 ghost use Rattle.command_words.specs.Program.{program};
-ghost use Rattle.command_words.specs.Words.{AreWordsOf, AreNoWords, IsCommand};
+ghost use Rattle.command_words.specs.Words.{AreWordsOf, AreNoWords, IsCommand, IsPool};
 ghost use Rattle.command_words.specs.Reading.{IsFoundIn, IsGiven, is_option};
 
 use crate::command::Command;
@@ -22,7 +22,7 @@ use claim_history::Day;
 use clap::error::ErrorKind;
 use clap::{ArgMatches, Error};
 use setoff_model::limits::{MOST_CLAIMS, MOST_FIRMS, MOST_LANES};
-use setoff_model::{Kind, read_kind, read_number};
+use setoff_model::{Kind, Name, read_kind, read_number};
 use std::alloc::Global;
 
 fn is_option(word: &str) -> bool
@@ -84,13 +84,35 @@ fn import_at(values: &ArgMatches) -> Option<Command>
     Some(Command::OnInput(InputReport::Import { lane }))
 }
 
-// The command `notices` with its value.
+// The pool that is the value of this name, if there is one.
+fn pool_at(values: &ArgMatches, id: &str) -> Option<Option<Name>>
+    ensures found { IfSome result (λ pool. IsPool pool × (first_value (found_of values.now) id.now ≡ pool)) }
+    ensures none { IfNone result ((pool : Option (List ℕ)) → IsPool pool → first_value (found_of values.now) id.now ≡ pool → ⊥) }
+{
+    let Some(text) = values.get_str(id) else {
+        return Some(None);
+    };
+    let pool = Name::of(text.as_bytes())?;
+    Some(Some(pool))
+}
+
+// The command `positions` with its value.
+fn positions_at(values: &ArgMatches) -> Option<Command>
+    ensures found { IfSome result (λ c. IsCommand c × IsGiven c (codes "positions") (first_value (found_of values.now))) }
+    ensures none { IfNone result ((c : CommandOf) → IsCommand c → IsGiven c (codes "positions") (first_value (found_of values.now)) → ⊥) }
+{
+    let pool = pool_at(values, "POOL")?;
+    Some(Command::OnJournal(JournalReport::Positions { pool }))
+}
+
+// The command `notices` with its values.
 fn notices_at(values: &ArgMatches) -> Option<Command>
     ensures found { IfSome result (λ c. IsCommand c × IsGiven c (codes "notices") (first_value (found_of values.now))) }
     ensures none { IfNone result ((c : CommandOf) → IsCommand c → IsGiven c (codes "notices") (first_value (found_of values.now)) → ⊥) }
 {
     let today = day_at(values, "DATE")?;
-    Some(Command::OnJournal(JournalReport::Notices { today }))
+    let pool = pool_at(values, "POOL")?;
+    Some(Command::OnJournal(JournalReport::Notices { today, pool }))
 }
 
 // The command `weigh` with its values.
@@ -126,7 +148,7 @@ fn given(name: &str, values: &ArgMatches) -> Option<Command>
         "explain" => Some(Command::OnInput(InputReport::Explain)),
         "import" => import_at(values),
         "audit" => Some(Command::OnJournal(JournalReport::Audit)),
-        "positions" => Some(Command::OnJournal(JournalReport::Positions)),
+        "positions" => positions_at(values),
         "notices" => notices_at(values),
         "weigh" => weigh_at(values),
         "trial" => trial_at(values),

@@ -6,8 +6,8 @@ run                       serves the requests of the input, and keeps them in th
 check                     judges the statement of the input
 explain                   cuts the round of the statement into chains of claims
 audit                     replays the journal, and tells whether it is sound
-positions                 prints the position of every firm as CSV
-notices DATE              prints the open claims as CSV, with the days that they are overdue on DATE
+positions [POOL]          prints the position of every firm of a pool as CSV, of MAIN where none is named
+notices DATE [POOL]       prints the open claims of a pool as CSV, with the days that they are overdue on DATE
 weigh KIND DATE           prints a set-off in which claims that are longer overdue on DATE count more
 import LANE               turns the invoices of the input into FILE requests
 trial FIRMS CLAIMS SEED   makes a large input from a number, and serves it

@@ -3,11 +3,13 @@ use Rattle.std.specs.Prelude.{ℕ, List, [], ◌++◌, codes, decimal}
 use Rattle.setoff_model.specs.Texts.{cents_text, signed_cents_text}
 use Rattle.claim_history.specs.Acts.{act_text}
 use Rattle.claim_history.specs.declared.fact.Position.{Position}
+use Rattle.claim_history.specs.declared.call.PoolEntry.{PoolEntry}
 use Rattle.claim_history.specs.declared.entry.Entry.{Entry}
 use Rattle.claim_history.specs.declared.entry.Why.{Why}
 use Rattle.claim_history.specs.declared.entry.Why.TheVariants as why
 use Rattle.claim_history.specs.declared.entry.Reply.{Reply}
 use Rattle.claim_history.specs.declared.entry.Reply.TheVariants as reply
+use Rattle.request_text.specs.Pools.{pool_text}
 
 -- the number and name of a refusal
 abbrev pub why_name : Why → List ℕ
@@ -62,6 +64,10 @@ reply_text (reply.Published total) = codes "published " ++ cents_text total
 reply_text (reply.Abandoned round) = codes "abandoned" ++ spaced round
 reply_text (reply.Refused w) = codes "refused " ++ why_text w
 
--- one line for an entry: `caller REQUEST = REPLY`
-abbrev pub entry_line : Entry → List ℕ
-entry_line entry = decimal entry.caller ++ codes " " ++ act_text entry.act ++ codes " = " ++ reply_text entry.reply ++ codes "\n"
+-- what an entry tells behind its caller and its pool: `REQUEST = REPLY`
+abbrev pub entry_text : Entry → List ℕ
+entry_text entry = act_text entry.act ++ codes " = " ++ reply_text entry.reply
+
+-- one line for an entry of a pool: `caller @POOL REQUEST = REPLY`, without `@POOL` where the pool is MAIN
+abbrev pub entry_line : PoolEntry → List ℕ
+entry_line m = decimal m.entry.caller ++ codes " " ++ pool_text m.pool ++ entry_text m.entry ++ codes "\n"

@@ -1,13 +1,15 @@
 //! The line of an entry.
-ghost use Rattle.std.specs.Prelude.{◌≡◌, ◌+◌, ◌<◌, ◌≤◌, ◌^◌, ◌++◌, unsigned_abs, length, codes, true, vec_len, vec_capacity};
+ghost use Rattle.std.specs.Prelude.{◌≡◌, ◌+◌, ◌<◌, ◌≤◌, ◌^◌, ◌++◌, unsigned_abs, length, codes, decimal, true, vec_len, vec_capacity};
 ghost use Rattle.setoff_model.specs.declared.limits.TheConstants.{SUM_LIMIT, LINE_BYTES};
 ghost use Rattle.setoff_model.specs.Texts.{cents_text, signed_cents_text};
 ghost use Rattle.claim_history.specs.Acts.{is_valid};
 ghost use Rattle.claim_history.specs.Laws.{IsReplyInRange};
-ghost use Rattle.entry_text.specs.Entries.{why_name, why_numbers, why_text, spaced, position_text, reply_text, entry_line};
+ghost use Rattle.claim_history.specs.Pools.{member_of};
+ghost use Rattle.entry_text.specs.Entries.{why_name, why_numbers, why_text, spaced, position_text, reply_text, entry_line, entry_text};
 
-use claim_history::{Entry, Position, Reply, Why, write_act};
-use setoff_model::{put, write_sum, write_whole};
+use claim_history::{Entry, PoolEntry, Position, Reply, Why, write_act};
+use request_text::write_pool;
+use setoff_model::{Name, put, write_sum, write_whole};
 
 // The number and name of a refusal.
 fn name_of(why: Why) -> &'static [u8]
@@ -55,10 +57,9 @@ fn write_balance(buffer: &mut Vec<u8>, cents: i64)
 
 fn write_named_sum(buffer: &mut Vec<u8>, name: &[u8], cents: u64)
     requires small { cents < SUM_LIMIT }
-    requires short { length name.now ≤ 12 }
-    requires spare { vec_len buffer.old + 31 ≤ vec_capacity buffer.old }
+    requires spare { vec_len buffer.old + (length name.now + 19) ≤ vec_capacity buffer.old }
     ensures text { buffer.new.items ≡ buffer.old.items ++ (name.now ++ cents_text cents) }
-    ensures len { vec_len buffer.new ≤ vec_len buffer.old + 31 }
+    ensures len { vec_len buffer.new ≤ vec_len buffer.old + (length name.now + 19) }
     ensures room { vec_capacity buffer.old ≤ vec_capacity buffer.new }
 {
     put(buffer, name);
@@ -69,9 +70,9 @@ fn write_position(buffer: &mut Vec<u8>, position: &Position)
     requires balance { unsigned_abs position.now.balance < SUM_LIMIT }
     requires receivable { position.now.receivable < SUM_LIMIT }
     requires payable { position.now.payable < SUM_LIMIT }
-    requires spare { vec_len buffer.old + 90 ≤ vec_capacity buffer.old }
+    requires spare { vec_len buffer.old + 87 ≤ vec_capacity buffer.old }
     ensures text { buffer.new.items ≡ buffer.old.items ++ position_text position.now }
-    ensures len { vec_len buffer.new ≤ vec_len buffer.old + 90 }
+    ensures len { vec_len buffer.new ≤ vec_len buffer.old + 87 }
     ensures room { vec_capacity buffer.old ≤ vec_capacity buffer.new }
 {
     put(buffer, b"balance ");
@@ -140,15 +141,15 @@ fn write_refusal(buffer: &mut Vec<u8>, why: Why)
     write_numbers(buffer, why);
 }
 
-/// Writes the text of a reply, which takes at most 90 bytes. The caller gives 90 bytes of room behind what the buffer
+/// Writes the text of a reply, which takes at most 87 bytes. The caller gives 87 bytes of room behind what the buffer
 /// has, and so there is no error.
 ///
 /// The amounts of a position, and the total of a publication, are below 10^18 cents in size.
 pub fn write_reply(buffer: &mut Vec<u8>, reply: &Reply)
     requires range { IsReplyInRange reply.now }
-    requires spare { vec_len buffer.old + 90 ≤ vec_capacity buffer.old }
+    requires spare { vec_len buffer.old + 87 ≤ vec_capacity buffer.old }
     ensures text { buffer.new.items ≡ buffer.old.items ++ reply_text reply.now }
-    ensures len { vec_len buffer.new ≤ vec_len buffer.old + 90 }
+    ensures len { vec_len buffer.new ≤ vec_len buffer.old + 87 }
     ensures room { vec_capacity buffer.old ≤ vec_capacity buffer.new }
 {
     match reply {
@@ -162,22 +163,59 @@ pub fn write_reply(buffer: &mut Vec<u8>, reply: &Reply)
     }
 }
 
-/// Writes the line `caller REQUEST = REPLY` of an entry, with its line feed: at most `LINE_BYTES`. The caller gives as many bytes
-/// of room behind what the buffer has, and so there is no error.
+// The number of a caller, which has at most 10 digits.
+fn write_caller(buffer: &mut Vec<u8>, caller: u32)
+    requires { vec_len buffer.old + 20 ≤ vec_capacity buffer.old }
+    ensures text { buffer.new.items ≡ buffer.old.items ++ decimal caller }
+    ensures len { vec_len buffer.new ≤ vec_len buffer.old + 10 }
+    ensures room { vec_capacity buffer.old ≤ vec_capacity buffer.new }
+{
+    write_whole(buffer, u64::from(caller));
+}
+
+// The text `REQUEST = REPLY` of an entry.
+fn write_entry(buffer: &mut Vec<u8>, entry: &Entry)
+    requires valid { is_valid entry.now.act ≡ true }
+    requires range { IsReplyInRange entry.now.reply }
+    requires spare { vec_len buffer.old + 170 ≤ vec_capacity buffer.old }
+    ensures text { buffer.new.items ≡ buffer.old.items ++ entry_text entry.now }
+    ensures len { vec_len buffer.new ≤ vec_len buffer.old + 170 }
+    ensures room { vec_capacity buffer.old ≤ vec_capacity buffer.new }
+{
+    write_act(buffer, &entry.act);
+    put(buffer, b" = ");
+    write_reply(buffer, &entry.reply);
+}
+
+/// Writes the line `caller @POOL REQUEST = REPLY` of an entry of a pool, without `@POOL` where the pool is MAIN, with its line
+/// feed: at most `LINE_BYTES`. The caller gives as many bytes of room behind what the buffer has, and so there is no error.
 ///
 /// The amounts of a position, and the total of a publication, are below 10^18 cents in size.
-pub fn write_entry(buffer: &mut Vec<u8>, entry: &Entry)
+pub fn write_member(buffer: &mut Vec<u8>, pool: &Name, entry: &Entry)
     requires valid { is_valid entry.now.act ≡ true }
     requires range { IsReplyInRange entry.now.reply }
     requires spare { vec_len buffer.old + LINE_BYTES ≤ vec_capacity buffer.old }
+
+    ensures text { buffer.new.items ≡ buffer.old.items ++ entry_line (member_of pool.now entry.now) }
+    ensures len { vec_len buffer.new ≤ vec_len buffer.old + LINE_BYTES }
+    ensures room { vec_capacity buffer.old ≤ vec_capacity buffer.new }
+{
+    write_caller(buffer, entry.caller);
+    put(buffer, b" ");
+    write_pool(buffer, pool);
+    write_entry(buffer, entry);
+    put(buffer, b"\n");
+}
+
+/// Writes the line of a member of the history, as `write_member` does.
+pub fn write_pool_entry(buffer: &mut Vec<u8>, entry: &PoolEntry)
+    requires valid { is_valid entry.now.entry.act ≡ true }
+    requires range { IsReplyInRange entry.now.entry.reply }
+    requires spare { vec_len buffer.old + LINE_BYTES ≤ vec_capacity buffer.old }
+
     ensures text { buffer.new.items ≡ buffer.old.items ++ entry_line entry.now }
     ensures len { vec_len buffer.new ≤ vec_len buffer.old + LINE_BYTES }
     ensures room { vec_capacity buffer.old ≤ vec_capacity buffer.new }
 {
-    write_whole(buffer, u64::from(entry.caller));
-    put(buffer, b" ");
-    write_act(buffer, &entry.act);
-    put(buffer, b" = ");
-    write_reply(buffer, &entry.reply);
-    put(buffer, b"\n");
+    write_member(buffer, &entry.pool, &entry.entry);
 }

@@ -1,4 +1,5 @@
-//! The line of an entry: `CALLER REQUEST = REPLY`, as a run prints it.
+//! The line of an entry of a pool: `CALLER @POOL REQUEST = REPLY`, as a run prints it, without `@POOL` where the pool is
+//! MAIN.
 //!
 //! REQUEST is the text of the act, of which a publication shows the round alone. REPLY is `ok`, a position, what became
 //! of a round, or `refused` with the number and name of the refusal and the numbers that go with it. A line is at most
@@ -7,4 +8,4 @@
 
 mod entry;
 
-pub use entry::{write_entry, write_reply};
+pub use entry::{write_member, write_pool_entry, write_reply};

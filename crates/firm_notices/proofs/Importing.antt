@@ -13,6 +13,7 @@ use Rattle.csv.specs.Reading.{Reached, default_config, strip_bom, is_bom}
 use Rattle.csv.specs.declared.parser.State.TheVariants as st
 use Rattle.csv.specs.declared.reader.Reader.{Reader}
 use Rattle.claim_history.specs.declared.act.Act.{Act}
+use Rattle.claim_history.specs.Pools.{main_pool}
 use Rattle.request_text.specs.Grammar.{Asked, request_line, batch_text}
 use Rattle.firm_notices.specs.declared.error.RowCause.{RowCause}
 use Rattle.firm_notices.specs.declared.error.RowCause.TheVariants as cause
@@ -58,13 +59,13 @@ invoices_more (r ∷ rows) [] fields filing h is = absurd h
 invoices_more (r ∷ rows) (f ∷ filings) fields filing h is = (h.0, invoices_more rows filings fields filing h.1 is)
 
 abbrev line : Asked → List ℕ
-line asked = request_line asked.lane asked.act
+line asked = request_line asked.lane asked.pool asked.act
 
-lines_more : (lane : ℕ) (filings : List Act) (filing : Act) → import_text lane (filings ++ filing ∷ []) ≡ import_text lane filings ++ request_line lane filing
+lines_more : (lane : ℕ) (filings : List Act) (filing : Act) → import_text lane (filings ++ filing ∷ []) ≡ import_text lane filings ++ request_line lane main_pool filing
 lines_more lane filings filing =
     ap batch_text (map-append (asked_of lane) filings (filing ∷ []))
     ∙ flat_map-append line (map (asked_of lane) filings) (asked_of lane filing ∷ [])
-    ∙ ap (λ (t : List ℕ). import_text lane filings ++ t) (flat_map-cons line (asked_of lane filing) [] ∙ append-nil (request_line lane filing))
+    ∙ ap (λ (t : List ℕ). import_text lane filings ++ t) (flat_map-cons line (asked_of lane filing) [] ∙ append-nil (request_line lane main_pool filing))
 
 count_more : (rows : List (List (List ℕ))) (fields : List (List ℕ)) → length (rows ++ fields ∷ []) ≡ length rows + 1
 count_more rows fields = length-append rows (fields ∷ [])
@@ -77,7 +78,7 @@ reads_on bytes lane row reader reader2 text text2 fields h stands (filing, is, g
   filings = h.filings ++ filing ∷ [];
   stands = stands;
   spelled = invoices_more h.rows h.filings fields filing h.spelled is;
-  written = grown ∙ ap (λ (t : List ℕ). t ++ request_line lane filing) h.written ∙ sym (lines_more lane h.filings filing);
+  written = grown ∙ ap (λ (t : List ℕ). t ++ request_line lane main_pool filing) h.written ∙ sym (lines_more lane h.filings filing);
   number_is = ap (λ (n : ℕ). n + 1) h.number_is ∙ ap (λ (n : ℕ). n + 1) (sym (count_more h.rows fields));
 }
 

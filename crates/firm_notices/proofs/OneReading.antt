@@ -154,7 +154,7 @@ each_asked : (lane : ℕ) (rows : List (List (List ℕ))) (filings : List Act) �
 each_asked lane [] [] by h = All-nil CanBeAsked
 each_asked lane [] (f ∷ filings) by h = absurd h
 each_asked lane (r ∷ rows) [] by h = absurd h
-each_asked lane (r ∷ rows) (f ∷ filings) by h = All-cons CanBeAsked (asked_of lane f) (map (asked_of lane) filings) (record { by = by; valid = h.0.0 }) (each_asked lane rows filings by h.1)
+each_asked lane (r ∷ rows) (f ∷ filings) by h = All-cons CanBeAsked (asked_of lane f) (map (asked_of lane) filings) (record { by = by; named = refl; valid = h.0.0 }) (each_asked lane rows filings by h.1)
 
 pub filed_law : FiledLaw
 filed_law lane bytes filings by (rows, all, are) =

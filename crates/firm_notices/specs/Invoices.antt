@@ -1,6 +1,7 @@
 -- Invoices as CSV: a row of names, and below it a row for each invoice, which are read as FILE requests.
 use Rattle.std.specs.Prelude.{◌≡◌, ◌≢◌, ℕ, ◌+◌, List, [], ◌∷◌, ◌++◌, length, map, codes}
 use Rattle.claim_history.specs.declared.act.Act.{Act}
+use Rattle.claim_history.specs.Pools.{main_pool}
 use Rattle.request_text.specs.Grammar.{AreArgs, Asked, request_line, batch_text, numbered, IsRequestText}
 use Rattle.request_text.specs.Lanes.{IsLane}
 use Rattle.request_text.specs.Causes.{forms_of, IsFirstBadField}
@@ -32,9 +33,9 @@ IsInvoiceText bytes filings = (rows : List (List (List ℕ))) × AreRows bytes (
 
 -- ---- the lines of FILEs
 
--- a FILE that is asked of a lane
+-- a FILE that is asked of a lane, in the pool MAIN
 abbrev pub asked_of : ℕ → Act → Asked
-asked_of lane filing = record { lane = lane; act = filing }
+asked_of lane filing = record { lane = lane; pool = main_pool; act = filing }
 
 -- the lines of FILEs in a lane
 abbrev pub import_text : ℕ → List Act → List ℕ
@@ -42,7 +43,7 @@ import_text lane filings = batch_text (map (asked_of lane) filings)
 
 -- a text has grown by the line of the FILE with these fields
 abbrev pub IsFiled : ℕ → List (List ℕ) → List ℕ → List ℕ → Type 0
-IsFiled lane fields old new = (filing : Act) × IsInvoice fields filing × (new ≡ old ++ request_line lane filing)
+IsFiled lane fields old new = (filing : Act) × IsInvoice fields filing × (new ≡ old ++ request_line lane main_pool filing)
 
 -- ---- rows that are none
 

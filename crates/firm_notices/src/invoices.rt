@@ -9,12 +9,14 @@ ghost use Rattle.firm_notices.specs.Invoices.{invoice_names, IsInvoiceText, IsFi
 use crate::error::{ImportError, RowCause};
 use crate::invoice::{has_names, invoice_of};
 use crate::rows::{next_row, reader_of};
+use claim_history::main_pool_name;
 use csv::{ByteRecord, Reader};
 use request_text::write_request;
 use setoff_model::limits::LINE_BYTES;
 use std::alloc::Global;
 
-/// Reads invoices as CSV, and gives the lines of a lane that file them, one for each invoice in order.
+/// Reads invoices as CSV, and gives the lines of a lane that file them in the pool MAIN, one for each invoice in
+/// order.
 ///
 /// The first row has the names `creditor,invoice,debtor,amount,due`, and every other row these fields of an invoice. A
 /// byte order mark at the start, quoted fields, and rows that end with a carriage return and a line feed are read as
@@ -107,6 +109,6 @@ fn put_filing(
         Err(cause) => return Err(ImportError::BadRow { row, cause }),
     };
     text.reserve(LINE_BYTES)?;
-    write_request(text, lane, &filing);
+    write_request(text, lane, &main_pool_name(), &filing);
     Ok(())
 }

@@ -3,38 +3,39 @@ use Rattle.std.specs.Prelude.{reverse}
 use Rattle.std.proofs.Common.{◌≡◌, Bool, true, false, not, ◌||◌, List, [], ◌∷◌, ◌++◌, map, All, refl, sym, ◌∙◌, ap, subst, true≢false}
 use Rattle.std.proofs.lemmas.List.{reverse-reverse}
 use Rattle.std.proofs.lemmas.List.Elements.{All-head, All-tail}
-use Rattle.claim_history.specs.declared.entry.Entry.{Entry}
-use Rattle.claim_history.specs.States.{state}
-use Rattle.claim_history.specs.History.{Call, answer, answer_of, ask, is_accepted, is_no_refusal, replay_after}
-use Rattle.claim_history.specs.Needs.{FitsPast, IsWithinLimitsPast, is_full}
+use Rattle.claim_history.specs.declared.call.Call.{Call}
+use Rattle.claim_history.specs.declared.call.PoolEntry.{PoolEntry}
+use Rattle.claim_history.specs.History.{is_accepted, is_no_refusal}
+use Rattle.claim_history.specs.Pools.{due_member, due_of_past, due_reply, replay_after}
+use Rattle.claim_history.specs.PoolNeeds.{FitsPast, IsWithinLimitsPast, is_full}
 use Rattle.claim_history.proofs.Pasts.{all_reverse}
-use Rattle.claim_history.proofs.Room.{full_law}
+use Rattle.claim_history.proofs.PoolRoom.{full_law}
 use Rattle.round_journal.specs.declared.record.Record.{Record}
 use Rattle.journal_replay.specs.Replays.{AreSound, IsFirstFaulty, recorded_call, history_of, is_faulty}
 use Rattle.journal_replay.specs.Laws.{FirstLaw, SoundLaw}
-use Rattle.journal_replay.proofs.Replays.{more_asked}
+use Rattle.journal_replay.proofs.Replays.{due_past, more_asked}
 
-record IsSoundPast (past : List Entry) : Type 0 where
-  accepted : All (λ e. is_accepted e ≡ true) past
+record IsSoundPast (past : List PoolEntry) : Type 0 where
+  accepted : All (λ m. is_accepted m.entry ≡ true) past
   within : IsWithinLimitsPast past
 
-sound_rest : (calls : List Call) (past : List Entry) → IsSoundPast (replay_after past calls) → IsSoundPast past
+sound_rest : (calls : List Call) (past : List PoolEntry) → IsSoundPast (replay_after past calls) → IsSoundPast past
 sound_rest [] past sound = sound
 sound_rest (call ∷ calls) past sound =
-    let next = sound_rest calls (ask past call) sound in
-    record { accepted = All-tail (λ e. is_accepted e ≡ true) _ past next.accepted; within = next.within.1 }
+    let next = sound_rest calls (due_member past call ∷ past) sound in
+    record { accepted = All-tail (λ m. is_accepted m.entry ≡ true) _ past next.accepted; within = next.within.1 }
 
-sound_first : (call : Call) (calls : List Call) (past : List Entry) → IsSoundPast (replay_after past (call ∷ calls)) → (is_no_refusal (answer (state past) call.caller call.act) ≡ true) × FitsPast past call.caller call.act
+sound_first : (call : Call) (calls : List Call) (past : List PoolEntry) → IsSoundPast (replay_after past (call ∷ calls)) → (is_no_refusal (due_of_past past call) ≡ true) × FitsPast past call
 sound_first call calls past sound =
-    let next = sound_rest calls (ask past call) sound in
-    (All-head (λ e. is_accepted e ≡ true) _ past next.accepted, next.within.0)
+    let next = sound_rest calls (due_member past call ∷ past) sound in
+    (All-head (λ m. is_accepted m.entry ≡ true) _ past next.accepted, next.within.0)
 
 sound_past : (records : List Record) → AreSound records → IsSoundPast (replay_after [] (map recorded_call records))
 sound_past records sound =
     let past = replay_after [] (map recorded_call records) in
     let same : reverse (reverse past) ≡ past = reverse-reverse past in
     record {
-      accepted = subst (All (λ e. is_accepted e ≡ true)) same (all_reverse (λ e. is_accepted e ≡ true) (reverse past) sound.accepted);
+      accepted = subst (All (λ m. is_accepted m.entry ≡ true)) same (all_reverse (λ m. is_accepted m.entry ≡ true) (reverse past) sound.accepted);
       within = subst IsWithinLimitsPast same sound.within;
     }
 
@@ -43,14 +44,15 @@ neither true b e f = f
 neither false b e f = absurd (true≢false (sym e))
 
 -- no record of sound ones is faulty
-no_fault : (before after : List Record) (r : Record) → AreSound (before ++ r ∷ after) → is_faulty (history_of before) r.caller r.act ≡ false
+no_fault : (before after : List Record) (r : Record) → AreSound (before ++ r ∷ after) → is_faulty (history_of before) (recorded_call r) ≡ false
 no_fault before after r sound =
+    let call = recorded_call r in
     let past = replay_after [] (map recorded_call before) in
     let same : past ≡ reverse (reverse past) = sym (reverse-reverse past) in
-    let here = sound_first (recorded_call r) (map recorded_call after) past (subst IsSoundPast (more_asked before after r) (sound_past (before ++ r ∷ after) sound)) in
-    neither (is_no_refusal (answer_of (history_of before) r.caller r.act)) (is_full (history_of before) r.caller r.act)
-    (subst (λ (p : List Entry). is_no_refusal (answer (state p) r.caller r.act) ≡ true) same here.0)
-    ((full_law (history_of before) r.caller r.act).1 (subst (λ (p : List Entry). FitsPast p r.caller r.act) same here.1))
+    let here = sound_first call (map recorded_call after) past (subst IsSoundPast (more_asked before after r) (sound_past (before ++ r ∷ after) sound)) in
+    neither (is_no_refusal (due_reply (history_of before) call)) (is_full (history_of before) call)
+    (sym (ap is_no_refusal (due_past past call)) ∙ here.0)
+    ((full_law (history_of before) call).1 (subst (λ (p : List PoolEntry). FitsPast p call) same here.1))
 
 pub sound_law : SoundLaw
 sound_law records before r sound first =

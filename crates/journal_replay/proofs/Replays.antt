@@ -1,22 +1,19 @@
 -- The steps of a replay.
 use Rattle.std.specs.Prelude.{reverse}
-use Rattle.std.proofs.Common.{◌≡◌, ℕ, Bool, true, false, not, ◌||◌, List, [], ◌∷◌, ◌++◌, map, All, refl, sym, ◌∙◌, ap, ap₂, subst, true≢false}
+use Rattle.std.proofs.Common.{◌≡◌, Bool, true, false, not, ◌||◌, List, [], ◌∷◌, ◌++◌, map, All, refl, sym, ◌∙◌, ap, subst, true≢false}
 use Rattle.std.proofs.lemmas.Bool.{false_from_ne_true}
 use Rattle.std.proofs.lemmas.List.{map-append, reverse-append, reverse-reverse}
 use Rattle.std.proofs.lemmas.List.Elements.{All-push}
-use Rattle.setoff_model.specs.declared.kind.Kind.{Kind}
-use Rattle.setoff_model.specs.CutView.{OutcomeView}
-use Rattle.claim_history.specs.declared.act.Act.{Act}
-use Rattle.claim_history.specs.declared.act.Act.TheVariants as act
 use Rattle.claim_history.specs.declared.entry.Reply.{Reply}
-use Rattle.claim_history.specs.declared.entry.Entry.{Entry}
+use Rattle.claim_history.specs.declared.entry.Reply.TheVariants as reply
+use Rattle.claim_history.specs.declared.call.Call.{Call}
+use Rattle.claim_history.specs.declared.call.PoolEntry.{PoolEntry}
 use Rattle.claim_history.specs.Acts.{is_publication, is_close}
-use Rattle.claim_history.specs.States.{state, state_of}
-use Rattle.claim_history.specs.History.{Call, IsLegal, answer, answer_of, ask, is_accepted, is_no_refusal, is_opening, replay_after, replied}
-use Rattle.claim_history.specs.Needs.{IsWithinLimits, is_full, with_due}
-use Rattle.claim_history.proofs.Pasts.{entry_of}
+use Rattle.claim_history.specs.History.{is_accepted, is_no_refusal, is_opening, replied}
+use Rattle.claim_history.specs.Pools.{IsLegal, answered, due_member, due_of_past, due_reply, replay_after, state_in, with_due}
+use Rattle.claim_history.specs.PoolNeeds.{IsWithinLimits, is_full}
+use Rattle.claim_history.proofs.PoolRoom.{due_is, use_law}
 use Rattle.claim_history.proofs.Replies.{opens}
-use Rattle.claim_history.proofs.Room.{use_law}
 use Rattle.round_journal.specs.declared.record.Record.{Record}
 use Rattle.limited_book.proofs.Limits.{publication_of}
 use Rattle.journal_replay.specs.declared.replay_stop.ReplayStop.{ReplayStop}
@@ -25,60 +22,59 @@ use Rattle.journal_replay.specs.Replays.{AreSound, IsReplayed, StopsFirst, Tells
 
 -- ---- Closes
 
--- an act that is no Close opens no round
-pub other_opens_none : (history : List Entry) (caller : ℕ) (a : Act) (r : Reply) → r ≡ answer_of history caller a → is_close a ≡ false → is_opening r ≡ false
-other_opens_none history caller a r due other =
-    false_from_ne_true (is_opening r) (λ e. true≢false (sym (ap is_close (opens (state_of history) 0 caller a r (replied due) e).act_is ∙ refl) ∙ other))
+-- a call that is no Close opens no round
+pub other_opens_none : (history : List PoolEntry) (call : Call) (r : Reply) → r ≡ due_reply history call → is_close call.act ≡ false → is_opening r ≡ false
+other_opens_none history call r due other =
+    false_from_ne_true (is_opening r) (λ e. true≢false (sym (ap is_close (opens (state_in history call.pool) 0 call.caller call.act r (replied due) e).act_is ∙ refl) ∙ other))
 
--- the act is another than those that have arms of their own
-pub no_close : (a : Act) → ((kind : Kind) (horizon : ℕ) → a ≡ act.Close kind horizon → ⊥) → is_close a ≡ false
-no_close (act.Close kind horizon) other = absurd (other kind horizon refl)
-no_close a other = refl
-
-pub no_publication : (a : Act) → ((number : ℕ) (outcome : OutcomeView) → a ≡ act.Publish number outcome → ⊥) → is_publication a ≡ false
-no_publication (act.Publish number outcome) other = absurd (other number outcome refl)
-no_publication a other = refl
+-- an opening is accepted
+pub opening_accepted : (r : Reply) → is_opening r ≡ true → is_no_refusal r ≡ true
+opening_accepted (reply.Opened round) is = refl
+opening_accepted (reply.Refused why) is = absurd (true≢false (sym is))
+opening_accepted r is = refl
 
 -- a publication that is accepted is within the limits
-pub published_so : (known history kept new : List Entry) (caller number : ℕ) (outcome : OutcomeView) (r : Reply) → new ≡ kept ++ entry_of caller (act.Publish number outcome) r ∷ [] → kept ≡ history
-    → known ≡ history → IsLegal known → r ≡ answer_of known caller (act.Publish number outcome) → is_no_refusal r ≡ true → IsWithinLimits history → IsReplayed history new caller (act.Publish number outcome)
-published_so known history kept new caller number outcome r is same known_is legal_known due_known accepted within =
-    let legal = subst IsLegal known_is legal_known in
-    let due : r ≡ answer_of history caller (act.Publish number outcome) = due_known ∙ ap (λ (h : List Entry). answer_of h caller (act.Publish number outcome)) known_is in
-    let fits_due : is_no_refusal (answer_of history caller (act.Publish number outcome)) ≡ true = sym (ap is_no_refusal due) ∙ accepted in
-    let entry : entry_of caller (act.Publish number outcome) r ≡ entry_of caller (act.Publish number outcome) (answer_of history caller (act.Publish number outcome)) =
-    ap (entry_of caller (act.Publish number outcome)) due in
+pub published_so : (history new : List PoolEntry) (call : Call) (r : Reply) → new ≡ history ++ answered call r ∷ [] → IsLegal history → is_publication call.act ≡ true
+    → r ≡ due_reply history call → is_no_refusal r ≡ true → IsWithinLimits history → IsReplayed history new call
+published_so history new call r is legal publishes due accepted within =
+    let fits_due : is_no_refusal (due_reply history call) ≡ true = sym (ap is_no_refusal due) ∙ accepted in
     record {
-      history = is ∙ ap₂ (λ (h : List Entry) (e : Entry). h ++ e ∷ []) same entry;
+      history = is ∙ ap (λ (x : Reply). history ++ answered call x ∷ []) due;
       accepted = fits_due;
-      fits = publication_of history caller (act.Publish number outcome) legal within refl fits_due;
+      fits = publication_of history call legal within publishes fits_due;
     }
 
 -- ---- one more record
 
-pub replay_append : (past : List Entry) (xs ys : List Call) → replay_after past (xs ++ ys) ≡ replay_after (replay_after past xs) ys
+abbrev ask : List PoolEntry → Call → List PoolEntry
+ask past call = due_member past call ∷ past
+
+pub replay_append : (past : List PoolEntry) (xs ys : List Call) → replay_after past (xs ++ ys) ≡ replay_after (replay_after past xs) ys
 replay_append past [] ys = refl
 replay_append past (x ∷ xs) ys = replay_append (ask past x) xs ys
 
--- the newest entry of the records with one more
+-- the newest member of the records with one more
 pub more_asked : (before after : List Record) (r : Record) → replay_after [] (map recorded_call (before ++ r ∷ after)) ≡ replay_after (ask (replay_after [] (map recorded_call before)) (recorded_call r)) (map recorded_call after)
 more_asked before after r =
     ap (replay_after []) (map-append recorded_call before (r ∷ after)) ∙ replay_append [] (map recorded_call before) (map recorded_call (r ∷ after))
 
-pub history_more : (before : List Record) (r : Record) → history_of (before ++ r ∷ []) ≡ with_due (history_of before) r.caller r.act
+-- the reply of a past is that of its history
+pub due_past : (past : List PoolEntry) (call : Call) → due_of_past past call ≡ due_reply (reverse past) call
+due_past past call = ap (λ (p : List PoolEntry). due_of_past p call) (sym (reverse-reverse past)) ∙ due_is (reverse past) call
+
+pub history_more : (before : List Record) (r : Record) → history_of (before ++ r ∷ []) ≡ with_due (history_of before) (recorded_call r)
 history_more before r =
     let past = replay_after [] (map recorded_call before) in
-    let reply_in : List Entry → Entry = λ p. entry_of r.caller r.act (answer (state p) r.caller r.act) in
-    let asked : history_of (before ++ r ∷ []) ≡ reverse (reply_in past ∷ past) = ap reverse (more_asked before [] r) in
-    let last : reverse (reply_in past ∷ past) ≡ reverse past ++ reply_in past ∷ [] = reverse-append (reply_in past ∷ []) past in
-    asked ∙ last ∙ ap (λ (p : List Entry). reverse past ++ reply_in p ∷ []) (sym (reverse-reverse past))
+    let call = recorded_call r in
+    ap reverse (more_asked before [] r) ∙ reverse-append (due_member past call ∷ []) past
+    ∙ ap (λ (x : Reply). reverse past ++ answered call x ∷ []) (due_past past call)
 
-pub sound_more : (before : List Record) (r : Record) (new : List Entry) → AreSound before → IsReplayed (history_of before) new r.caller r.act → AreSound (before ++ r ∷ [])
+pub sound_more : (before : List Record) (r : Record) (new : List PoolEntry) → AreSound before → IsReplayed (history_of before) new (recorded_call r) → AreSound (before ++ r ∷ [])
 sound_more before r new sound done =
-    let e : Entry = entry_of r.caller r.act (answer_of (history_of before) r.caller r.act) in
+    let m : PoolEntry = answered (recorded_call r) (due_reply (history_of before) (recorded_call r)) in
     record {
-      accepted = subst (All (λ x. is_accepted x ≡ true)) (sym (history_more before r)) (All-push (λ (x : Entry). is_accepted x ≡ true) (history_of before) e sound.accepted done.accepted);
-      within = subst IsWithinLimits (sym (history_more before r)) ((use_law (history_of before) e).within sound.within done.fits);
+      accepted = subst (All (λ x. is_accepted x.entry ≡ true)) (sym (history_more before r)) (All-push (λ (x : PoolEntry). is_accepted x.entry ≡ true) (history_of before) m sound.accepted done.accepted);
+      within = subst IsWithinLimits (sym (history_more before r)) ((use_law (history_of before) m).within sound.within done.fits);
     }
 
 -- ---- the end
@@ -87,16 +83,16 @@ or_true : (a b : Bool) → b ≡ true → (a || b) ≡ true
 or_true true b e = refl
 or_true false b e = e
 
-tells_faulty : (history : List Entry) (offset caller : ℕ) (a : Act) (got : Reply) → got ≡ answer_of history caller a → is_no_refusal got ≡ false → is_faulty history caller a ≡ true
-tells_faulty history offset caller a got due refused =
-    ap (λ (b : Bool). not b || is_full history caller a) (sym (ap is_no_refusal due) ∙ refused)
+tells_faulty : (history : List PoolEntry) (call : Call) (got : Reply) → got ≡ due_reply history call → is_no_refusal got ≡ false → is_faulty history call ≡ true
+tells_faulty history call got due refused =
+    ap (λ (b : Bool). not b || is_full history call) (sym (ap is_no_refusal due) ∙ refused)
 
-pub first_stop : (records before after : List Record) (r : Record) (stop : ReplayStop) → records ≡ before ++ r ∷ after → AreSound before → Tells (history_of before) r.offset r.caller r.act stop → StopsFirst records stop
+pub first_stop : (records before after : List Record) (r : Record) (stop : ReplayStop) → records ≡ before ++ r ∷ after → AreSound before → Tells (history_of before) r.offset (recorded_call r) stop → StopsFirst records stop
 first_stop records before after r Memory parts sound tells = tt
 first_stop records before after r (BadAct at got) parts sound tells = record {
   before = before;
   record_is = r;
-  first = record { after = after; parts = parts; sound = sound; faulty = tells_faulty (history_of before) r.offset r.caller r.act got tells.1 tells.2 };
+  first = record { after = after; parts = parts; sound = sound; faulty = tells_faulty (history_of before) (recorded_call r) got tells.1 tells.2 };
   tells = tells;
 }
 first_stop records before after r (Overfull at) parts sound tells = record {
@@ -108,13 +104,13 @@ first_stop records before after r (Overfull at) parts sound tells = record {
 
 -- ---- the loop
 
-pub replayed_more : (before : List Record) (r : Record) (history new : List Entry) → history ≡ history_of before → AreSound before → IsReplayed history new r.caller r.act
+pub replayed_more : (before : List Record) (r : Record) (history new : List PoolEntry) → history ≡ history_of before → AreSound before → IsReplayed history new (recorded_call r)
     → (new ≡ history_of (before ++ r ∷ [])) × AreSound (before ++ r ∷ [])
 replayed_more before r history new same sound done =
-    let here : IsReplayed (history_of before) new r.caller r.act = subst (λ (h : List Entry). IsReplayed h new r.caller r.act) same done in
+    let here : IsReplayed (history_of before) new (recorded_call r) = subst (λ (h : List PoolEntry). IsReplayed h new (recorded_call r)) same done in
     (here.history ∙ sym (history_more before r), sound_more before r new sound here)
 
-pub stopped_at : (records before after : List Record) (r : Record) (history : List Entry) (stop : ReplayStop) → records ≡ before ++ r ∷ after → history ≡ history_of before → AreSound before
-    → Tells history r.offset r.caller r.act stop → StopsFirst records stop
+pub stopped_at : (records before after : List Record) (r : Record) (history : List PoolEntry) (stop : ReplayStop) → records ≡ before ++ r ∷ after → history ≡ history_of before → AreSound before
+    → Tells history r.offset (recorded_call r) stop → StopsFirst records stop
 stopped_at records before after r history stop parts same sound tells =
-    first_stop records before after r stop parts sound (subst (λ (h : List Entry). Tells h r.offset r.caller r.act stop) same tells)
+    first_stop records before after r stop parts sound (subst (λ (h : List PoolEntry). Tells h r.offset (recorded_call r) stop) same tells)

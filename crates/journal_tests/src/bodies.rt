@@ -1,11 +1,11 @@
 //! Tests of the bodies of acts.
 
-use crate::made::{day, name};
+use crate::made::{day, in_east, in_main, name};
 use act_bodies::{
     bodies_have_their_lengths, body_length, can_be_kept, each_body_is_of_one_call, encode,
     read_body,
 };
-use claim_history::Act;
+use claim_history::{Act, Call};
 use setoff_model::{Key, Kind, Outcome};
 use std::process::Abort;
 
@@ -26,6 +26,11 @@ const PUBLISH: [u8; 53] = [
 ];
 
 const ABANDON: [u8; 5] = [0, 0, 0, 0, 13];
+
+// `1 @EAST FIRM A` and `0 @EAST ABANDON`.
+const FIRM_IN_EAST: [u8; 13] = [0, 0, 0, 1, 15, 4, 0x45, 0x41, 0x53, 0x54, 1, 1, 0x41];
+
+const ABANDON_IN_EAST: [u8; 11] = [0, 0, 0, 0, 15, 4, 0x45, 0x41, 0x53, 0x54, 13];
 
 // What names B's claim I-1.
 fn key(rt: &impl Abort) -> Key {
@@ -70,12 +75,12 @@ fn publish(rt: &(impl Abort + AllocGlobal)) -> Act {
 }
 
 // The body of a call, which can be kept, is this one.
-fn is_written(rt: &(impl Abort + AllocGlobal), caller: u32, act: &Act, bytes: &[u8]) {
-    assert!(rt; can_be_kept(caller, act));
-    assert!(rt; act.valid());
-    let length = body_length(act) as usize;
+fn is_written(rt: &(impl Abort + AllocGlobal), call: &Call, bytes: &[u8]) {
+    assert!(rt; can_be_kept(call));
+    assert!(rt; call.act.valid());
+    let length = body_length(&call.pool, &call.act) as usize;
     let mut buffer = Vec::with_capacity(rt.alloc(), length).expect(rt, "memory");
-    encode(&mut buffer, caller, act);
+    encode(&mut buffer, call.caller, &call.pool, &call.act);
     assert!(rt; buffer.as_slice() == bytes);
 }
 
@@ -84,24 +89,35 @@ fn bodies_are_written(rt: HostRuntime) {
     each_body_is_of_one_call();
     bodies_have_their_lengths();
     let firm = name(&rt, b"A");
-    is_written(&rt, 1, &Act::Firm { firm }, &FIRM);
-    is_written(&rt, 1, &file(&rt), &FILE);
-    is_written(&rt, 1, &confirm(&rt), &CONFIRM);
-    is_written(&rt, 1, &close(&rt), &CLOSE);
-    is_written(&rt, 1, &publish(&rt), &PUBLISH);
-    is_written(&rt, 0, &Act::Abandon, &ABANDON);
+    is_written(&rt, &in_main(1, Act::Firm { firm }), &FIRM);
+    is_written(&rt, &in_main(1, file(&rt)), &FILE);
+    is_written(&rt, &in_main(1, confirm(&rt)), &CONFIRM);
+    is_written(&rt, &in_main(1, close(&rt)), &CLOSE);
+    is_written(&rt, &in_main(1, publish(&rt)), &PUBLISH);
+    is_written(&rt, &in_main(0, Act::Abandon), &ABANDON);
+}
+
+#[test]
+fn another_pool_than_main_is_named(rt: HostRuntime) {
+    let firm = name(&rt, b"A");
+    is_written(&rt, &in_east(&rt, 1, Act::Firm { firm }), &FIRM_IN_EAST);
+    is_written(&rt, &in_east(&rt, 0, Act::Abandon), &ABANDON_IN_EAST);
+    let opened = in_east(&rt, 0, Act::Firm { firm });
+    assert!(rt; !can_be_kept(&opened));
+    drop(opened);
 }
 
 // A body is that of a call, and is written again from it.
 fn is_read_back(rt: &(impl Abort + AllocGlobal), bytes: &[u8]) {
     let read = read_body(rt.alloc(), bytes).expect(rt, "memory");
     let call = read.expect(rt, "a call");
-    is_written(rt, call.caller, &call.act, bytes);
+    is_written(rt, &call, bytes);
+    drop(call);
 }
 
 #[test]
 fn bodies_are_read_back(rt: HostRuntime) {
-    let bodies: [&[u8]; 17] = [
+    let bodies: [&[u8]; 21] = [
         &FIRM,
         &FILE,
         &CONFIRM,
@@ -123,6 +139,11 @@ fn bodies_are_read_back(rt: HostRuntime) {
         // no claims and no parties; one party with the price -1
         b"\0\0\0\x01\x0e\0\0\0\x01\0\0\0\0\0\0\0\0",
         b"\0\0\0\x01\x0e\0\0\0\x01\0\0\0\0\0\0\0\x01\0\0\0\0",
+        // in the pool EAST, and a publication in one with a name of 16 bytes
+        &FIRM_IN_EAST,
+        &ABANDON_IN_EAST,
+        b"\0\0\0\x01\x0f\x01E\x0c\0\0\0\x4f\xe5",
+        b"\0\0\0\x01\x0f\x10ABCDEFGHIJKLMNOP\x0e\0\0\0\x01\0\0\0\0\0\0\0\0",
     ];
     for bytes in bodies {
         is_read_back(&rt, bytes);
@@ -131,7 +152,7 @@ fn bodies_are_read_back(rt: HostRuntime) {
 
 #[test]
 fn other_bytes_are_no_bodies(rt: HostRuntime) {
-    let refused: [&[u8]; 21] = [
+    let refused: [&[u8]; 29] = [
         b"",
         b"\0\0\0\x01",
         b"\0\0\0\x01\0",
@@ -161,6 +182,16 @@ fn other_bytes_are_no_bodies(rt: HostRuntime) {
         b"\0\0\0\x01\x0e\0\0\0\x01\0\0\0\0\0\0\0\x01\0\0\0\x03",
         // more discharges than there are bytes
         b"\0\0\0\x01\x0e\0\0\0\x01\xff\xff\xff\xff\0\0\0\0",
+        // the pool MAIN, two pools, and a firm of caller 0 in a pool
+        b"\0\0\0\x01\x0f\x04MAIN\x01\x01A",
+        b"\0\0\0\x01\x0f\x04EAST\x0f\x04WEST\x01\x01A",
+        b"\0\0\0\0\x0f\x04EAST\x01\x01A",
+        // a pool without an act, a part of a name, no name, and names out of form
+        b"\0\0\0\x01\x0f\x04EAST",
+        b"\0\0\0\x01\x0f\x04EAS",
+        b"\0\0\0\x01\x0f\0\x01\x01A",
+        b"\0\0\0\x01\x0f\x04east\x01\x01A",
+        b"\0\0\0\x01\x0f\x11ABCDEFGHIJKLMNOPQ\x01\x01A",
     ];
     for (place, bytes) in refused.into_iter().enumerate() {
         let read = read_body(rt.alloc(), bytes).expect(&rt, "memory");

@@ -4,7 +4,7 @@ use crate::made::{day, disk_of, name};
 use bureau_desk::{
     ActError, CutReply, Desk, DeskCause, PublishReply, Room, a_frozen_cut_may_be_published,
 };
-use claim_history::{Act, Reply, Why};
+use claim_history::{Act, Reply, Why, main_pool_name};
 use disk_model::MemoryDisk;
 use round_journal::RecordWhy;
 use setoff_checker::Checker;
@@ -17,12 +17,12 @@ fn desk_on(rt: &(impl Abort + AllocGlobal), bytes: &[u8], fails: u64) -> Desk<Me
     desk.expect(rt, "a desk")
 }
 
-// The reply to an act of caller 1 that is no Close and no publication.
+// The reply to an act of caller 1 in the pool MAIN that is no Close and no publication.
 fn ask(rt: &impl Abort, desk: &mut Desk<MemoryDisk>, act: Act) -> Reply {
     assert!(rt; act.valid());
     assert!(rt; !act.publishes());
     assert!(rt; !matches!(act, Act::Close { .. }));
-    let reply = desk.act(1, act).ok();
+    let reply = desk.act(1, main_pool_name(), act).ok();
     reply.expect(rt, "a reply")
 }
 
@@ -88,16 +88,16 @@ fn reopened(
 }
 
 // How many acts a desk was opened with, and how many entries it has.
-fn counts(desk: &Desk<MemoryDisk>) -> (u64, usize) {
-    (desk.opened_with(), desk.book().history().len())
+fn counts(desk: &Desk<MemoryDisk>) -> (u64, u64) {
+    (desk.opened_with(), desk.books().len())
 }
 
-// How many entries the book has that is read from a disk.
-fn viewed(rt: &(impl Abort + AllocGlobal), disk: &mut MemoryDisk) -> usize {
-    let book = Desk::view(rt.alloc(), disk).ok();
-    let book = book.expect(rt, "a journal");
-    let entries = book.history().len();
-    drop(book);
+// How many entries the books have that are read from a disk.
+fn viewed(rt: &(impl Abort + AllocGlobal), disk: &mut MemoryDisk) -> u64 {
+    let books = Desk::view(rt.alloc(), disk).ok();
+    let books = books.expect(rt, "a journal");
+    let entries = books.len();
+    drop(books);
     entries
 }
 
@@ -152,28 +152,62 @@ fn is_empty_round(reply: &Result<CutReply, ActError>) -> bool {
     }
 }
 
-// A Close by caller 1 opens or continues round 1, which has no claims.
-fn is_frozen(rt: &impl Abort, desk: &mut Desk<MemoryDisk>) {
-    let reply = desk.cut(1, Kind::Plain, day(rt, 20_453));
+// A Close by caller 1 opens or continues round 1 of a pool, which has no claims.
+fn is_frozen_in(rt: &impl Abort, desk: &mut Desk<MemoryDisk>, pool: Name) {
+    let reply = desk.cut(1, pool, Kind::Plain, day(rt, 20_453));
     let frozen = is_empty_round(&reply);
     drop(reply);
     assert!(rt; frozen);
 }
 
-// A desk has the one act that it was opened with and an abandonment, and no open round.
-fn is_abandoned(rt: &impl Abort, desk: &Desk<MemoryDisk>) {
-    assert!(rt; counts(desk) == (1, 2));
-    let open = desk.book().open_round();
-    assert!(rt; open.is_none());
+fn is_frozen(rt: &impl Abort, desk: &mut Desk<MemoryDisk>) {
+    is_frozen_in(rt, desk, main_pool_name());
 }
 
+// A pool has so many entries and no open round.
+fn is_at_rest(desk: &Desk<MemoryDisk>, pool: &Name, entries: usize) -> bool {
+    let book = desk.books().book(pool);
+    book.history().len() == entries && book.open_round().is_none()
+}
+
+// The acts that a desk was opened with stand with an abandonment for each of its rounds, and no round is open.
 #[test]
 fn an_open_round_is_abandoned_at_opening(rt: HostRuntime) {
     let mut desk = desk_on(&rt, b"", 0);
     is_frozen(&rt, &mut desk);
     let desk = reopened(&rt, desk, 24);
-    is_abandoned(&rt, &desk);
+    assert!(rt; counts(&desk) == (1, 2));
+    assert!(rt; is_at_rest(&desk, &main_pool_name(), 2));
     assert!(rt; closed(desk) == 34);
+}
+
+// A round of a pool with a name of four bytes has a Close of 21 bytes and an abandonment of 16.
+#[test]
+fn the_open_round_of_each_pool_is_abandoned(rt: HostRuntime) {
+    let east = name(&rt, b"EAST");
+    let mut desk = desk_on(&rt, b"", 0);
+    is_frozen(&rt, &mut desk);
+    is_frozen_in(&rt, &mut desk, east);
+    let desk = reopened(&rt, desk, 45);
+    assert!(rt; counts(&desk) == (2, 4));
+    assert!(rt; is_at_rest(&desk, &main_pool_name(), 2));
+    assert!(rt; is_at_rest(&desk, &east, 2));
+    assert!(rt; closed(desk) == 71);
+}
+
+// A journal that was made before there were pools goes on, and keeps its header.
+#[test]
+fn a_desk_keeps_an_old_journal(rt: HostRuntime) {
+    let mut desk = desk_on(&rt, OPEN_ROUND, 0);
+    assert!(rt; counts(&desk) == (1, 2));
+    is_frozen_in(&rt, &mut desk, name(&rt, b"EAST"));
+    let disk = desk.close();
+    assert!(rt; disk.bytes().len() == 55);
+    assert!(rt; disk.bytes().starts_with(b"BUREAUJ1"));
+    let desk = desk_on(&rt, disk.bytes(), 0);
+    drop(disk);
+    assert!(rt; counts(&desk) == (3, 4));
+    assert!(rt; closed(desk) == 71);
 }
 
 // Asks the position of a firm that is not known so many times, and is refused as such. This takes no bytes of the journal, and an
@@ -188,7 +222,9 @@ fn are_unknown(rt: &impl Abort, desk: &mut Desk<MemoryDisk>, times: u64) {
 
 // A Close by caller 1 has no entry, since there is room for one entry less than it needs.
 fn is_full(rt: &impl Abort, desk: &mut Desk<MemoryDisk>) {
-    let end = desk.cut(1, Kind::Plain, day(rt, 20_453)).err();
+    let end = desk
+        .cut(1, main_pool_name(), Kind::Plain, day(rt, 20_453))
+        .err();
     let full = ActError::Full {
         what: Room::Entries,
         needed: 1_048_577,
@@ -234,9 +270,14 @@ fn amounts(rt: &(impl Abort + AllocGlobal), cut: &Cut) -> Vec<u64> {
     amounts
 }
 
-// Closes a round of caller 1 and publishes the outcome that discharges all claims, with prices of 0, where it is greatest.
-fn publish_all(rt: &(impl Abort + AllocGlobal), desk: &mut Desk<MemoryDisk>) -> PublishReply {
-    let cut = match desk.cut(1, Kind::Plain, day(rt, 20_453)) {
+// Closes a round of caller 1 in a pool and publishes the outcome that discharges all claims, with prices of 0, where it is
+// greatest.
+fn publish_all(
+    rt: &(impl Abort + AllocGlobal),
+    desk: &mut Desk<MemoryDisk>,
+    pool: Name,
+) -> PublishReply {
+    let cut = match desk.cut(1, pool, Kind::Plain, day(rt, 20_453)) {
         Ok(CutReply::Frozen(cut)) => cut,
         _ => panic!(rt; "a round"),
     };
@@ -245,9 +286,9 @@ fn publish_all(rt: &(impl Abort + AllocGlobal), desk: &mut Desk<MemoryDisk>) -> 
     let prices = vec![in rt.alloc(); 0; cut.parties().len()].expect(rt, "memory");
     let checker = Checker::for_cut(rt.alloc(), &cut).expect(rt, "memory");
     a_frozen_cut_may_be_published();
-    let _book = desk.book();
+    let _books = desk.books();
     match checker.certify(cut, Outcome::new(discharges, prices)) {
-        Ok(checked) => desk.publish(1, checked),
+        Ok(checked) => desk.publish(1, pool, checked),
         Err(_) => panic!(rt; "a greatest outcome"),
     }
 }
@@ -256,7 +297,7 @@ fn publish_all(rt: &(impl Abort + AllocGlobal), desk: &mut Desk<MemoryDisk>) -> 
 #[test]
 fn a_round_is_published(rt: HostRuntime) {
     let mut desk = desk_on(&rt, b"", 0);
-    let reply = publish_all(&rt, &mut desk);
+    let reply = publish_all(&rt, &mut desk, main_pool_name());
     assert!(rt; reply == PublishReply::Published { total: 0 });
     assert!(rt; desk.rounds().len() == 1);
     assert!(rt; counts(&desk) == (0, 2));
@@ -265,6 +306,24 @@ fn a_round_is_published(rt: HostRuntime) {
     let desk = reopened(&rt, desk, 46);
     assert!(rt; counts(&desk) == (2, 2));
     assert!(rt; closed(desk) == 46);
+}
+
+// A round of a pool is published while one of another pool is open. Two Closes of 15 bytes and a publication of 22 in the pool
+// MAIN, and one of 21 and one of 28 in EAST, stand behind 9.
+#[test]
+fn a_round_is_published_beside_another(rt: HostRuntime) {
+    let east = name(&rt, b"EAST");
+    let mut desk = desk_on(&rt, b"", 0);
+    is_frozen_in(&rt, &mut desk, main_pool_name());
+    let reply = publish_all(&rt, &mut desk, east);
+    assert!(rt; reply == PublishReply::Published { total: 0 });
+    assert!(rt; is_at_rest(&desk, &east, 2));
+    assert!(rt; !is_at_rest(&desk, &main_pool_name(), 1));
+    let reply = publish_all(&rt, &mut desk, main_pool_name());
+    assert!(rt; reply == PublishReply::Published { total: 0 });
+    assert!(rt; desk.rounds().len() == 2);
+    assert!(rt; is_at_rest(&desk, &main_pool_name(), 3));
+    assert!(rt; closed(desk) == 110);
 }
 
 // A claim of one cent, and its confirmation.
@@ -303,9 +362,10 @@ fn owe_each_other(rt: &(impl Abort + AllocGlobal), desk: &mut Desk<MemoryDisk>, 
     }
 }
 
-// No claim of a desk has an open amount.
+// No claim of the pool MAIN has an open amount.
 fn are_settled(desk: &Desk<MemoryDisk>) -> bool {
-    desk.book().claims().iter().all(|claim| claim.left == 0)
+    let book = desk.books().book(&main_pool_name());
+    book.claims().iter().all(|claim| claim.left == 0)
 }
 
 // A round of 20,000 claims is published, and read again. Of each claim the journal has two records of 48 bytes, and two more for
@@ -315,7 +375,7 @@ fn a_round_of_many_claims_is_read_again(rt: HostRuntime) {
     let mut desk = desk_on(&rt, b"", 0);
     owe_each_other(&rt, &mut desk, 10_000);
     assert!(rt; !are_settled(&desk));
-    let reply = publish_all(&rt, &mut desk);
+    let reply = publish_all(&rt, &mut desk, main_pool_name());
     assert!(rt; reply == PublishReply::Published { total: 20_000 });
     let desk = reopened(&rt, desk, 1_235_638);
     assert!(rt; counts(&desk) == (40_004, 40_004));
@@ -324,16 +384,16 @@ fn a_round_of_many_claims_is_read_again(rt: HostRuntime) {
 }
 
 // The header, and the record of FIRM A by caller 1.
-const ONE_FIRM: &[u8] = b"BUREAUJ1\x01\x00\x00\x00\x07\x00\x00\x00\x01\x01\x01A\x00";
+const ONE_FIRM: &[u8] = b"BUREAUJ2\x01\x00\x00\x00\x07\x00\x00\x00\x01\x01\x01A\x00";
 
 // The same with a tag that no act has.
-const NO_ACT: &[u8] = b"BUREAUJ1\x01\x00\x00\x00\x07\x00\x00\x00\x01\x63\x01A\x00";
+const NO_ACT: &[u8] = b"BUREAUJ2\x01\x00\x00\x00\x07\x00\x00\x00\x01\x63\x01A\x00";
 
 // The record twice, of which the second is refused.
 const FIRM_TWICE: &[u8] =
-    b"BUREAUJ1\x01\x00\x00\x00\x07\x00\x00\x00\x01\x01\x01A\x01\x00\x00\x00\x07\x00\x00\x00\x01\x01\x01A\x00";
+    b"BUREAUJ2\x01\x00\x00\x00\x07\x00\x00\x00\x01\x01\x01A\x01\x00\x00\x00\x07\x00\x00\x00\x01\x01\x01A\x00";
 
-// A Close, whose round the opening abandons.
+// A Close, whose round the opening abandons, in a journal that was made before there were pools.
 const OPEN_ROUND: &[u8] =
     b"BUREAUJ1\x01\x00\x00\x00\x0a\x00\x00\x00\x01\x0c\x00\x00\x00\x4f\xe5\x00";
 

@@ -1,7 +1,7 @@
 //! Tests of journals.
 
 use crate::made::{disk_of, file};
-use claim_history::Act;
+use claim_history::{Act, is_main};
 use disk_model::{Disk, FileDisk, MemoryDisk};
 use round_journal::{Device, Journal, JournalCause, Record, RecordWhy, read_records};
 use std::alloc::Global;
@@ -14,9 +14,18 @@ const FIRM_A: [u8; 7] = [0, 0, 0, 1, 1, 1, b'A'];
 
 const ABANDON: [u8; 5] = [0, 0, 0, 0, 13];
 
+// The first of them in the pool EAST.
+const EAST_A: [u8; 13] = [0, 0, 0, 1, 15, 4, b'E', b'A', b'S', b'T', 1, 1, b'A'];
+
 // A journal with one record, of FIRM A.
 const ONE: [u8; 21] = [
-    b'B', b'U', b'R', b'E', b'A', b'U', b'J', b'1', 1, 0, 0, 0, 7, 0, 0, 0, 1, 1, 1, b'A', 0,
+    b'B', b'U', b'R', b'E', b'A', b'U', b'J', b'2', 1, 0, 0, 0, 7, 0, 0, 0, 1, 1, 1, b'A', 0,
+];
+
+// A journal with one record, of FIRM A in the pool EAST.
+const ONE_IN_EAST: [u8; 27] = [
+    b'B', b'U', b'R', b'E', b'A', b'U', b'J', b'2', 1, 0, 0, 0, 13, 0, 0, 0, 1, 15, 4, b'E', b'A',
+    b'S', b'T', 1, 1, b'A', 0,
 ];
 
 // Appends to a journal of less than 1,000 bytes.
@@ -26,17 +35,34 @@ fn append<D: Disk>(rt: &impl Abort, journal: &mut Journal<D>, body: &[u8]) -> Re
     journal.append(body)
 }
 
-// The records are one, of caller 1 and FIRM A at 8.
+// A record of caller 1 and FIRM A at this place.
+fn is_firm_at(rt: &impl Abort, record: &Record, offset: u64) {
+    let Act::Firm { firm } = &record.act else {
+        panic!(rt; "a firm");
+    };
+    assert!(rt; record.offset == offset);
+    assert!(rt; record.caller == 1);
+    assert!(rt; firm.bytes() == b"A".as_slice());
+}
+
+// The records are one, of caller 1 and FIRM A at 8, in the pool MAIN.
 fn is_firm_a(rt: &impl Abort, records: &[Record]) {
     let [record] = records else {
         panic!(rt; "one record");
     };
-    let Act::Firm { firm } = &record.act else {
-        panic!(rt; "a firm");
+    is_firm_at(rt, record, 8);
+    assert!(rt; is_main(&record.pool));
+}
+
+// Behind it stands another at 20, in the pool EAST.
+fn are_firms_of_two_pools(rt: &impl Abort, records: &[Record]) {
+    let [first, second] = records else {
+        panic!(rt; "two records");
     };
-    assert!(rt; record.offset == 8);
-    assert!(rt; record.caller == 1);
-    assert!(rt; firm.bytes() == b"A".as_slice());
+    is_firm_at(rt, first, 8);
+    is_firm_at(rt, second, 20);
+    assert!(rt; is_main(&first.pool));
+    assert!(rt; second.pool.bytes() == b"EAST".as_slice());
 }
 
 // How many records are there, or why they are not read.
@@ -86,8 +112,41 @@ fn an_empty_disk_becomes_a_journal(rt: HostRuntime) {
     assert!(rt; records.is_empty());
     assert!(rt; journal.gate() == 8);
     let disk = journal.close();
-    assert!(rt; disk.bytes() == b"BUREAUJ1\0".as_slice());
+    assert!(rt; disk.bytes() == b"BUREAUJ2\0".as_slice());
     assert!(rt; disk.moment() == 10);
+    drop(disk);
+}
+
+// The journal with one record under this header.
+fn under(header: &[u8; 8]) -> [u8; 21] {
+    let mut bytes = ONE;
+    bytes[..8].copy_from_slice(header);
+    bytes
+}
+
+// A journal that was made before there were pools is read, takes records of other pools, and keeps its header.
+#[test]
+fn a_journal_keeps_its_header(rt: HostRuntime) {
+    for header in [b"BUREAUJ1", b"BUREAUJ2"] {
+        let (mut journal, records) = open(&rt, disk_of(&rt, &under(header), &[]));
+        is_firm_a(&rt, &records);
+        let kept = append(&rt, &mut journal, &EAST_A);
+        assert!(rt; kept.is_ok());
+        let mut disk = journal.close();
+        assert!(rt; disk.bytes().len() == 39);
+        assert!(rt; disk.bytes().starts_with(header));
+        are_firms_of_two_pools(&rt, &records_of(&rt, &mut disk));
+        drop(disk);
+    }
+}
+
+// Nine bytes that are a header and a closed gate are a journal, which stays.
+#[test]
+fn an_old_journal_without_records_stays(rt: HostRuntime) {
+    let (journal, records) = open(&rt, disk_of(&rt, b"BUREAUJ1\0", &[]));
+    assert!(rt; records.is_empty());
+    let disk = journal.close();
+    assert!(rt; disk.bytes() == b"BUREAUJ1\0".as_slice());
     drop(disk);
 }
 
@@ -134,8 +193,11 @@ fn damage_is_found(rt: HostRuntime) {
         offset: 20,
         why: RecordWhy::Short,
     };
-    let table: [(usize, &[u8], Found); 10] = [
+    let table: [(usize, &[u8], Found); 13] = [
         (0, b"b", Err(JournalCause::BadHeader)),
+        (7, b"0", Err(JournalCause::BadHeader)),
+        (7, b"3", Err(JournalCause::BadHeader)),
+        (7, b"1", Ok(1)),
         (8, &[0], Ok(0)),
         (8, &[2], Ok(0)),
         (9, &[255, 255, 255, 255], Err(short)),
@@ -148,6 +210,39 @@ fn damage_is_found(rt: HostRuntime) {
     ];
     for (at, piece, answer) in table {
         is_found(&rt, &damaged(&rt, at, piece), answer, 21);
+    }
+}
+
+// The journal with one record in the pool EAST, with a piece over its bytes from a place on.
+fn damaged_in_east(rt: &impl Abort, at: usize, piece: &[u8]) -> [u8; 27] {
+    let mut bytes = ONE_IN_EAST;
+    assert!(rt; at < 27);
+    assert!(rt; piece.len() <= 27 - at);
+    bytes[at..at + piece.len()].copy_from_slice(piece);
+    bytes
+}
+
+// The record names its pool: not MAIN, not twice, by a name in form, and for caller 0 with an abandonment alone.
+#[test]
+fn damage_of_a_pool_is_found(rt: HostRuntime) {
+    let body = JournalCause::BadRecord {
+        offset: 8,
+        why: RecordWhy::Body,
+    };
+    let table: [(usize, &[u8], Found); 10] = [
+        (7, b"1", Ok(1)),
+        (19, b"WEST", Ok(1)),
+        (19, b"MAIN", Err(body)),
+        (23, &[15], Err(body)),
+        (16, &[0], Err(body)),
+        (18, &[3], Err(body)),
+        (18, &[0], Err(body)),
+        (18, &[255], Err(body)),
+        (19, b"e", Err(body)),
+        (26, &[2], Ok(1)),
+    ];
+    for (at, piece, answer) in table {
+        is_found(&rt, &damaged_in_east(&rt, at, piece), answer, 27);
     }
 }
 

@@ -1,6 +1,6 @@
 //! What the tests of several crates are made of.
 
-use claim_history::Day;
+use claim_history::{Act, Call, Day, main_pool_name};
 use disk_model::{FileDisk, MemoryDisk};
 use setoff_model::Name;
 use std::fs::File;
@@ -29,4 +29,22 @@ pub(crate) fn name(rt: &impl Abort, text: &[u8]) -> Name {
 
 pub(crate) fn day(rt: &impl Abort, number: u32) -> Day {
     Day::of_number(number).expect(rt, "a day")
+}
+
+/// What a caller asks in the pool MAIN.
+pub(crate) fn in_main(caller: u32, act: Act) -> Call {
+    Call {
+        caller,
+        pool: main_pool_name(),
+        act,
+    }
+}
+
+/// What a caller asks in the pool EAST.
+pub(crate) fn in_east(rt: &impl Abort, caller: u32, act: Act) -> Call {
+    Call {
+        caller,
+        pool: name(rt, b"EAST"),
+        act,
+    }
 }

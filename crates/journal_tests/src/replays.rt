@@ -1,13 +1,13 @@
 //! Tests of replays.
 ghost use Rattle.std.specs.Prelude.{◌≡◌, IsTrue, true};
 ghost use Rattle.act_bodies.specs.Bodies.{is_keepable};
-ghost use Rattle.round_journal.specs.Records.{AreKeepable};
+ghost use Rattle.round_journal.specs.Records.{AreKeepable, recorded_call};
 
-use crate::made::{day, name};
+use crate::made::{day, in_east, in_main, name};
 use claim_book::Book;
-use claim_history::{Act, Day, Position, Reply, Why};
+use claim_history::{Act, Call, Day, Position, Reply, Why, main_pool_name};
 use journal_replay::{ReplayStop, replay};
-use limited_book::LimitedBook;
+use limited_book::LimitedBooks;
 use round_journal::Record;
 use setoff_model::{Key, Kind, Name, Outcome};
 use std::alloc::Global;
@@ -22,17 +22,17 @@ fn are_keepable(records: &[Record]) -> bool
 
 #[tactic(auto, unfolding(act_bodies::specs::Bodies::is_keepable))]
 fn can_be_kept(kept: &Record) -> bool
-    ensures { IsTrue result → is_keepable kept.now.caller kept.now.act ≡ true }
+    ensures { IsTrue result → is_keepable (recorded_call kept.now) ≡ true }
 {
+    let _ = kept.pool.bytes();
     1 <= kept.caller && kept.act.valid()
 }
 
-// What is told of a book: its entries and bytes, the open round, what is left of the invoices I-1 of A, B and C, and the position
-// of A.
+// What is told of a book: how many entries it has, the open round, what is left of the invoices I-1 of A, B and C, and the
+// position of A.
 #[derive(Clone, Copy, PartialEq, Eq)]
 struct Told {
-    entries: u64,
-    bytes: u64,
+    entries: usize,
     open: Option<u32>,
     left: [Option<u64>; 3],
     position: Option<Position>,
@@ -46,11 +46,10 @@ fn left(book: &Book, creditor: &[u8]) -> Option<u64> {
     Some(claim.left)
 }
 
-fn tell(limited: &LimitedBook) -> Told {
-    let book = limited.book();
+fn tell(limited: &LimitedBooks, pool: &Name) -> Told {
+    let book = limited.books().book(pool);
     Told {
-        entries: limited.entries(),
-        bytes: limited.bytes(),
+        entries: book.history().len(),
         open: book.open_round(),
         left: [left(book, b"A"), left(book, b"B"), left(book, b"C")],
         position: position_of_a(book),
@@ -61,29 +60,44 @@ fn position_of_a(book: &Book) -> Option<Position> {
     book.position(Name::of(b"A")?)
 }
 
-// What is told of the book of these records, or why their replay stops.
-fn replayed(alloc: Global, records: Vec<Record>) -> Result<Told, ReplayStop>
+// What is told of the book of a pool after these records, or why their replay stops.
+fn replayed(alloc: Global, pool: &Name, records: Vec<Record>) -> Result<Told, ReplayStop>
     requires { AreKeepable records.items }
 {
-    let book = replay(alloc, records)?;
-    let told = tell(&book);
-    drop(book);
+    let books = replay(alloc, records)?;
+    let told = tell(&books, pool);
+    drop(books);
     Ok(told)
 }
 
-// The same of acts of caller 1, which can be kept, and whose records have the offsets 0, 1 and so on.
-fn acted(rt: &(impl Abort + AllocGlobal), acts: Vec<Act>) -> Result<Told, ReplayStop> {
+// The same of calls, which can be kept, and whose records have the offsets 0, 1 and so on.
+fn called(
+    rt: &(impl Abort + AllocGlobal),
+    pool: &Name,
+    calls: Vec<Call>,
+) -> Result<Told, ReplayStop> {
     let mut records = Vec::new(rt.alloc());
-    for (place, act) in acts.into_iter().enumerate() {
+    for (place, call) in calls.into_iter().enumerate() {
+        let Call { caller, pool, act } = call;
         let record = Record {
             offset: place as u64,
-            caller: 1,
+            caller,
+            pool,
             act,
         };
         records.push(record).expect(rt, "memory");
     }
     assert!(rt; are_keepable(&records));
-    replayed(rt.alloc(), records)
+    replayed(rt.alloc(), pool, records)
+}
+
+// The same of acts of caller 1 in the pool MAIN, of which it is told.
+fn acted(rt: &(impl Abort + AllocGlobal), acts: Vec<Act>) -> Result<Told, ReplayStop> {
+    let mut calls = Vec::new(rt.alloc());
+    for act in acts {
+        calls.push(in_main(1, act)).expect(rt, "memory");
+    }
+    called(rt, &main_pool_name(), calls)
 }
 
 // A creditor's invoice I-1 against a debtor, and its confirmation.
@@ -144,7 +158,6 @@ fn settled(rt: &(impl Abort + AllocGlobal)) -> Vec<Act> {
 fn a_round_stays_open(rt: HostRuntime) {
     let told = Told {
         entries: 10,
-        bytes: 204,
         open: Some(1),
         left: [Some(1200), Some(1000), Some(700)],
         position: Some(Position {
@@ -161,7 +174,6 @@ fn a_round_stays_open(rt: HostRuntime) {
 fn a_publication_settles(rt: HostRuntime) {
     let told = Told {
         entries: 11,
-        bytes: 262,
         open: None,
         left: [Some(500), Some(300), Some(0)],
         position: Some(Position {
@@ -190,4 +202,42 @@ fn a_second_firm_of_one_name_is_bad(rt: HostRuntime) {
     let reply = Reply::Refused(Why::FirmExists);
     let found = acted(&rt, repeated(&rt));
     assert!(rt; found == Err(ReplayStop::BadAct { offset: 2, reply }));
+}
+
+// A firm A in the pool EAST and a round there, behind the triangle in the pool MAIN.
+fn in_two_pools(rt: &(impl Abort + AllocGlobal)) -> Vec<Call> {
+    let mut calls = Vec::new(rt.alloc());
+    for act in triangle(rt) {
+        calls.push(in_main(1, act)).expect(rt, "memory");
+    }
+    let firm = Act::Firm {
+        firm: name(rt, b"A"),
+    };
+    let close = Act::Close {
+        kind: Kind::Plain,
+        horizon: day(rt, 20_119),
+    };
+    calls.push(in_east(rt, 2, firm)).expect(rt, "memory");
+    calls.push(in_east(rt, 2, close)).expect(rt, "memory");
+    calls
+}
+
+// Each pool has its own firms, claims and rounds.
+#[test]
+fn pools_are_apart(rt: HostRuntime) {
+    let east = name(&rt, b"EAST");
+    let told = Told {
+        entries: 2,
+        open: Some(1),
+        left: [None, None, None],
+        position: Some(Position {
+            balance: 0,
+            receivable: 0,
+            payable: 0,
+        }),
+    };
+    let found = called(&rt, &east, in_two_pools(&rt));
+    assert!(rt; found == Ok(told));
+    let main = called(&rt, &main_pool_name(), in_two_pools(&rt));
+    assert!(rt; main == acted(&rt, triangle(&rt)));
 }

@@ -4,7 +4,7 @@ use Rattle.std.proofs.Math.ListN.{drop_of_length-le}
 use Rattle.std.proofs.lemmas.List.{append-nil, get_or-map, length-map}
 use Rattle.std.proofs.lemmas.List.Elements.{All-map}
 use Rattle.disk_model.specs.Calls.{Seen}
-use Rattle.claim_history.specs.declared.entry.Entry.{Entry}
+use Rattle.claim_history.specs.declared.call.PoolEntry.{PoolEntry}
 use Rattle.claim_history.proofs.Pasts.{all_reverse}
 use Rattle.request_text.specs.declared.request.Request.{Request}
 use Rattle.turn_lock.specs.declared.view.View.{View}
@@ -33,9 +33,9 @@ left_whole n xs ys same le =
     ∙ ap (take n) (append-nil ys)
     ∙ take_all n ys (omega (arith, same, le))
 
-module _ {D : Type 0} (turn : Turn (DeskView D) Entry (DeskBase D)) (requests : List Request) (before : ℕ) (firsts lasts : List (Lane D)) (new : EachOf (IsNewLane turn before requests) firsts) (served : HaveServed turn requests firsts lasts) where
+module _ {D : Type 0} (turn : Turn (DeskView D) PoolEntry (DeskBase D)) (requests : List Request) (before : ℕ) (firsts lasts : List (Lane D)) (new : EachOf (IsNewLane turn before requests) firsts) (served : HaveServed turn requests firsts lasts) where
   abbrev DeskSeat : Type 0
-  DeskSeat = Seat (DeskView D) Entry (DeskBase D)
+  DeskSeat = Seat (DeskView D) PoolEntry (DeskBase D)
 
   abbrev seats : List (Lane D) → List DeskSeat
   seats lanes = map (λ (l : Lane D). l.seat) lanes
@@ -57,7 +57,7 @@ module _ {D : Type 0} (turn : Turn (DeskView D) Entry (DeskBase D)) (requests : 
       let d = one_of firsts k lt' in
       subst (IsNewSeatAt before k) (sym (get_or-map (λ (l : Lane D). l.seat) firsts k d s lt')) (new k d lt').seat
 
-  module _ (of_disk : D → Seen) (known made : View Entry (DeskBase D)) (d : DeskView D) (answers : List Answer) (opened_is : known.opened ≡ length known.history.seen) (before_is : before ≡ known.opened)
+  module _ (of_disk : D → Seen) (known made : View PoolEntry (DeskBase D)) (d : DeskView D) (answers : List Answer) (opened_is : known.opened ≡ length known.history.seen) (before_is : before ≡ known.opened)
       (seen_same : made.history.seen ≡ known.history.seen) (opened_same : made.opened ≡ known.opened) (base_same : made.base ≡ known.base)
       (merged : HasMerged requests lasts answers) (low : All (λ (r : Request). 1 ≤ r.lane) requests) (high : All (λ (r : Request). r.lane ≤ length lasts) requests)
       (fin : HasFinished of_disk d made (reverse (seats lasts))) where

@@ -3,8 +3,8 @@ use Rattle.std.specs.Prelude.{IsTrue, Some, None}
 use Rattle.std.proofs.Common.{◌≡◌, ◌∙◌, ℕ, List, [], ◌++◌, length, refl, sym, ap, subst}
 use Rattle.std.proofs.lemmas.List.{append-nil}
 use Rattle.disk_model.specs.Calls.{Seen}
-use Rattle.claim_history.specs.declared.entry.Entry.{Entry}
-use Rattle.claim_history.specs.Rounds.{cuts_after}
+use Rattle.claim_history.specs.declared.call.PoolEntry.{PoolEntry}
+use Rattle.claim_history.specs.PoolRounds.{cuts_after}
 use Rattle.recorded_book.specs.Moments.{HeldSince}
 use Rattle.request_text.specs.declared.request.Request.{Request}
 use Rattle.turn_lock.specs.declared.view.View.{View}
@@ -50,7 +50,7 @@ module _ {D : Type 0} (seen : D → Seen) (old start : DeskView D) (cleared : Is
         (subst (λ (n : ℕ). HeldSince n new.cleared_with (seen new.disk) new.history) (ap (λ (b : DeskBase D). (seen b.at_clearing).moment) base)
         (keeps.since (same ∙ tells)))
 
-    module _ (batch : List Request) (added : List Entry) (history : new.history ≡ old.history ++ added) where
+    module _ (batch : List Request) (added : List PoolEntry) (history : new.history ≡ old.history ++ added) where
       rounds : new.rounds ≡ cuts_after (length old.history) new.history
       rounds = keeps.rounds_are ∙ ap (λ (n : ℕ). cuts_after n new.history) cleared_with
 
@@ -67,9 +67,9 @@ module _ {D : Type 0} (seen : D → Seen) (old start : DeskView D) (cleared : Is
       (ap (λ (d : DeskView D). d.history) is ∙ cleared.history ∙ sym (append-nil old.history)) refl
 
   -- the lanes have served
-  pub run : (known : View Entry (DeskBase D)) → IsRegistrarOf start.history (base_of start) known → (new : DeskView D) (batch : List Request) (answers : List Answer)
+  pub run : (known : View PoolEntry (DeskBase D)) → IsRegistrarOf start.history (base_of start) known → (new : DeskView D) (batch : List Request) (answers : List Answer)
       → HasServedAll seen known new batch answers → HasRunBatch seen old new batch (Some answers)
   run known of_desk new batch answers all =
       let log : known.history.seen ≡ old.history = of_desk.seen ∙ cleared.history in
-      answered new (cc (all.base ∙ of_desk.base_is)) all.keeps batch all.added (all.history ∙ ap (λ (l : List Entry). l ++ all.added) log) answers
-      (subst (λ (l : List Entry). IsServed batch answers l all.added) log all.served)
+      answered new (cc (all.base ∙ of_desk.base_is)) all.keeps batch all.added (all.history ∙ ap (λ (l : List PoolEntry). l ++ all.added) log) answers
+      (subst (λ (l : List PoolEntry). IsServed batch answers l all.added) log all.served)

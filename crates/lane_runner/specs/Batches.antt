@@ -1,8 +1,8 @@
 -- What a batch does to a desk.
 use Rattle.std.specs.Prelude.{◌≡◌, List, [], ◌++◌, length, Option, MatchOption, IsTrue}
 use Rattle.disk_model.specs.Calls.{Seen}
-use Rattle.claim_history.specs.declared.entry.Entry.{Entry}
-use Rattle.claim_history.specs.Rounds.{cuts_after}
+use Rattle.claim_history.specs.declared.call.PoolEntry.{PoolEntry}
+use Rattle.claim_history.specs.PoolRounds.{cuts_after}
 use Rattle.request_text.specs.declared.request.Request.{Request}
 use Rattle.recorded_book.specs.Moments.{HeldSince}
 use Rattle.bureau_desk.specs.Desks.{DeskView, KeepsDesk, base_cleared, base_of}
@@ -14,7 +14,7 @@ use Rattle.served_lines.specs.Served.{IsServed}
 -- its bytes as before, and each image since the batch began holds all that was accepted before it.
 pub record HasRunBatch {D : Type 0} (seen : D → Seen) (old new : DeskView D) (batch : List Request)
     (answers : Option (List Answer)) : Type 0 where
-  pub added : List Entry
+  pub added : List PoolEntry
   pub history : new.history ≡ old.history ++ added
   pub served : MatchOption answers (added ≡ []) (λ list. IsServed batch list old.history added)
   pub rounds : new.rounds ≡ cuts_after (length old.history) new.history

@@ -8,8 +8,8 @@ use Rattle.std.proofs.lemmas.List.Elements.{All-head, All-tail}
 use Rattle.std.proofs.lemmas.List.Folds.{list_any_none}
 use mathlib.Core.Bool.{true≢false}
 use Rattle.disk_model.specs.Calls.{Seen}
-use Rattle.claim_history.specs.declared.entry.Entry.{Entry}
-use Rattle.claim_history.specs.Callers.{entries_by}
+use Rattle.claim_history.specs.declared.call.PoolEntry.{PoolEntry}
+use Rattle.claim_history.specs.Pools.{members_by}
 use Rattle.claim_history.proofs.Pasts.{all_reverse}
 use Rattle.request_text.specs.declared.request.Request.{Request}
 use Rattle.turn_lock.specs.declared.view.View.{View}
@@ -21,7 +21,7 @@ use Rattle.bureau_desk.specs.Desks.{DeskView}
 use Rattle.shared_bureau.specs.Finishing.{FitsSeat, HasFinished, is_number_of}
 use Rattle.served_lines.specs.declared.answer.Answer.{Answer}
 use Rattle.served_lines.specs.Served.{Line, LinesAdd, lane_lines}
-use Rattle.served_lines.proofs.Each.{entry_by, lanes_found, no_lines}
+use Rattle.served_lines.proofs.Each.{member_by, no_lines, requests_found}
 use Rattle.served_lines.proofs.Longer.{lines_longer}
 use Rattle.lane_seats.specs.Lanes.{HasServedLines}
 use Rattle.lane_seats.specs.Seating.{HasServedAll, IsNewSeatAt}
@@ -33,63 +33,65 @@ abbrev IsAmong : ℕ → ℕ → Type 0
 IsAmong count n = (1 ≤ n) × (n ≤ count)
 
 module _ {T B : Type 0} (count : ℕ) where
-  among_by : (s : Seat T Entry B) (seats : List (Seat T Entry B)) (n : ℕ) (b : Bool) → (number s == n) ≡ b → IsAmong count (number s) → (b || is_number_of seats n) ≡ true → (is_number_of seats n ≡ true → IsAmong count n) → IsAmong count n
+  among_by : (s : Seat T PoolEntry B) (seats : List (Seat T PoolEntry B)) (n : ℕ) (b : Bool) → (number s == n) ≡ b → IsAmong count (number s) → (b || is_number_of seats n) ≡ true → (is_number_of seats n ≡ true → IsAmong count n) → IsAmong count n
   among_by s seats n true is here has rest = subst (IsAmong count) (eqb-true (number s) n is) here
   among_by s seats n false is here has rest = rest has
 
   -- the number of a seat is one of them, where those of the seats are
-  is_among : (seats : List (Seat T Entry B)) (n : ℕ) → All (λ (s : Seat T Entry B). IsAmong count (number s)) seats → is_number_of seats n ≡ true → IsAmong count n
+  is_among : (seats : List (Seat T PoolEntry B)) (n : ℕ) → All (λ (s : Seat T PoolEntry B). IsAmong count (number s)) seats → is_number_of seats n ≡ true → IsAmong count n
   is_among [] n all has = absurd (true≢false (sym has))
   is_among (s ∷ seats) n all has =
-      among_by s seats n (number s == n) refl (All-head (λ (s : Seat T Entry B). IsAmong count (number s)) s seats all) has (is_among seats n (All-tail (λ (s : Seat T Entry B). IsAmong count (number s)) s seats all))
+      among_by s seats n (number s == n) refl (All-head (λ (s : Seat T PoolEntry B). IsAmong count (number s)) s seats all) has (is_among seats n (All-tail (λ (s : Seat T PoolEntry B). IsAmong count (number s)) s seats all))
 
--- a caller without an entry
-none_by : (caller : ℕ) (entries : List Entry) → All (λ (e : Entry). (e.caller == caller) ≡ false) entries → entries_by caller entries ≡ []
+-- a caller without a member
+none_by : (caller : ℕ) (members : List PoolEntry) → All (λ (m : PoolEntry). (m.entry.caller == caller) ≡ false) members
+    → members_by caller members ≡ []
 none_by caller [] none = refl
-none_by caller (e ∷ entries) none =
-    entry_by caller e entries false (All-head (λ (e : Entry). (e.caller == caller) ≡ false) e entries none) ∙ none_by caller entries (All-tail (λ (e : Entry). (e.caller == caller) ≡ false) e entries none)
+none_by caller (m ∷ members) none =
+    let Other : PoolEntry → Type 0 = λ x. (x.entry.caller == caller) ≡ false in
+    member_by caller m members false (All-head Other m members none) ∙ none_by caller members (All-tail Other m members none)
 
 -- lines in equal histories, and so on
-same_lines : {whole whole' : List Entry} {n n' : ℕ} {done done' : List Entry} {lines lines' : List Line} {entries entries' : List Entry}
+same_lines : {whole whole' : List PoolEntry} {n n' : ℕ} {done done' : List PoolEntry} {lines lines' : List Line} {entries entries' : List PoolEntry}
     → whole ≡ whole' → n ≡ n' → done ≡ done' → lines ≡ lines' → entries ≡ entries' → LinesAdd whole n done lines entries → LinesAdd whole' n' done' lines' entries'
 same_lines {whole} {whole'} {n} {n'} {done} {done'} {lines} {lines'} {entries} {entries'} a b c d e h =
-    subst (λ (x : List Entry). LinesAdd whole' n' done' lines' x) e
+    subst (λ (x : List PoolEntry). LinesAdd whole' n' done' lines' x) e
     (subst (λ (x : List Line). LinesAdd whole' n' done' x entries) d
-    (subst (λ (x : List Entry). LinesAdd whole' n' x lines entries) c
+    (subst (λ (x : List PoolEntry). LinesAdd whole' n' x lines entries) c
     (subst (λ (x : ℕ). LinesAdd whole' x done lines entries) b
-    (subst (λ (x : List Entry). LinesAdd x n done lines entries) a h))))
+    (subst (λ (x : List PoolEntry). LinesAdd x n done lines entries) a h))))
 
 -- ---- the seats of a batch
 
-module _ {D : Type 0} (requests : List Request) (answers : List Answer) (before : ℕ) (firsts lasts : List (Seat (DeskView D) Entry (DeskBase D))) (new : EachOf (IsNewSeatAt before) firsts) (all : length lasts ≡ length firsts)
-    (served : (k : ℕ) (none : Seat (DeskView D) Entry (DeskBase D)) → k < length firsts → HasServedLines (get_or firsts k none) (get_or lasts k none) (lane_lines (k + 1) requests answers)) where
-  number_is : (k : ℕ) (s : Seat (DeskView D) Entry (DeskBase D)) → k < length lasts → number (get_or lasts k s) ≡ k + 1
+module _ {D : Type 0} (requests : List Request) (answers : List Answer) (before : ℕ) (firsts lasts : List (Seat (DeskView D) PoolEntry (DeskBase D))) (new : EachOf (IsNewSeatAt before) firsts) (all : length lasts ≡ length firsts)
+    (served : (k : ℕ) (none : Seat (DeskView D) PoolEntry (DeskBase D)) → k < length firsts → HasServedLines (get_or firsts k none) (get_or lasts k none) (lane_lines (k + 1) requests answers)) where
+  number_is : (k : ℕ) (s : Seat (DeskView D) PoolEntry (DeskBase D)) → k < length lasts → number (get_or lasts k s) ≡ k + 1
   number_is k s lt = let lt' : k < length firsts = omega (arith, lt, all) in (served k s lt').same.number_is ∙ (new k s lt').number_is
 
-  module _ (of_disk : D → Seen) (known made : View Entry (DeskBase D)) (d : DeskView D) (opened_is : known.opened ≡ length known.history.seen) (before_is : before ≡ known.opened)
+  module _ (of_disk : D → Seen) (known made : View PoolEntry (DeskBase D)) (d : DeskView D) (opened_is : known.opened ≡ length known.history.seen) (before_is : before ≡ known.opened)
       (seen_same : made.history.seen ≡ known.history.seen) (opened_same : made.opened ≡ known.opened) (base_same : made.base ≡ known.base)
       (answered : map (λ a. a.line) answers ≡ map (λ r. r.line) requests) (low : All (λ (r : Request). 1 ≤ r.lane) requests) (high : All (λ (r : Request). r.lane ≤ length lasts) requests)
       (fin : HasFinished of_disk d made (reverse lasts)) where
-    abbrev log : List Entry
+    abbrev log : List PoolEntry
     log = known.history.seen
 
-    abbrev added : List Entry
+    abbrev added : List PoolEntry
     added = fin.begins.0
 
     history : d.history ≡ log ++ added
-    history = sym fin.begins.1 ∙ ap (λ (l : List Entry). l ++ added) seen_same
+    history = sym fin.begins.1 ∙ ap (λ (l : List PoolEntry). l ++ added) seen_same
 
     past : drop made.opened d.history ≡ added
     past =
         ap (λ (n : ℕ). drop n d.history) (opened_same ∙ opened_is)
-        ∙ ap (λ (l : List Entry). drop (length log) l) history
+        ∙ ap (λ (l : List PoolEntry). drop (length log) l) history
         ∙ drop-append_seam log added
 
     fits : All (FitsSeat of_disk d made.opened) lasts
     fits = subst (All (FitsSeat of_disk d made.opened)) (reverse-reverse lasts) (all_reverse (FitsSeat of_disk d made.opened) (reverse lasts) fin.each)
 
     abbrev Served : ℕ → Type 0
-    Served lane = LinesAdd (log ++ added) (length log) [] (lane_lines lane requests answers) (entries_by lane added)
+    Served lane = LinesAdd (log ++ added) (length log) [] (lane_lines lane requests answers) (members_by lane added)
 
     -- a seat of the list
     of_list : (k : ℕ) → k < length lasts → Served (k + 1)
@@ -103,27 +105,27 @@ module _ {D : Type 0} (requests : List Request) (answers : List Answer) (before 
         let fit = fits k none lt in
         let whole : seen now ++ fit.begins.0 ≡ log ++ added = fit.begins.1 ∙ history in
         let opened_at : opened now ≡ length log = run.same.opened_is ∙ first.opened_is ∙ before_is ∙ opened_is in
-        let mine : own now ≡ entries_by (k + 1) added =
-        fit.own_is ∙ ap (λ (n : ℕ). entries_by n (drop made.opened d.history)) (number_is k none lt) ∙ ap (entries_by (k + 1)) past in
-        let entries : run.more ≡ entries_by (k + 1) added = sym (ap (λ (l : List Entry). l ++ run.more) first.none) ∙ sym run.grows ∙ mine in
+        let mine : own now ≡ members_by (k + 1) added =
+        fit.own_is ∙ ap (λ (n : ℕ). members_by n (drop made.opened d.history)) (number_is k none lt) ∙ ap (members_by (k + 1)) past in
+        let entries : run.more ≡ members_by (k + 1) added = sym (ap (λ (l : List PoolEntry). l ++ run.more) first.none) ∙ sym run.grows ∙ mine in
         same_lines whole opened_at first.none refl entries
         (lines_longer (seen now) fit.begins.0 (opened now) (own old) (lane_lines (k + 1) requests answers) run.more run.adds)
 
     -- the numbers of the seats
-    numbers : All (λ (s : Seat (DeskView D) Entry (DeskBase D)). IsAmong (length lasts) (number s)) (reverse lasts)
-    numbers = all_reverse (λ (s : Seat (DeskView D) Entry (DeskBase D)). IsAmong (length lasts) (number s)) lasts
+    numbers : All (λ (s : Seat (DeskView D) PoolEntry (DeskBase D)). IsAmong (length lasts) (number s)) (reverse lasts)
+    numbers = all_reverse (λ (s : Seat (DeskView D) PoolEntry (DeskBase D)). IsAmong (length lasts) (number s)) lasts
         (λ k none lt. subst (IsAmong (length lasts)) (sym (number_is k none lt)) (omega arith, omega (arith, lt)))
 
-    callers : All (λ (e : Entry). IsAmong (length lasts) e.caller) added
-    callers = subst (λ (l : List Entry). All (λ (e : Entry). IsAmong (length lasts) e.caller) l) past
+    callers : All (λ (m : PoolEntry). IsAmong (length lasts) m.entry.caller) added
+    callers = subst (λ (l : List PoolEntry). All (λ (m : PoolEntry). IsAmong (length lasts) m.entry.caller) l) past
         (λ i e lt. is_among (length lasts) (reverse lasts) _ numbers (fin.numbered i e lt))
 
     -- any other number
     of_none : (lane : ℕ) → (IsAmong (length lasts) lane → ⊥) → Served lane
     of_none lane out =
-        let no_entry = none_by lane added (λ i e lt. ne_eqb _ lane (λ is. out (subst (IsAmong (length lasts)) is (callers i e lt)))) in
+        let no_member = none_by lane added (λ i e lt. ne_eqb _ lane (λ is. out (subst (IsAmong (length lasts)) is (callers i e lt)))) in
         let no_line = no_lines lane requests answers (list_any_none (λ (r : Request). r.lane == lane) requests (λ i r lt. ne_eqb _ lane (λ is. out (subst (IsAmong (length lasts)) is (low i r lt, high i r lt))))) in
-        same_lines refl refl refl (sym no_line) (sym no_entry) refl
+        same_lines refl refl refl (sym no_line) (sym no_member) refl
 
     by_place : (k : ℕ) (b : Bool) → ltb k (length lasts) ≡ b → Served (k + 1)
     by_place k true is = of_list k (ltb-true k (length lasts) is)
@@ -137,7 +139,7 @@ module _ {D : Type 0} (requests : List Request) (answers : List Answer) (before 
     served_all = record {
       added = added;
       history = history;
-      served = record { answered = answered; lanes = lanes_found requests answers log added each; each = each };
+      served = record { answered = answered; asked = requests_found requests answers log added each; each = each };
       base = fin.base_is ∙ base_same;
       keeps = fin.keeps;
     }

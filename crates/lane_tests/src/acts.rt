@@ -3,7 +3,7 @@ ghost use Rattle.std.specs.Prelude.{◌≡◌};
 ghost use Rattle.shared_bureau.specs.Adding.{IsReady};
 
 use bureau_desk::Desk;
-use claim_history::{Act, Reply};
+use claim_history::{Act, Entry, Reply, main_pool_name};
 use disk_model::MemoryDisk;
 use setoff_model::Name;
 use shared_bureau::Shared;
@@ -26,7 +26,17 @@ pub fn firm(rt: &impl Abort, letter: u8) -> Name {
     Name::of(&[letter]).expect(rt, "a name")
 }
 
-/// The reply to an act that is no Close and no publication.
+/// The pool of this name.
+pub fn pool(rt: &impl Abort, text: &[u8]) -> Name {
+    Name::of(text).expect(rt, "a name")
+}
+
+/// The entries of the pool MAIN, in order.
+pub fn main_entries(desk: &MemoryDesk) -> &[Entry] {
+    desk.books().book(&main_pool_name()).history()
+}
+
+/// The reply to an act in the pool MAIN that is no Close and no publication.
 pub fn ask<R: Wait + Abort>(
     rt: &R,
     shared: &Shared<MemoryDisk>,
@@ -37,7 +47,7 @@ pub fn ask<R: Wait + Abort>(
     ensures { IsReady shared.now.turn seat.new }
 {
     assert!(rt; act.valid() && !act.publishes() && !matches!(act, Act::Close { .. }));
-    let reply = shared.submit(rt, seat, act).ok();
+    let reply = shared.submit(rt, seat, main_pool_name(), act).ok();
     reply.expect(rt, "a reply")
 }
 

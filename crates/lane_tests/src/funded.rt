@@ -5,7 +5,7 @@ ghost use Rattle.shared_bureau.specs.Adding.{IsReady};
 use crate::acts::{MemoryDesk, ask, firm};
 use crate::rounds::{finished, horizon, two_seats};
 use bureau_desk::CutReply;
-use claim_history::{Act, Reply, Why};
+use claim_history::{Act, Reply, Why, main_pool_name};
 use disk_model::MemoryDisk;
 use level_solver::LevelSolver;
 use setoff_model::Kind;
@@ -45,7 +45,7 @@ fn is_held<R: Wait + Abort>(
     ensures first { IsReady shared.now.turn first.new }
     ensures second { IsReady shared.now.turn second.new }
 {
-    match shared.cut(rt, first, Kind::Funded, horizon(rt)) {
+    match shared.cut(rt, first, main_pool_name(), Kind::Funded, horizon(rt)) {
         Ok(CutReply::Frozen(cut)) => assert!(rt; cut.kind() == Kind::Funded && cut.round() == 1),
         _ => panic!(rt; "a round"),
     }
@@ -66,7 +66,8 @@ fn goes_on<R: Wait + Abort>(
     let solver = LevelSolver::new();
     let told = Told(Mutex::new(0));
     let day = horizon(rt);
-    match shared.close_round(rt, alloc, seat, &solver, &told, Kind::Funded, day) {
+    let main = main_pool_name();
+    match shared.close_round(rt, alloc, seat, main, &solver, &told, Kind::Funded, day) {
         CloseEnd::Published {
             round: 1,
             total: 2_100,

@@ -1,5 +1,5 @@
 //! Batches, served by lanes side by side.
-use crate::acts::{MemoryDesk, desk_on};
+use crate::acts::{MemoryDesk, desk_on, main_entries};
 use crate::steps::{Steps, UntilAllCome};
 use claim_history::{Act, Entry, Position, Reply};
 use flow_solver::PlainSolver;
@@ -41,14 +41,15 @@ fn are_replied(rt: &impl Abort, answers: &[Answer], count: usize) {
 }
 
 /// The desk after a batch, each of whose lines was replied to.
-pub fn served<R: Threads + Wait + Abort + Sync, G: Gate + Sync>(
+pub fn served<R: Threads + Wait + Abort + Sync, G: Gate + Sync, P: Pause + Sync>(
     rt: &R,
     alloc: Global,
     desk: MemoryDesk,
     batch: &Batch,
     gate: &G,
+    pause: &P,
 ) -> MemoryDesk {
-    let end = run_batch(rt, alloc, desk, batch, &PlainSolver::new(), gate, &Nothing);
+    let end = run_batch(rt, alloc, desk, batch, &PlainSolver::new(), gate, pause);
     let BatchEnd { desk, answers } = end;
     let answers = answers.expect(rt, "answers");
     are_replied(rt, answers.list(), batch.requests().len());
@@ -94,9 +95,16 @@ fn lanes_are_served_at_the_same_time(rt: HostRuntime) {
         lines: 16,
         steps: &steps,
     };
-    let desk = served(&rt, alloc, desk_on(&rt, alloc, b""), &batches[0], &gate);
+    let desk = served(
+        &rt,
+        alloc,
+        desk_on(&rt, alloc, b""),
+        &batches[0],
+        &gate,
+        &Nothing,
+    );
     assert!(rt; !steps.was_late(&rt));
-    each_has_one(&rt, desk.book().history());
+    each_has_one(&rt, main_entries(&desk));
     drop(desk.close());
 }
 
@@ -145,8 +153,9 @@ FENCE
 ";
     let batches = batches_of(&rt, alloc, lines);
     assert!(rt; batches.len() == 2);
-    let desk = served(&rt, alloc, desk_on(&rt, alloc, b""), &batches[0], &Nothing);
-    let desk = served(&rt, alloc, desk, &batches[1], &Nothing);
-    finds_own_writes(&rt, desk.book().history());
+    let desk = desk_on(&rt, alloc, b"");
+    let desk = served(&rt, alloc, desk, &batches[0], &Nothing, &Nothing);
+    let desk = served(&rt, alloc, desk, &batches[1], &Nothing, &Nothing);
+    finds_own_writes(&rt, main_entries(&desk));
     drop(desk.close());
 }

@@ -12,6 +12,8 @@ mod lanes;
 #[cfg(test)]
 mod many;
 #[cfg(test)]
+mod pools;
+#[cfg(test)]
 mod rounds;
 #[cfg(test)]
 mod steps;

@@ -3,7 +3,7 @@ ghost use Rattle.std.specs.Prelude.{◌≡◌, All, length};
 ghost use Rattle.turn_lock.specs.Seats.{lock_of, registry, made};
 ghost use Rattle.shared_bureau.specs.Adding.{IsReady};
 
-use crate::acts::{MemoryDesk, ask, desk_on, firm, is_same};
+use crate::acts::{MemoryDesk, ask, desk_on, firm, is_same, main_entries};
 use claim_history::{Act, Entry, Position, Reply, Why, accepted};
 use disk_model::MemoryDisk;
 use setoff_model::Name;
@@ -119,8 +119,8 @@ fn due(before: &[Entry], act: &Act) -> Reply {
     }
 }
 
-// Whether each entry has the reply that is due after those before it.
-fn are_due(history: &[Entry]) -> bool {
+/// Whether each entry has the reply that is due after those before it.
+pub fn are_due(history: &[Entry]) -> bool {
     (0..history.len()).all(|at| history[at].reply == due(&history[..at], &history[at].act))
 }
 
@@ -172,7 +172,7 @@ fn are_same(ones: &[Entry], others: &[Entry]) -> bool {
 // Whether the journal of these bytes replays to these entries.
 fn replays_to(rt: &impl Abort, alloc: Global, bytes: &[u8], kept: &[Entry]) -> bool {
     let desk = desk_on(rt, alloc, bytes);
-    let same = are_same(desk.book().history(), kept);
+    let same = are_same(main_entries(&desk), kept);
     drop(desk.close());
     same
 }
@@ -183,7 +183,7 @@ fn sixteen_seats_have_one_history(rt: HostRuntime) {
     let (shared, registrar, mut seats) = sixteen_seats(&rt, alloc);
     all_ask(&rt, &shared, seats.as_mut_slice(), firm(&rt, b'A'));
     let desk = shared.finish(registrar, seats);
-    let history = desk.book().history();
+    let history = main_entries(&desk);
     assert!(rt; history.len() == 3_200);
     assert!(rt; are_due(history));
     assert!(rt; (1..17).all(|caller| has_all(history, caller)));

@@ -4,10 +4,10 @@ ghost use Rattle.turn_lock.specs.Seats.{lock_of, number, seen, own, registry, ma
 ghost use Rattle.shared_bureau.specs.Owned.{OwnsRound};
 ghost use Rattle.shared_bureau.specs.Adding.{IsReady};
 
-use crate::acts::{MemoryDesk, ask, desk_on, firm};
+use crate::acts::{MemoryDesk, ask, desk_on, firm, main_entries};
 use crate::steps::{Steps, UntilAnswered};
 use bureau_desk::{CutReply, PublishReply};
-use claim_history::{Act, Day, Reply, Why};
+use claim_history::{Act, Day, Reply, Why, main_pool_name};
 use disk_model::MemoryDisk;
 use flow_solver::PlainSolver;
 use price_certificate::certified;
@@ -137,18 +137,19 @@ fn has_three_parties(cut: &Cut) -> bool {
             .all(|(party, letter)| Name::of(&[*letter]) == Some(party.firm))
 }
 
-// The cut of the round that a seat closes, or continues. Its claims have these amounts.
-fn frozen<R: Wait + Abort>(
+/// The cut of the round that a seat closes in a pool, or continues. Its claims have these amounts.
+pub fn frozen<R: Wait + Abort>(
     rt: &R,
     shared: &Shared<MemoryDisk>,
     seat: &mut Seat<MemoryDesk>,
+    pool: Name,
     amounts: &[u64],
 ) -> Cut
     requires { IsReady shared.now.turn seat.old }
     ensures ready { IsReady shared.now.turn seat.new }
-    ensures owned { OwnsRound (seen seat.new) (own seat.new) (number seat.new) result }
+    ensures owned { OwnsRound (seen seat.new) (own seat.new) (number seat.new) pool result }
 {
-    match shared.cut(rt, seat, Kind::Plain, horizon(rt)) {
+    match shared.cut(rt, seat, pool, Kind::Plain, horizon(rt)) {
         Ok(CutReply::Frozen(cut)) => {
             assert!(rt; has_amounts(&cut, amounts));
             cut
@@ -157,7 +158,7 @@ fn frozen<R: Wait + Abort>(
     }
 }
 
-// The Close of a seat is refused, since round 1 is open.
+// The Close of a seat in the pool MAIN is refused, since round 1 is open.
 fn finds_open<R: Wait + Abort>(
     rt: &R,
     shared: &Shared<MemoryDisk>,
@@ -167,27 +168,28 @@ fn finds_open<R: Wait + Abort>(
     requires { IsReady shared.now.turn seat.old }
     ensures { IsReady shared.now.turn seat.new }
 {
-    match shared.cut(rt, seat, kind, horizon(rt)) {
+    match shared.cut(rt, seat, main_pool_name(), kind, horizon(rt)) {
         Ok(CutReply::Refused(Why::RoundOpen { round: 1 })) => {}
         _ => panic!(rt; "an open round"),
     }
 }
 
-// Solves and publishes the round that the seat owns: the total.
-fn published<R: Wait + Abort>(
+/// Solves and publishes the round that the seat owns in a pool: the total.
+pub fn published<R: Wait + Abort>(
     rt: &R,
     alloc: Global,
     shared: &Shared<MemoryDisk>,
     seat: &mut Seat<MemoryDesk>,
+    pool: Name,
     cut: Cut,
 ) -> u64
     requires ready { IsReady shared.now.turn seat.old }
-    requires owned { OwnsRound (seen seat.old) (own seat.old) (number seat.old) cut }
+    requires owned { OwnsRound (seen seat.old) (own seat.old) (number seat.old) pool cut }
     ensures { IsReady shared.now.turn seat.new }
 {
     assert!(rt; cut.well_formed());
     let checked = certified(alloc, &PlainSolver::new(), cut).ok();
-    match shared.publish(rt, seat, checked.expect(rt, "memory")) {
+    match shared.publish(rt, seat, pool, checked.expect(rt, "memory")) {
         PublishReply::Published { total } => total,
         PublishReply::Device { .. } => panic!(rt; "a publication"),
     }
@@ -206,13 +208,14 @@ fn first_round<R: Wait + Abort>(
     ensures { IsReady shared.now.turn result.0 }
 {
     let amounts = [1_000, 700, 1_200];
+    let main = main_pool_name();
     let mut seat = seat;
-    frozen(rt, shared, &mut seat, &amounts);
+    frozen(rt, shared, &mut seat, main, &amounts);
     finds_open(rt, shared, &mut seat, Kind::Funded);
-    let cut = frozen(rt, shared, &mut seat, &amounts);
+    let cut = frozen(rt, shared, &mut seat, main, &amounts);
     steps.step(rt);
     steps.wait_for(rt, 2);
-    let total = published(rt, alloc, shared, &mut seat, cut);
+    let total = published(rt, alloc, shared, &mut seat, main, cut);
     steps.step(rt);
     (seat, total)
 }
@@ -249,13 +252,14 @@ fn second_round<R: Wait + Abort>(
 {
     let mut seat = answered(rt, alloc, shared, seat, steps);
     steps.wait_for(rt, 3);
-    let cut = frozen(rt, shared, &mut seat, &[300, 500, 200]);
+    let main = main_pool_name();
+    let cut = frozen(rt, shared, &mut seat, main, &[300, 500, 200]);
     assert!(rt; cut.round() == 2 && has_three_parties(&cut));
-    let total = published(rt, alloc, shared, &mut seat, cut);
+    let total = published(rt, alloc, shared, &mut seat, main, cut);
     (seat, total)
 }
 
-/// A shared desk on an empty disk, with two seats, the first of which has filed and confirmed three claims.
+/// A shared desk on an empty disk, with two seats, the first of which has filed and confirmed three claims in the pool MAIN.
 pub fn two_seats<R: Wait + Abort>(
     rt: &R,
     alloc: Global,
@@ -341,7 +345,17 @@ fn closed<R: Wait + Abort>(
     let solver = PlainSolver::new();
     let pause = UntilAnswered(steps);
     let day = horizon(rt);
-    match shared.close_round(rt, alloc, &mut seat, &solver, &pause, Kind::Plain, day) {
+    let main = main_pool_name();
+    match shared.close_round(
+        rt,
+        alloc,
+        &mut seat,
+        main,
+        &solver,
+        &pause,
+        Kind::Plain,
+        day,
+    ) {
         CloseEnd::Published { round: 1, total } => (seat, total),
         _ => panic!(rt; "a publication"),
     }
@@ -360,7 +374,7 @@ fn others_are_answered_while_a_round_is_solved(rt: HostRuntime) {
     assert!(rt; !steps.was_late(&rt));
     assert!(rt; total == 2_100);
     let desk = finished(&rt, alloc, shared, registrar, first, second);
-    let history = desk.book().history();
+    let history = main_entries(&desk);
     assert!(rt; history.len() == 20);
     assert!(rt; history[9].reply == Reply::Opened { round: 1 });
     assert!(rt; history[19].reply == Reply::Published { total });

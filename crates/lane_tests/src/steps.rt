@@ -54,7 +54,7 @@ impl Pause for UntilAnswered<'_> {
     }
 }
 
-/// A gate at which each line waits until so many have come to it.
+/// A gate at which each line waits until so many have come to it, or a pause in which each round does.
 #[derive(Drop)]
 pub struct UntilAllCome<'a> {
     pub lines: u32,
@@ -68,4 +68,11 @@ impl Gate for UntilAllCome<'_> {
     }
 
     fn after<R: Wait>(&self, _rt: &R, _line: u64) {}
+}
+
+impl Pause for UntilAllCome<'_> {
+    fn pause<R: Wait>(&self, rt: &R, _round: u32) {
+        self.steps.step(rt);
+        self.steps.wait_for(rt, self.lines);
+    }
 }

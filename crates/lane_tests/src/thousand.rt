@@ -1,7 +1,7 @@
 //! A thousand lines of sixteen lanes, and what is due to them.
-use crate::acts::{MemoryDesk, desk_on, is_same};
+use crate::acts::{MemoryDesk, desk_on, is_same, main_entries};
 use crate::lanes::{Nothing, batches_of, served};
-use claim_history::{Act, Entry};
+use claim_history::{Act, Entry, main_pool_name};
 use request_text::Request;
 use std::alloc::Global;
 use std::process::Abort;
@@ -42,7 +42,7 @@ fn is_due(rt: &impl Abort, desk: &mut MemoryDesk, entry: &Entry) {
     assert!(rt; act.valid());
     assert!(rt; !act.publishes());
     assert!(rt; !matches!(act, Act::Close { .. }));
-    let reply = desk.act(entry.caller, act).ok();
+    let reply = desk.act(entry.caller, main_pool_name(), act).ok();
     assert!(rt; reply == Some(entry.reply));
 }
 
@@ -68,8 +68,9 @@ fn a_thousand_lines_have_the_replies_that_are_due(rt: HostRuntime) {
     let alloc = rt.alloc();
     let batches = batches_of(&rt, alloc, &thousand_lines(&rt, alloc));
     assert!(rt; batches.len() == 1);
-    let desk = served(&rt, alloc, desk_on(&rt, alloc, b""), &batches[0], &Nothing);
-    let history = desk.book().history();
+    let desk = desk_on(&rt, alloc, b"");
+    let desk = served(&rt, alloc, desk, &batches[0], &Nothing, &Nothing);
+    let history = main_entries(&desk);
     assert!(rt; history.len() == 1_000);
     for lane in 1..17 {
         assert!(rt; are_lines_of(lane, batches[0].requests(), history));

@@ -1,11 +1,11 @@
-//! A book that keeps to the limits of entries and of the bytes of a journal.
+//! The books of all pools, kept to the limits of entries and of the bytes of a journal.
 //!
 //! What a history *uses* are its entries, but for those that tell of a device, and the bytes of a journal of its accepted acts.
-//! What an act *needs* beyond that is its own entry and record, and both *endings* of the round that is open afterwards: the
-//! publication, and an abandonment. It is *full* where what is used and needed is above a limit.
+//! Each open round *reserves* both its *endings*: the publication, and an abandonment. What a call *needs* is what is used, its
+//! own entry and record, and what the rounds that are open afterwards reserve. It is *full* where a need is above its limit.
 //!
-//! Rules: an act is put into the book only where it was within the limits when it was asked. So an open round can always be
-//! ended: the room for its endings was counted when it was opened.
+//! Rules: an entry is put into the books only where its call was within the limits when it was asked. So each open round can
+//! always be ended: the room for its endings was counted when it was opened. The limits are those of all pools together.
 #![tactic(auto)]
 
 mod full;
@@ -15,6 +15,6 @@ mod publication;
 mod room;
 
 pub use full::Full;
-pub use limited::LimitedBook;
+pub use limited::LimitedBooks;
 pub use publication::publication_reply;
 pub use room::Room;

@@ -1,284 +1,297 @@
-//! A book within the limits.
-ghost use Rattle.std.specs.Prelude.{ℕ, ◌≡◌, ◌<◌, ◌+◌, ◌*◌, ◌≤◌, ◌++◌, ◌∷◌, [], IfOk, IfErr, OnOk, OnErr, true, false};
-ghost use Rattle.setoff_model.specs.declared.kind.Kind.{Kind};
+//! The books of all pools within the limits.
+ghost use Rattle.std.specs.Prelude.{ℕ, List, ◌≡◌, ◌+◌, ◌*◌, ◌<◌, ◌≤◌, ◌++◌, ◌∷◌, [], IfOk, IfErr, OnOk, OnErr, true, false};
+ghost use Rattle.setoff_model.specs.declared.limits.TheConstants.{MOST_ENTRIES, MOST_JOURNAL_BYTES};
 ghost use Rattle.setoff_model.specs.CutView.{WellFormed};
-ghost use Rattle.setoff_model.specs.declared.limits.TheConstants.{MOST_BODY, MOST_ENTRIES, MOST_JOURNAL_BYTES};
-ghost use Rattle.claim_history.specs.declared.act.Act.TheVariants as acts;
-ghost use Rattle.claim_history.specs.Cut.{cut_of};
-ghost use Rattle.claim_history.specs.States.{state_of};
-ghost use Rattle.claim_history.specs.History.{answer_of, IsLegal, AreValid, MayFollow, is_opening, is_no_refusal};
-ghost use Rattle.claim_history.specs.Acts.{is_valid, is_publication};
-ghost use Rattle.claim_history.specs.Needs.{used_entries_of, used_bytes_of, endings_entries, endings_bytes, Fits, is_full, IsWithinLimits};
-ghost use Rattle.claim_book.specs.Book.{ledger_of, room_for, room_needed, KeepsRoom, GivesCut};
-ghost use Rattle.limited_book.specs.Limited.{IsFull, round_after, is_ending_reply};
+ghost use Rattle.claim_history.specs.History.{is_opening, is_no_refusal};
+ghost use Rattle.claim_history.specs.Acts.{is_valid, is_publication, is_close};
+ghost use Rattle.claim_history.specs.Pools.{IsLegal, AreValid, MayFollow, call_of, due_reply, entries_in, member_of, open_round_in, state_in};
+ghost use Rattle.claim_history.specs.PoolNeeds.{Fits, IsReserved, IsWithinLimits, is_full, reserved_bytes_of, reserved_entries_of, used_bytes_of, used_entries_of};
+ghost use Rattle.claim_history.specs.PoolRounds.{IsCutDue};
+ghost use Rattle.claim_book.specs.Book.{room_for, room_needed, KeepsRoom, GivesCut};
+ghost use Rattle.claim_book.specs.Pools.{KeepsRooms, room_in};
+ghost use Rattle.limited_book.specs.Limited.{IsFull};
 
 use crate::full::{Full, within_limits};
-use crate::need::{Need, endings_of, own_bytes, use_of};
-use claim_book::Book;
-use claim_history::record_bytes::{ABANDON_BODY, CLOSE_BODY, RECORD_HEAD};
-use claim_history::{Act, Day, Entry, Reply};
-use round_cut::{cut_of_a_history_is_of_its_facts, open_cut_is_well_formed};
-use setoff_model::{Cut, Kind};
+use crate::need::{Need, endings_after, endings_in, endings_of, more, moved, own_bytes, use_of};
+use crate::publication::publication_reply;
+use claim_book::Books;
+use claim_history::record_bytes::{CLOSE_BODY, RECORD_HEAD};
+use claim_history::{
+    Act, Call, Entry, Reply, each_pool_has_its_history, pool_bytes, use_is_counted,
+};
+use round_cut::cut_of_a_history_is_of_its_facts;
+use setoff_model::{Cut, Name};
 use std::alloc::{AllocError, Global};
 use std::marker::Model;
 
-/// A book of which each act was within the limits when it was asked, with the entries and the bytes that its history uses.
+/// The books of all pools, of which each act was within the limits when it was asked, with what their history uses and what its
+/// open rounds reserve.
 ///
-/// Contracts see the book alone. The bytes are those of a journal of its accepted acts.
+/// Contracts see the books alone. The bytes are those of a journal of the accepted acts.
 #[derive(Drop)]
-pub struct LimitedBook {
-    book: Book,
-    entries: u64,
-    bytes: u64,
+pub struct LimitedBooks {
+    books: Books,
+    used: Need,
+    reserved: Need,
 }
 
-impl Model for LimitedBook {
-    ghost use Rattle.claim_book.specs.Book.{BookView};
-    ghost use Rattle.limited_book.specs.Limited.{IsLimited};
+impl Model for LimitedBooks {
+    ghost use Rattle.claim_book.specs.Pools.{BooksView};
+    ghost use Rattle.limited_book.specs.Limited.{AreLimited};
 
-    ghost Value = { BookView };
+    ghost Value = { BooksView };
 
-    ghost view = { λ b. b.book };
+    ghost view = { λ b. b.books };
 
-    ghost invariant = { λ b. IsLimited b.book.history b.entries b.bytes };
+    ghost invariant = { λ b. AreLimited b.books.members b.used b.reserved };
 }
 
-impl LimitedBook {
-    /// A book without entries. It takes no memory.
-    pub fn new(alloc: Global) -> LimitedBook
-        ensures history { result.history ≡ [] }
-        ensures room { result.room ≡ 0 }
+impl LimitedBooks {
+    /// Books without members. It takes no memory.
+    pub fn new(alloc: Global) -> LimitedBooks
+        ensures members { result.members ≡ [] }
+        ensures rooms { result.rooms ≡ [] }
     {
-        LimitedBook {
-            book: Book::new(alloc),
-            entries: 0,
-            bytes: 9,
-        }
-    }
-
-    /// The book. Each of its acts was within the limits when it was asked. It takes no memory.
-    pub fn book(&self) -> &Book
-        ensures book { result.now ≡ self.now }
-        ensures within { IsWithinLimits self.now.history }
-    {
-        &self.book
-    }
-
-    /// Gives the book. It takes no memory.
-    pub fn into_book(self) -> Book
-        ensures { result ≡ self }
-    {
-        self.book
-    }
-
-    /// The entries that the history uses: those whose replies tell of no device, at most 2^20. No more rounds were
-    /// opened. It takes no memory.
-    pub fn entries(&self) -> u64
-        ensures used { result ≡ used_entries_of self.now.history }
-        ensures most { result ≤ MOST_ENTRIES }
-        ensures openings { (state_of self.now.history).openings ≤ result }
-    {
-        self.used().entries
-    }
-
-    /// The bytes that the history uses: those of a journal of its accepted acts, at most 2^30. It takes no memory.
-    pub fn bytes(&self) -> u64
-        ensures used { result ≡ used_bytes_of self.now.history }
-        ensures most { result ≤ MOST_JOURNAL_BYTES }
-    {
-        self.used().bytes
-    }
-
-    // What the history uses.
-    fn used(&self) -> Need
-        ensures entries { result.entries ≡ used_entries_of self.now.history }
-        ensures bytes { result.bytes ≡ used_bytes_of self.now.history }
-        ensures few_entries { result.entries ≤ MOST_ENTRIES }
-        ensures few_bytes { result.bytes ≤ MOST_JOURNAL_BYTES }
-        ensures openings { (state_of self.now.history).openings ≤ result.entries }
-        ensures legal { IsLegal self.now.history }
-        ensures valid { AreValid self.now.history }
-        ensures within { IsWithinLimits self.now.history }
-    {
-        let _history = self.book.history();
-        Need {
-            entries: self.entries,
-            bytes: self.bytes,
-        }
-    }
-
-    /// Makes room as `Book::reserve` does: for an entry of this act and, where a round is open or the act is a Close, for one
-    /// publication beside it. It lowers no room that was made before.
-    ///
-    /// The only error is that memory is missing. It comes only where there was less room, and leaves the history as before.
-    pub fn reserve(&mut self, act: &Act) -> Result<(), AllocError>
-        ensures history { self.new.history ≡ self.old.history }
-        ensures room { OnOk result (room_for (state_of self.old.history) act.now ≤ self.new.room) }
-        ensures kept { self.old.room ≤ self.new.room }
-        ensures needed { OnErr result (self.old.room < room_for (state_of self.old.history) act.now) }
-    {
-        self.book.reserve(act)
-    }
-
-    /// The one reply of the history to a caller and an act that is no publication. It takes no memory.
-    pub fn answer(&self, caller: u32, act: &Act) -> Reply
-        requires { is_publication act.now ≡ false }
-        ensures { result ≡ answer_of self.now.history caller act.now }
-    {
-        let _used = self.used();
-        self.book.answer(caller, act)
-    }
-
-    /// Whether an act that opens no round is within the limits, with the history's one reply to it. It takes no memory.
-    ///
-    /// It needs what the history uses, its own entry and, where it is accepted, its record, and both endings of the round that
-    /// is open afterwards. The error comes exactly where one of the needs is above its limit, entries before bytes, and says
-    /// how much is needed and what the limit is.
-    pub fn fits(&self, caller: u32, act: &Act, reply: Reply) -> Result<(), Full>
-        requires valid { is_valid act.now ≡ true }
-        requires due { reply ≡ answer_of self.now.history caller act.now }
-        requires no_opening { is_opening reply ≡ false }
-        ensures fits { IfOk result (λ _. is_full self.now.history caller act.now ≡ false) }
-        ensures full { IfErr result (IsFull self.now.history caller act.now) }
-    {
-        let _ = caller;
-        let used = self.used();
-        let endings = self.endings_after(reply);
-        let entries = used.entries + 1 + endings.entries;
-        let bytes = used.bytes + own_bytes(act, reply) + endings.bytes;
-        within_limits(entries, bytes)
-    }
-
-    // What both endings of the round need that is open after a reply that opens none.
-    fn endings_after(&self, reply: Reply) -> Need
-        ensures entries { result.entries ≡ endings_entries (round_after reply (state_of self.now.history).open_round) }
-        ensures bytes { result.bytes ≡ endings_bytes (round_after reply (state_of self.now.history).open_round) }
-        ensures two { result.entries ≤ 2 }
-        ensures few { result.bytes ≤ 2 * RECORD_HEAD + ABANDON_BODY + MOST_BODY }
-    {
-        if is_ending(reply) {
-            return Need {
+        LimitedBooks {
+            books: Books::new(alloc),
+            used: Need {
                 entries: 0,
-                bytes: 0,
-            };
-        }
-        self.endings()
-    }
-
-    // What both endings of the open round need; nothing where none is open.
-    fn endings(&self) -> Need
-        ensures entries { result.entries ≡ endings_entries (state_of self.now.history).open_round }
-        ensures bytes { result.bytes ≡ endings_bytes (state_of self.now.history).open_round }
-        ensures two { result.entries ≤ 2 }
-        ensures few { result.bytes ≤ 2 * RECORD_HEAD + ABANDON_BODY + MOST_BODY }
-    {
-        open_cut_is_well_formed();
-        let _used = self.used();
-        match self.book.kept_cut() {
-            None => Need {
+                bytes: 9,
+            },
+            reserved: Need {
                 entries: 0,
                 bytes: 0,
             },
-            Some(cut) => endings_of(cut),
         }
     }
 
-    /// The cut of the round that a Close of this kind and horizon opens now, as `Book::next_cut`. The only error is that memory is
-    /// missing.
-    pub fn next_cut(&self, alloc: Global, kind: Kind, horizon: Day) -> Result<Cut, AllocError>
-        ensures cut { IfOk result (λ cut. cut ≡ cut_of ((state_of self.now.history).openings + 1)
-            (ledger_of self.now.history) kind horizon) }
-        ensures formed { IfOk result WellFormed }
+    /// The books. Each act of them was within the limits when it was asked. It takes no memory.
+    pub fn books(&self) -> &Books
+        ensures books { result.now ≡ self.now }
+        ensures within { IsWithinLimits self.now.members }
     {
-        let _used = self.used();
-        self.book.next_cut(alloc, kind, horizon)
+        &self.books
     }
 
-    /// Whether the Close that opens a round is within the limits, where this cut is that of the history so far. The rest is as
-    /// for `fits`. It takes no memory.
-    pub fn fits_opening(&self, caller: u32, kind: Kind, horizon: Day, cut: &Cut) -> Result<(), Full>
-        requires opens { is_opening (answer_of self.now.history caller (acts.Close kind horizon)) ≡ true }
-        requires cut { cut.now ≡ cut_of ((state_of self.now.history).openings + 1) (ledger_of self.now.history) kind horizon }
-        ensures fits { IfOk result (λ _. is_full self.now.history caller (acts.Close kind horizon) ≡ false) }
-        ensures full { IfErr result (IsFull self.now.history caller (acts.Close kind horizon)) }
+    /// Gives the books. It takes no memory.
+    pub fn into_books(self) -> Books
+        ensures { result ≡ self }
     {
-        let _ = (caller, kind, horizon);
-        cut_of_a_history_is_of_its_facts();
-        let used = self.used();
-        let endings = endings_of(cut);
-        within_limits(
-            used.entries + 1 + endings.entries,
-            used.bytes + RECORD_HEAD + CLOSE_BODY + endings.bytes,
+        self.books
+    }
+
+    /// How many rounds are open, those of all pools counted: at most 2^19, since each reserves two entries. It takes no memory.
+    pub fn open_rounds(&self) -> u64
+        ensures open { 2 * result ≡ reserved_entries_of self.now.members }
+        ensures most { 2 * result ≤ MOST_ENTRIES }
+    {
+        let _used = self.used();
+        self.reserved().entries / 2
+    }
+
+    // What the history uses. With what its open rounds reserve it is within the limits.
+    fn used(&self) -> Need
+        ensures entries { result.entries ≡ used_entries_of self.now.members }
+        ensures bytes { result.bytes ≡ used_bytes_of self.now.members }
+        ensures few_entries { used_entries_of self.now.members + reserved_entries_of self.now.members ≤ MOST_ENTRIES }
+        ensures few_bytes { used_bytes_of self.now.members + reserved_bytes_of self.now.members ≤ MOST_JOURNAL_BYTES }
+
+        // Each round was opened by an entry.
+        ensures openings { (pool : List ℕ) → (state_in self.now.members pool).openings ≤ result.entries }
+
+        ensures legal { IsLegal self.now.members }
+        ensures valid { AreValid self.now.members }
+        ensures within { IsWithinLimits self.now.members }
+    {
+        let _len = self.books.len();
+        self.used
+    }
+
+    // What its open rounds reserve, which covers the round of each pool.
+    fn reserved(&self) -> Need
+        ensures entries { result.entries ≡ reserved_entries_of self.now.members }
+        ensures bytes { result.bytes ≡ reserved_bytes_of self.now.members }
+        ensures covers { (pool : List ℕ) → IsReserved self.now.members pool }
+    {
+        use_is_counted();
+        self.reserved
+    }
+
+    /// Makes the room that the entry of a call needs in its pool, as `Books::reserve` does: of one entry and, where a round is
+    /// open there or the act is a Close, of one publication beside it. It lowers no room that was made before, of this pool or
+    /// another.
+    ///
+    /// The only error is that memory is missing. It comes only where there was less room, and leaves the history as before.
+    pub fn reserve(&mut self, call: &Call) -> Result<(), AllocError>
+        ensures members { self.new.members ≡ self.old.members }
+        ensures room { OnOk result (room_for (state_in self.old.members call.now.pool) call.now.act
+            ≤ room_in call.now.pool self.new.rooms) }
+        ensures kept { (any : List ℕ) → room_in any self.old.rooms ≤ room_in any self.new.rooms }
+        ensures needed { OnErr result (room_in call.now.pool self.old.rooms
+            < room_for (state_in self.old.members call.now.pool) call.now.act) }
+    {
+        self.books.reserve(call.pool, &call.act)
+    }
+
+    /// The one reply to a call that is no publication. It takes no memory.
+    pub fn answer(&self, call: &Call) -> Reply
+        requires { is_publication call.now.act ≡ false }
+        ensures { result ≡ due_reply self.now.members call.now }
+    {
+        let _used = self.used();
+        self.books.answer(call.caller, call.pool, &call.act)
+    }
+
+    /// The one reply to a call that is a publication. The only error is that memory is missing.
+    pub fn publication_reply(&self, alloc: Global, call: &Call) -> Result<Reply, AllocError>
+        requires { is_publication call.now.act ≡ true }
+        ensures { IfOk result (λ reply. reply ≡ due_reply self.now.members call.now) }
+    {
+        let Act::Publish { round, outcome } = &call.act else {
+            unreachable!();
+        };
+        publication_reply(
+            alloc,
+            self.books.book(&call.pool),
+            call.caller,
+            *round,
+            outcome,
         )
     }
 
-    /// Puts an entry at the end that publishes nothing and opens no round, as `Book::apply` does. Its act is within the limits.
-    /// It takes no memory.
-    pub fn apply(&mut self, entry: Entry)
-        requires room { room_for (state_of self.old.history) entry.act ≤ self.old.room }
+    /// Whether a call that opens no round is within the limits, with its one reply. It takes no memory.
+    ///
+    /// It needs what the history uses, its own entry and, where it is accepted, its record, and both endings of the rounds that
+    /// are open afterwards. The error comes exactly where one of the needs is above its limit, entries before bytes, and says
+    /// how much is needed and what the limit is.
+    pub fn fits(&self, call: &Call, reply: Reply) -> Result<(), Full>
+        requires valid { is_valid call.now.act ≡ true }
+        requires due { reply ≡ due_reply self.now.members call.now }
+        requires no_opening { is_opening reply ≡ false }
+        ensures fits { IfOk result (λ _. is_full self.now.members call.now ≡ false) }
+        ensures full { IfErr result (IsFull self.now.members call.now) }
+    {
+        let used = self.used();
+        let reserved = self.reserved();
+        let now = endings_in(&self.books, &call.pool);
+        let later = endings_after(&self.books, &call.pool, reply);
+        let rest = moved(reserved, now, later);
+        let entries = used.entries + 1 + rest.entries;
+        let bytes = used.bytes + own_bytes(&call.pool, &call.act, reply) + rest.bytes;
+        within_limits(entries, bytes)
+    }
+
+    /// The cut of the round that a call, a Close, opens now in its pool. The only error is that memory is missing.
+    pub fn next_cut(&self, alloc: Global, call: &Call) -> Result<Cut, AllocError>
+        requires { is_close call.now.act ≡ true }
+        ensures cut { IfOk result (λ cut. IsCutDue self.now.members call.now cut) }
+        ensures formed { IfOk result WellFormed }
+    {
+        let _used = self.used();
+        let Act::Close { kind, horizon } = &call.act else {
+            unreachable!();
+        };
+        let book = self.books.book(&call.pool);
+        book.next_cut(alloc, *kind, *horizon)
+    }
+
+    /// Whether a call that opens a round, a Close, is within the limits, where this is the cut of that round. The rest is as for
+    /// `fits`. It takes no memory.
+    pub fn fits_opening(&self, call: &Call, cut: &Cut) -> Result<(), Full>
+        requires opens { is_opening (due_reply self.now.members call.now) ≡ true }
+        requires cut { IsCutDue self.now.members call.now cut.now }
+        ensures fits { IfOk result (λ _. is_full self.now.members call.now ≡ false) }
+        ensures full { IfErr result (IsFull self.now.members call.now) }
+    {
+        cut_of_a_history_is_of_its_facts();
+        each_pool_has_its_history();
+        let used = self.used();
+        let reserved = self.reserved();
+        let now = endings_in(&self.books, &call.pool);
+        let later = endings_of(&call.pool, cut);
+        let rest = moved(reserved, now, later);
+        let own = RECORD_HEAD + CLOSE_BODY + pool_bytes(&call.pool);
+        within_limits(
+            used.entries + 1 + rest.entries,
+            used.bytes + own + rest.bytes,
+        )
+    }
+
+    /// Puts an entry of a pool at the end that publishes nothing and opens no round, as `Books::apply` does. Its call is within
+    /// the limits. It takes no memory.
+    pub fn apply(&mut self, pool: Name, entry: Entry)
+        requires room { room_for (state_in self.old.members pool) entry.act ≤ room_in pool self.old.rooms }
         requires valid { is_valid entry.act ≡ true }
         requires apart { is_publication entry.act ≡ false }
         requires no_opening { is_opening entry.reply ≡ false }
-        requires next { MayFollow self.old.history entry }
-        requires fits { Fits self.old.history entry.caller entry.act }
-        ensures history { self.new.history ≡ self.old.history ++ entry ∷ [] }
-        ensures room { self.old.room ≤ self.new.room + 1 }
-        ensures kept { KeepsRoom self.old.history entry self.new.room }
+        requires next { MayFollow self.old.members (member_of pool entry) }
+        requires fits { Fits self.old.members (call_of (member_of pool entry)) }
+
+        ensures members { self.new.members ≡ self.old.members ++ member_of pool entry ∷ [] }
+        ensures room { room_in pool self.old.rooms ≤ room_in pool self.new.rooms + 1 }
+        ensures kept { KeepsRoom (entries_in pool self.old.members) entry (room_in pool self.new.rooms) }
+        ensures others { KeepsRooms pool self.old.rooms self.new.rooms }
     {
         let used = self.used();
-        let own = use_of(&entry);
-        self.book.apply(entry);
-        self.entries = used.entries + own.entries;
-        self.bytes = used.bytes + own.bytes;
+        let reserved = self.reserved();
+        let own = use_of(&pool, &entry);
+        let now = endings_in(&self.books, &pool);
+        self.books.apply(pool, entry);
+        let later = endings_in(&self.books, &pool);
+        self.used = more(used, own);
+        self.reserved = moved(reserved, now, later);
     }
 
-    /// Puts the entry of a Close at the end that opens a round, as `Book::apply_close` does, with the cut of the history so
-    /// far. Its act is within the limits. It takes no memory.
-    pub fn apply_close(&mut self, entry: Entry, cut: Cut)
-        requires room { room_for (state_of self.old.history) entry.act ≤ self.old.room }
+    /// Puts the entry of a Close of a pool at the end that opens a round, as `Books::apply_close` does, with the cut of that
+    /// round. Its call is within the limits. It takes no memory.
+    pub fn apply_close(&mut self, pool: Name, entry: Entry, cut: Cut)
+        requires room { room_for (state_in self.old.members pool) entry.act ≤ room_in pool self.old.rooms }
         requires valid { is_valid entry.act ≡ true }
         requires opens { is_opening entry.reply ≡ true }
-        requires next { MayFollow self.old.history entry }
-        requires cut { (kind : Kind) (horizon : ℕ) → entry.act ≡ acts.Close kind horizon
-            → cut ≡ cut_of ((state_of self.old.history).openings + 1) (ledger_of self.old.history) kind horizon }
-        requires fits { Fits self.old.history entry.caller entry.act }
-        ensures history { self.new.history ≡ self.old.history ++ entry ∷ [] }
-        ensures room { self.old.room ≤ self.new.room + 1 }
-        ensures kept { KeepsRoom self.old.history entry self.new.room }
+        requires next { MayFollow self.old.members (member_of pool entry) }
+        requires cut { IsCutDue self.old.members (call_of (member_of pool entry)) cut }
+        requires fits { Fits self.old.members (call_of (member_of pool entry)) }
+
+        ensures members { self.new.members ≡ self.old.members ++ member_of pool entry ∷ [] }
+        ensures room { room_in pool self.old.rooms ≤ room_in pool self.new.rooms + 1 }
+        ensures kept { KeepsRoom (entries_in pool self.old.members) entry (room_in pool self.new.rooms) }
+        ensures others { KeepsRooms pool self.old.rooms self.new.rooms }
     {
         let used = self.used();
-        let own = use_of(&entry);
-        self.book.apply_close(entry, cut);
-        self.entries = used.entries + own.entries;
-        self.bytes = used.bytes + own.bytes;
+        let reserved = self.reserved();
+        let own = use_of(&pool, &entry);
+        let now = endings_in(&self.books, &pool);
+        self.books.apply_close(pool, entry, cut);
+        let later = endings_in(&self.books, &pool);
+        self.used = more(used, own);
+        self.reserved = moved(reserved, now, later);
     }
 
-    /// Puts the entry of a publication at the end, as `Book::apply_publish` does, and gives the cut of its round where it is
-    /// accepted. An act that the history refuses is within the limits; the room for one that it accepts was kept. It takes no
+    /// Puts the entry of a publication of a pool at the end, as `Books::apply_publish` does, and gives the cut of its round where
+    /// it is accepted. A call that is refused is within the limits; the room for one that is accepted was kept. It takes no
     /// memory.
-    pub fn apply_publish(&mut self, entry: Entry) -> Option<Cut>
-        requires room { room_needed (state_of self.old.history) entry.caller entry.act ≤ self.old.room }
+    pub fn apply_publish(&mut self, pool: Name, entry: Entry) -> Option<Cut>
+        requires room { room_needed (state_in self.old.members pool) entry.caller entry.act ≤ room_in pool self.old.rooms }
         requires valid { is_valid entry.act ≡ true }
         requires publishes { is_publication entry.act ≡ true }
-        requires next { MayFollow self.old.history entry }
-        requires fits { is_no_refusal (answer_of self.old.history entry.caller entry.act) ≡ false
-            → Fits self.old.history entry.caller entry.act }
-        ensures history { self.new.history ≡ self.old.history ++ entry ∷ [] }
-        ensures room { self.old.room ≤ self.new.room + 1 }
-        ensures kept { KeepsRoom self.old.history entry self.new.room }
-        ensures cut { GivesCut (state_of self.old.history).open_round entry result }
+        requires next { MayFollow self.old.members (member_of pool entry) }
+        requires fits { is_no_refusal (due_reply self.old.members (call_of (member_of pool entry))) ≡ false
+            → Fits self.old.members (call_of (member_of pool entry)) }
+
+        ensures members { self.new.members ≡ self.old.members ++ member_of pool entry ∷ [] }
+        ensures room { room_in pool self.old.rooms ≤ room_in pool self.new.rooms + 1 }
+        ensures kept { KeepsRoom (entries_in pool self.old.members) entry (room_in pool self.new.rooms) }
+        ensures others { KeepsRooms pool self.old.rooms self.new.rooms }
+        ensures cut { GivesCut (open_round_in self.old.members pool) entry result }
     {
         let used = self.used();
-        let own = use_of(&entry);
-        let cut = self.book.apply_publish(entry);
-        self.entries = used.entries + own.entries;
-        self.bytes = used.bytes + own.bytes;
+        let reserved = self.reserved();
+        let own = use_of(&pool, &entry);
+        let now = endings_in(&self.books, &pool);
+        let cut = self.books.apply_publish(pool, entry);
+        let later = endings_in(&self.books, &pool);
+        self.used = more(used, own);
+        self.reserved = moved(reserved, now, later);
         cut
     }
-}
-
-fn is_ending(reply: Reply) -> bool
-    ensures { result ≡ is_ending_reply reply }
-{
-    matches!(reply, Reply::Published { .. } | Reply::Abandoned { .. })
 }

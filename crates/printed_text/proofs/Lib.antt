@@ -1,3 +1,4 @@
 pub mod Passing
 pub mod Printing
+pub mod Members
 pub mod Statuses

@@ -1,12 +1,11 @@
 -- The text of a run, piece by piece.
-use Rattle.std.specs.Prelude.{reverse, slice_get, codes, Option, Some, None, ℤ, pos, unsigned_abs}
-use Rattle.std.specs.Option.{option_map}
-use Rattle.std.proofs.Common.{◌≡◌, ℕ, suc, ◌+◌, ◌-◌, ◌<◌, ◌≤◌, ◌^◌, true, List, [], ◌∷◌, ◌++◌, length, get_or, drop, take, All, refl, sym, ◌∙◌, ap, ap₂, subst, append_assoc, add-one, drop-cons, arith}
-use Rattle.std.proofs.lemmas.Option.{slice_get-get_or, slice_get_read, slice_get_within}
-use Rattle.std.proofs.lemmas.List.{append-nil, drop_more, get_or_at, length-append, length-drop, length-reverse, get_or-drop, take-append-drop, take_more}
+use Rattle.std.specs.Prelude.{slice_get, codes, Option, Some, None, ℤ, pos, unsigned_abs}
+use Rattle.std.proofs.Common.{◌≡◌, ℕ, suc, ◌+◌, ◌-◌, ◌<◌, ◌≤◌, ◌^◌, List, [], ◌∷◌, ◌++◌, length, get_or, drop, All, refl, sym, ◌∙◌, ap, ap₂, subst, append_assoc, add-one, drop-cons, arith}
+use Rattle.std.proofs.lemmas.Option.{slice_get_read, slice_get_within}
+use Rattle.std.proofs.lemmas.List.{append-nil}
 use Rattle.std.proofs.lemmas.List.Folds.{flat_map-map}
 use Rattle.std.proofs.lemmas.List.Concat.{flat_map-append}
-use Rattle.std.proofs.lemmas.List.Elements.{All-from_get_or, All-take, All-weaker}
+use Rattle.std.proofs.lemmas.List.Elements.{All-from_get_or, All-weaker}
 use Rattle.setoff_model.specs.declared.cut.Party.{Party}
 use Rattle.setoff_model.specs.declared.cut.CutClaim.{CutClaim}
 use Rattle.setoff_model.specs.declared.limits.TheConstants.{SUM_LIMIT, MOST_AMOUNT, MOST_WINDOW}
@@ -15,29 +14,18 @@ use Rattle.setoff_model.specs.Setoff.{IsLawful}
 use Rattle.setoff_model.proofs.Columns.{claims_long, lawful_fits, limit_small, parties_long}
 use Rattle.claim_history.specs.declared.act.Act.{Act}
 use Rattle.claim_history.specs.declared.act.Act.TheVariants as act
-use Rattle.claim_history.specs.declared.entry.Entry.{Entry}
 use Rattle.claim_history.specs.declared.entry.Reply.{Reply}
 use Rattle.claim_history.specs.declared.entry.Reply.TheVariants as reply
-use Rattle.claim_history.specs.Acts.{is_valid}
-use Rattle.claim_history.specs.States.{OpenRound, state}
-use Rattle.claim_history.specs.History.{IsLegal, AreValid}
-use Rattle.claim_history.specs.Rounds.{cut_published, cuts_after, cuts_of, open_cut, past_cuts}
-use Rattle.claim_history.proofs.Greatest.{greatest_law}
-use Rattle.claim_history.proofs.Open.{number_from}
-use Rattle.claim_history.proofs.Pasts.{legal_first, reverse_parts}
-use Rattle.claim_history.proofs.Published.{later_cuts, past_cuts_longer, past_cuts_more}
-use Rattle.round_cut.proofs.OpenCut.{open_formed_law}
 use Rattle.request_text.specs.declared.request.Request.{Request}
 use Rattle.served_lines.specs.declared.answer.Answer.{Answer}
 use Rattle.served_lines.specs.declared.line_end.LineEnd.TheVariants as ends
 use Rattle.statement_text.specs.declared.line.Line.{Line}
 use Rattle.statement_text.specs.declared.line.Line.TheVariants as line
 use Rattle.statement_text.specs.Lines.{line_text}
-use Rattle.entry_text.specs.Entries.{entry_line}
 use Rattle.statement_text.specs.Statements.{party_lines, claim_line, claim_lines, front_of, statement_bytes}
 use Rattle.bureau_edge.specs.Streams.{AppendsPart}
 use Rattle.printed_text.specs.Writing.{GoesThrough}
-use Rattle.printed_text.specs.Printing.{IsPrintable, IsPrintableAt, added_text, end_text, ends_text, entry_text, line_bytes, lines_bytes, rounds_in, statement_of, unanswered, unanswered_lines}
+use Rattle.printed_text.specs.Printing.{IsPrintable, IsPrintableAt, end_text, ends_text, line_bytes, lines_bytes, rounds_in, statement_of, unanswered, unanswered_lines}
 use Rattle.printed_text.proofs.Passing.{pass_then, part_then, part_more}
 
 -- ---- lines that were not replied to
@@ -144,93 +132,6 @@ discharges_fit cut d formed lawful =
 pub discharge_each : (cut : CutView) (d : List ℕ) → IsLawful (obligations cut) d → length d ≡ length cut.claims
 discharge_each cut d lawful = lawful.one_each ∙ claims_long cut
 
--- ---- histories
-
--- a history, its past, and its past one later, at a place
-history_at : (history : List Entry) (i : ℕ) (e : Entry) → i < length history → e ≡ get_or history i e → history ≡ take i history ++ e ∷ drop (i + 1) history
-history_at history i e lt is =
-    sym (take-append-drop i history) ∙ ap (λ (rest : List Entry). take i history ++ rest) (drop_more history i e lt ∙ ap (λ (x : Entry). x ∷ drop (i + 1) history) (sym is))
-
-past_at : (history : List Entry) (i : ℕ) (e : Entry) → i < length history → e ≡ get_or history i e → reverse history ≡ reverse (drop (i + 1) history) ++ e ∷ reverse (take i history)
-past_at history i e lt is = ap (λ (h : List Entry). reverse h) (history_at history i e lt is) ∙ reverse_parts (take i history) (drop (i + 1) history) e
-
-pub past_next : (history : List Entry) (i : ℕ) (e : Entry) → i < length history → e ≡ get_or history i e → reverse (take (i + 1) history) ≡ e ∷ reverse (take i history)
-past_next history i e lt is =
-    ap (λ (h : List Entry). reverse h) (take_more history i e lt ∙ ap (λ (x : Entry). take i history ++ x ∷ []) (sym is)) ∙ reverse_parts (take i history) [] e
-
--- ---- the text of added entries
-
--- the text of the entries from a place on
-pub added_from : (history : List Entry) (i : ℕ) (e : Entry) → i < length history → e ≡ get_or history i e
-    → added_text (take i history) (drop i history) ≡ entry_text (reverse (take i history)) e ++ added_text (take (i + 1) history) (drop (i + 1) history)
-added_from history i e lt is =
-    ap (λ (l : List Entry). added_text (take i history) l) (drop_more history i e lt ∙ ap (λ (x : Entry). x ∷ drop (i + 1) history) (sym is))
-    ∙ ap (λ (l : List Entry). entry_text (reverse (take i history)) e ++ added_text l (drop (i + 1) history)) (sym (take_more history i e lt ∙ ap (λ (x : Entry). take i history ++ x ∷ []) (sym is)))
-
--- an element behind the first ones
-get_behind : {X : Type 0} (xs : List X) (n place : ℕ) (x : X) → slice_get xs (n + place) ≡ Some x → slice_get (drop place xs) n ≡ Some x
-get_behind xs n place x is =
-    let within = slice_get_within xs (n + place) x is in
-    let fits : n < length (drop place xs) = omega (arith, within, length-drop place xs) in
-    slice_get-get_or (drop place xs) n x fits ∙ ap (λ y. Some y) (get_or-drop place xs n x) ∙ ap (λ (k : ℕ). Some (get_or xs k x)) (omega arith) ∙ sym (slice_get-get_or xs (n + place) x within) ∙ is
-
--- the element between two lists
-get_between : {X : Type 0} (xs ys : List X) (x : X) (n : ℕ) → length xs ≡ n → slice_get (xs ++ x ∷ ys) n ≡ Some x
-get_between xs ys x n is =
-    slice_get-get_or (xs ++ x ∷ ys) n x (omega (arith, length-append xs (x ∷ ys), is)) ∙ ap (λ y. Some y) (get_or_at xs x ys x n is)
-
--- ---- published rounds
-
--- the round that an entry publishes: its cut is the next one, and its statement can be written
-pub record IsNext (rounds : List CutView) (next : ℕ) (past : List Entry) (a : Act) : Type 0 where
-  pub round : OpenRound
-  pub was_open : (state past).open_round ≡ Some round
-  pub cut_is : slice_get rounds next ≡ Some round.cut
-  pub printable : IsPrintableAt rounds next a
-
--- the cuts of a history, of which one is that of a published entry
-next_cut : (history : List Entry) (i : ℕ) (e : Entry) (total : ℕ) → i < length history → e ≡ get_or history i e → e.reply ≡ reply.Published total
-    → (round : OpenRound) → (state (reverse (take i history))).open_round ≡ Some round → slice_get (cuts_of history) (length (past_cuts (reverse (take i history)))) ≡ Some round.cut
-next_cut history i e total lt is published round was_open =
-    let past = reverse (take i history) in
-    let later = reverse (drop (i + 1) history) in
-    let parts : past_cuts (reverse history) ≡ later_cuts later (e ∷ past) ++ round.cut ∷ past_cuts past =
-    ap (λ (p : List Entry). past_cuts p) (past_at history i e lt is) ∙ past_cuts_longer later (e ∷ past)
-    ∙ ap (λ (cuts : List CutView). later_cuts later (e ∷ past) ++ cuts)
-    (past_cuts_more e past ∙ ap₂ (λ (o : Option OpenRound) (r : Reply). cut_published o r ++ past_cuts past) was_open published) in
-    ap (λ (cuts : List CutView). slice_get cuts (length (past_cuts past)))
-    (ap (λ (cuts : List CutView). reverse cuts) parts ∙ reverse_parts (later_cuts later (e ∷ past)) (past_cuts past) round.cut)
-    ∙ get_between (reverse (past_cuts past)) (reverse (later_cuts later (e ∷ past))) round.cut (length (past_cuts past)) (length-reverse (past_cuts past))
-
-pub published_at : (history : List Entry) (from : ℕ) (rounds : List CutView) (i next : ℕ) (e : Entry) (total : ℕ) → IsLegal history → AreValid history → rounds ≡ cuts_after from history
-    → next + length (cuts_of (take from history)) ≡ length (past_cuts (reverse (take i history))) → i < length history → e ≡ get_or history i e → e.reply ≡ reply.Published total → IsNext rounds next (reverse (take i history)) e.act
-published_at history from rounds i next e total legal valid rounds_are next_is lt is published =
-    let before = take i history in
-    let later = drop (i + 1) history in
-    let parts = history_at history i e lt is in
-    let p = greatest_law before later e total (subst IsLegal parts legal) published in
-    let legal_before = (legal_first before later e (subst IsLegal parts legal)).1 in
-    let cut_is : slice_get rounds next ≡ Some p.round.cut =
-    ap (λ (cuts : List CutView). slice_get cuts next) rounds_are
-    ∙ get_behind (cuts_of history) next (length (cuts_of (take from history))) p.round.cut (ap (λ (n : ℕ). slice_get (cuts_of history) n) next_is ∙ next_cut history i e total lt is published p.round p.was_open) in
-    record {
-      round = p.round;
-      was_open = p.was_open;
-      cut_is = cut_is;
-      printable = record {
-        number = p.round.cut.round;
-        outcome = p.outcome;
-        cut = p.round.cut;
-        asks = p.asks;
-        cut_is = cut_is;
-        printable = record {
-          well_formed = open_formed_law before legal_before (All-take (λ e. is_valid e.act ≡ true) i history valid) p.round p.was_open;
-          round_from = number_from (reverse before) p.round p.was_open;
-          proved = p.proved;
-        };
-      };
-    }
-
 -- ---- one entry
 
 -- what publishes nothing has no statement
@@ -240,29 +141,9 @@ none_stated (Some cut) (act.Publish number outcome) (reply.Published total) e = 
 none_stated (Some cut) (act.Publish number outcome) r e = refl
 none_stated (Some cut) a r e = refl
 
-same_statement : (o q : Option CutView) (a : Act) (r : Reply) → ((total : ℕ) → r ≡ reply.Published total → o ≡ q) → statement_of o a r ≡ statement_of q a r
+pub same_statement : (o q : Option CutView) (a : Act) (r : Reply) → ((total : ℕ) → r ≡ reply.Published total → o ≡ q) → statement_of o a r ≡ statement_of q a r
 same_statement o q a (reply.Published total) same = ap (λ (c : Option CutView). statement_of c a (reply.Published total)) (same total refl)
 same_statement o q a r same = none_stated o a r refl ∙ sym (none_stated q a r refl)
-
--- the text of an entry, with the cut at a place for that of the open round
-pub entry_text_is : (rounds : List CutView) (next : ℕ) (past : List Entry) (e : Entry) → ((total : ℕ) → e.reply ≡ reply.Published total → IsNext rounds next past e.act)
-    → entry_line e ++ statement_of (slice_get rounds next) e.act e.reply ≡ entry_text past e
-entry_text_is rounds next past e publication =
-    ap (λ (t : List ℕ). entry_line e ++ t) (same_statement (slice_get rounds next) (open_cut past) e.act e.reply (λ total is.
-    let p = publication total is in
-    p.cut_is ∙ ap (λ (o : Option OpenRound). option_map (λ (round : OpenRound). round.cut) o) (sym p.was_open)))
-
-count_more : (r : Reply) (o : Option OpenRound) (cuts : List CutView) → ((total : ℕ) → r ≡ reply.Published total → (round : OpenRound) × (o ≡ Some round)) → length (cut_published o r ++ cuts) ≡ length cuts + rounds_in r
-count_more (reply.Published total) o cuts published =
-    ap (λ (q : Option OpenRound). length (cut_published q (reply.Published total) ++ cuts)) (published total refl).1 ∙ omega arith
-count_more r o cuts published = omega arith
-
--- the number of rounds that were published grows by those of the entry
-pub next_more : (rounds : List CutView) (next : ℕ) (past : List Entry) (e : Entry) → ((total : ℕ) → e.reply ≡ reply.Published total → IsNext rounds next past e.act)
-    → length (past_cuts (e ∷ past)) ≡ length (past_cuts past) + rounds_in e.reply
-next_more rounds next past e publication =
-    ap (λ (cuts : List CutView). length cuts) (past_cuts_more e past)
-    ∙ count_more e.reply (state past).open_round (past_cuts past) (λ total is. ((publication total is).round, (publication total is).was_open))
 
 -- the statement that an entry's text has where the cut at the place is this one
 pub statement_is : (rounds : List CutView) (next : ℕ) (cut : CutView) (a : Act) (r : Reply) (number total : ℕ) (outcome : OutcomeView) → next < length rounds → cut ≡ get_or rounds next cut

@@ -1,13 +1,13 @@
--- The text of a batch: entries, statements of published rounds, and lines for lines that were not replied to.
-use Rattle.std.specs.Prelude.{ℕ, zero, suc, ◌+◌, ◌≡◌, ◌≤◌, List, [], ◌∷◌, ◌++◌, flat_map, reverse, slice_get, codes, Option, Some}
+-- The text of a batch: members of the history, statements of published rounds, and lines for lines that were not replied to.
+use Rattle.std.specs.Prelude.{ℕ, zero, suc, ◌+◌, ◌≡◌, ◌≤◌, List, [], ◌∷◌, ◌++◌, flat_map, slice_get, codes, Option, Some}
 use Rattle.setoff_model.specs.CutView.{CutView, OutcomeView, WellFormed, obligations}
 use Rattle.setoff_model.specs.Setoff.{Proves}
 use Rattle.claim_history.specs.declared.act.Act.{Act}
 use Rattle.claim_history.specs.declared.act.Act.TheVariants as act
-use Rattle.claim_history.specs.declared.entry.Entry.{Entry}
+use Rattle.claim_history.specs.declared.call.PoolEntry.{PoolEntry}
 use Rattle.claim_history.specs.declared.entry.Reply.{Reply}
 use Rattle.claim_history.specs.declared.entry.Reply.TheVariants as reply
-use Rattle.claim_history.specs.Rounds.{open_cut}
+use Rattle.claim_history.specs.PoolRounds.{open_cut_in}
 use Rattle.statement_text.specs.declared.line.Line.{Line}
 use Rattle.statement_text.specs.Lines.{line_text}
 use Rattle.entry_text.specs.Entries.{entry_line}
@@ -18,21 +18,21 @@ use Rattle.served_lines.specs.declared.line_end.LineEnd.{LineEnd}
 use Rattle.served_lines.specs.declared.line_end.LineEnd.TheVariants as ends
 use Rattle.printed_text.specs.Texts.{memory_line, full_line}
 
--- ---- entries and statements. A past is a list of entries, newest first
+-- ---- members and statements
 
 -- the statement of the cut, where the act publishes an outcome and is accepted
 abbrev pub statement_of : Option CutView → Act → Reply → List ℕ
 statement_of (Some cut) (act.Publish number outcome) (reply.Published total) = statement_bytes cut outcome
 statement_of _ _ _ = []
 
--- the line of an entry after a past, and at once the statement of the round that it publishes
-abbrev pub entry_text : List Entry → Entry → List ℕ
-entry_text past e = entry_line e ++ statement_of (open_cut past) e.act e.reply
+-- the line of a member after a history, and at once the statement of the round of its pool that it publishes
+abbrev pub member_text : List PoolEntry → PoolEntry → List ℕ
+member_text before m = entry_line m ++ statement_of (open_cut_in before m.pool) m.entry.act m.entry.reply
 
--- the entries that were added to a history, in order, each with the statement of the round that it publishes
-abbrev pub added_text : List Entry → List Entry → List ℕ
+-- the members that were added to a history, in order, each with the statement of the round that it publishes
+abbrev pub added_text : List PoolEntry → List PoolEntry → List ℕ
 added_text before [] = []
-added_text before (e ∷ added) = entry_text (reverse before) e ++ added_text (before ++ e ∷ []) added
+added_text before (m ∷ added) = member_text before m ++ added_text (before ++ m ∷ []) added
 
 -- what holds of a cut and an outcome whose statement is written
 pub record IsPrintable (cut : CutView) (outcome : OutcomeView) : Type 0 where
@@ -83,6 +83,6 @@ abbrev pub unanswered_lines : ℕ → ℕ → List Answer
 unanswered_lines first zero = []
 unanswered_lines first (suc count) = record { line = first; end = ends.Memory } ∷ unanswered_lines (first + 1) count
 
--- the entries that a batch added to a history, then a line for each of its lines that was not replied to
-abbrev pub printed_of : List Entry → List Entry → List Answer → List ℕ
+-- the members that a batch added to a history, then a line for each of its lines that was not replied to
+abbrev pub printed_of : List PoolEntry → List PoolEntry → List Answer → List ℕ
 printed_of before added answers = added_text before added ++ ends_text answers

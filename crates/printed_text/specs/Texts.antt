@@ -47,6 +47,7 @@ fault_line_text line why = codes "fault line " ++ decimal line ++ codes " " ++ w
 
 abbrev pub cause_text : LineCause → List ℕ
 cause_text cause.Lane = codes "lane"
+cause_text cause.Pool = codes "pool"
 cause_text cause.Verb = codes "verb"
 cause_text cause.Fields = codes "fields"
 cause_text (cause.Field k) = codes "field " ++ decimal k

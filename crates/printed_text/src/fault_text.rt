@@ -81,6 +81,7 @@ fn write_cause(buffer: &mut Vec<u8>, cause: LineCause)
 {
     match cause {
         LineCause::Lane => put(buffer, b"lane"),
+        LineCause::Pool => put(buffer, b"pool"),
         LineCause::Verb => put(buffer, b"verb"),
         LineCause::Fields => put(buffer, b"fields"),
         LineCause::Field(k) => write_field(buffer, k),

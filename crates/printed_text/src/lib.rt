@@ -1,9 +1,9 @@
 //! What the program prints: the text of a batch, the line of a verdict, and the lines that tell of faults.
 //!
-//! The text of a batch has a line for each entry that it added to the history and, at once after the entry that publishes a
-//! round, the statement of that round. Then comes a line `! line N memory` or `! line N full ..` for each line that was not
-//! replied to. A publication has the discharges and the prices of its round, and not its cut, so the cuts of the published
-//! rounds are handed in.
+//! The text of a batch has a line for each member that it added to the history, with its pool where this is not MAIN. At once
+//! after the member that publishes a round of its pool stands the statement of that round. Then comes a line `! line N memory` or
+//! `! line N full ..` for each line that was not replied to. A publication has the discharges and the prices of its round, and not
+//! its cut, so the cuts of the published rounds of all pools are handed in.
 //!
 //! Text goes line by line through a buffer of `OUTPUT_BYTES` to the sink. Once the buffer is there, printing takes no
 //! memory. What was in the buffer and the text are what the sink took and what is in the buffer now: `GoesThrough` says this

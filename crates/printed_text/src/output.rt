@@ -6,9 +6,9 @@ ghost use Rattle.fault_count.specs.Counts.{IsCounted};
 ghost use Rattle.bureau_edge.specs.Streams.{AppendsPart};
 ghost use Rattle.claim_history.specs.declared.entry.Reply.TheVariants as reply;
 ghost use Rattle.claim_history.specs.Acts.{is_valid};
-ghost use Rattle.claim_history.specs.History.{IsLegal, AreValid};
 ghost use Rattle.claim_history.specs.Laws.{IsReplyInRange};
-ghost use Rattle.claim_history.specs.Rounds.{cuts_after};
+ghost use Rattle.claim_history.specs.Pools.{member_of};
+ghost use Rattle.claim_history.specs.PoolRounds.{cuts_after};
 ghost use Rattle.entry_text.specs.Entries.{entry_line};
 ghost use Rattle.printed_text.specs.Printing.{added_text, end_text, ends_text, statement_of};
 ghost use Rattle.printed_text.specs.Printing.{IsPrintableAt, rounds_in, printed_of, unanswered, unanswered_lines};
@@ -17,12 +17,13 @@ ghost use Rattle.printed_text.specs.Writing.{GoesThrough};
 use crate::fault_text::{write_full_line, write_memory_line};
 use crate::statement::print_statement;
 use bureau_edge::{Failed, Sink, write_all};
+use claim_book::Books;
 use claim_history::{Act, Entry, Reply};
-use entry_text::write_entry;
+use entry_text::write_member;
 use request_text::Request;
 use served_lines::{Answer, LineEnd};
-use setoff_model::Cut;
 use setoff_model::limits::{LINE_BYTES, OUTPUT_BYTES};
+use setoff_model::{Cut, Name};
 use std::alloc::{AllocError, Global};
 
 /// An empty buffer with room for `OUTPUT_BYTES`, as each call that prints asks for. The one error is want of memory.
@@ -67,20 +68,27 @@ pub fn make_room<K: Sink>(sink: &mut K, buffer: &mut Vec<u8>) -> Result<(), Fail
     flush(sink, buffer)
 }
 
-// Prints the line of an entry.
-fn print_entry<K: Sink>(sink: &mut K, buffer: &mut Vec<u8>, entry: &Entry) -> Result<(), Failed>
+// Prints the line of an entry of a pool.
+fn print_entry<K: Sink>(
+    sink: &mut K,
+    buffer: &mut Vec<u8>,
+    pool: &Name,
+    entry: &Entry,
+) -> Result<(), Failed>
     requires valid { is_valid entry.now.act ≡ true }
     requires range { IsReplyInRange entry.now.reply }
     requires spare { OUTPUT_BYTES ≤ vec_capacity buffer.old }
 
     // The text went through, or the sink failed and took some first bytes of it.
-    ensures ok { OnOk result (GoesThrough (K.held sink.old) (K.held sink.new) buffer.old.items buffer.new.items (entry_line entry.now)) }
-    ensures part { OnErr result (AppendsPart (K.held sink.old) (K.held sink.new) (buffer.old.items ++ entry_line entry.now)) }
+    ensures ok { OnOk result (GoesThrough (K.held sink.old) (K.held sink.new) buffer.old.items buffer.new.items
+        (entry_line (member_of pool.now entry.now))) }
+    ensures part { OnErr result (AppendsPart (K.held sink.old) (K.held sink.new)
+        (buffer.old.items ++ entry_line (member_of pool.now entry.now))) }
     ensures cause { IsCounted (K.faults sink.old) (K.faults sink.new) result }
     ensures room { OUTPUT_BYTES ≤ vec_capacity buffer.new }
 {
     make_room(sink, buffer)?;
-    write_entry(buffer, entry);
+    write_member(buffer, pool, entry);
     Ok(())
 }
 
@@ -115,10 +123,11 @@ fn print_publication<K: Sink>(
     Ok(next + 1)
 }
 
-// Prints the line of an entry, and at once the statement of the round that it publishes.
+// Prints the line of an entry of a pool, and at once the statement of the round that it publishes.
 fn print_answer<K: Sink>(
     sink: &mut K,
     buffer: &mut Vec<u8>,
+    pool: &Name,
     entry: &Entry,
     rounds: &[Cut],
     next: usize,
@@ -130,45 +139,42 @@ fn print_answer<K: Sink>(
 
     // The text went through, or the sink failed and took some first bytes of it.
     ensures ok { OnOk result (GoesThrough (K.held sink.old) (K.held sink.new) buffer.old.items buffer.new.items
-        (entry_line entry.now ++ statement_of (slice_get rounds.now next) entry.now.act entry.now.reply)) }
+        (entry_line (member_of pool.now entry.now) ++ statement_of (slice_get rounds.now next) entry.now.act entry.now.reply)) }
     ensures next { IfOk result (λ place. place ≡ next + rounds_in entry.now.reply) }
     ensures part { OnErr result (AppendsPart (K.held sink.old) (K.held sink.new)
-        (buffer.old.items ++ (entry_line entry.now ++ statement_of (slice_get rounds.now next) entry.now.act entry.now.reply))) }
+        (buffer.old.items ++ (entry_line (member_of pool.now entry.now) ++ statement_of (slice_get rounds.now next) entry.now.act entry.now.reply))) }
     ensures cause { IsCounted (K.faults sink.old) (K.faults sink.new) result }
     ensures room { OUTPUT_BYTES ≤ vec_capacity buffer.new }
 {
-    print_entry(sink, buffer, entry)?;
+    print_entry(sink, buffer, pool, entry)?;
     print_publication(sink, buffer, entry, rounds, next)
 }
 
-// Prints the entries of a history from a place on. The rounds are the cuts of those that were published from there on.
-fn print_entries<K: Sink>(
+// Prints the members of a history from a place on. The rounds are the cuts of those that were published from there on.
+fn print_members<K: Sink>(
     sink: &mut K,
     buffer: &mut Vec<u8>,
-    history: &[Entry],
-    from: usize,
+    books: &Books,
+    from: u64,
     rounds: &[Cut],
 ) -> Result<(), Failed>
-    requires legal { IsLegal history.now }
-    requires valid { AreValid history.now }
-    requires range { All (λ e. IsReplyInRange e.reply) history.now }
-    requires from { from ≤ length history.now }
-    requires rounds { rounds.now ≡ cuts_after from history.now }
-
-    // The buffer.
+    requires from { from ≤ length books.now.members }
+    requires rounds { rounds.now ≡ cuts_after from books.now.members }
     requires spare { OUTPUT_BYTES ≤ vec_capacity buffer.old }
 
     // The text went through, or the sink failed and took some first bytes of it.
     ensures ok { OnOk result (GoesThrough (K.held sink.old) (K.held sink.new) buffer.old.items buffer.new.items
-        (added_text (take from history.now) (drop from history.now))) }
+        (added_text (take from books.now.members) (drop from books.now.members))) }
     ensures part { OnErr result (AppendsPart (K.held sink.old) (K.held sink.new)
-        (buffer.old.items ++ added_text (take from history.now) (drop from history.now))) }
+        (buffer.old.items ++ added_text (take from books.now.members) (drop from books.now.members))) }
     ensures cause { IsCounted (K.faults sink.old) (K.faults sink.new) result }
     ensures room { OUTPUT_BYTES ≤ vec_capacity buffer.new }
 {
+    let len = books.len();
     let mut next = 0;
-    for i in from..history.len() {
-        next = print_answer(sink, buffer, &history[i], rounds, next)?;
+    for place in from..len {
+        let (pool, entry) = books.member(place);
+        next = print_answer(sink, buffer, &pool, entry, rounds, next)?;
     }
     Ok(())
 }
@@ -225,7 +231,7 @@ fn print_ends<K: Sink>(sink: &mut K, buffer: &mut Vec<u8>, answers: &[Answer]) -
     Ok(())
 }
 
-/// Prints the entries that were added to a history, which are those from a place on, each published one with the statement of its
+/// Prints the members that were added to a history, which are those from a place on, each published one with the statement of its
 /// round; and then a line for each line of the batch that was not replied to. The rounds are the cuts of the published ones, in
 /// order.
 ///
@@ -234,16 +240,13 @@ fn print_ends<K: Sink>(sink: &mut K, buffer: &mut Vec<u8>, answers: &[Answer]) -
 pub fn print_batch<K: Sink>(
     sink: &mut K,
     buffer: &mut Vec<u8>,
-    history: &[Entry],
-    from: usize,
+    books: &Books,
+    from: u64,
     rounds: &[Cut],
     answers: &[Answer],
 ) -> Result<(), Failed>
-    requires legal { IsLegal history.now }
-    requires valid { AreValid history.now }
-    requires range { All (λ e. IsReplyInRange e.reply) history.now }
-    requires from { from ≤ length history.now }
-    requires rounds { rounds.now ≡ cuts_after from history.now }
+    requires from { from ≤ length books.now.members }
+    requires rounds { rounds.now ≡ cuts_after from books.now.members }
 
     // The buffer.
     requires empty { buffer.old.items ≡ [] }
@@ -251,14 +254,14 @@ pub fn print_batch<K: Sink>(
 
     // The text went through, or the sink failed and took some first bytes of it.
     ensures ok { OnOk result (Appends (K.held sink.old) (K.held sink.new)
-        (printed_of (take from history.now) (drop from history.now) answers.now)) }
+        (printed_of (take from books.now.members) (drop from books.now.members) answers.now)) }
     ensures emptied { OnOk result (buffer.new.items ≡ []) }
     ensures part { OnErr result (AppendsPart (K.held sink.old) (K.held sink.new)
-        (printed_of (take from history.now) (drop from history.now) answers.now)) }
+        (printed_of (take from books.now.members) (drop from books.now.members) answers.now)) }
     ensures cause { IsCounted (K.faults sink.old) (K.faults sink.new) result }
     ensures room { OUTPUT_BYTES ≤ vec_capacity buffer.new }
 {
-    print_entries(sink, buffer, history, from, rounds)?;
+    print_members(sink, buffer, books, from, rounds)?;
     print_ends(sink, buffer, answers)?;
     flush(sink, buffer)
 }

@@ -7,14 +7,17 @@ use std::sync::Wait;
 use std::thread::Threads;
 
 // Words that are no command. The source and the disk are not called.
-const NO_COMMANDS: [&[&str]; 16] = [
+const NO_COMMANDS: [&[&str]; 19] = [
     &[],
     &["RUN"],
     &["run", "now"],
     &["help"],
     &["--help"],
     &["-V"],
-    &["positions", "A"],
+    &["positions", "a"],
+    &["positions", "@EAST"],
+    &["positions", "EAST", "WEST"],
+    &["notices", "2026-01-10", "EAST", "WEST"],
     &["notices"],
     &["notices", "2026-02-29"],
     &["notices", "2026-01-10", "2026-01-11"],
@@ -75,6 +78,46 @@ const TABLES: [(&[&str], &[u8]); 2] = [
 fn tables_of_the_triangle(rt: HostRuntime) {
     let day = left_by(&rt, rt.alloc(), &["run"], TRIANGLE, b"", 0);
     for (texts, output) in TABLES {
+        expect_table(&rt, rt.alloc(), day.journal.as_slice(), texts, output);
+    }
+}
+
+// Firms of the same name in two pools, and a claim in one of them.
+const TWO_POOLS: &[u8] =
+    b"1 FIRM A\n1 @EAST FIRM A\n1 @EAST FIRM B\n1 @EAST FILE B I-1 A 10.00 2025-01-31\n1 @EAST CONFIRM B I-1 A\n";
+
+const POOL_TABLES: [(&[&str], &[u8]); 7] = [
+    (
+        &["positions"],
+        b"firm,balance,credit,ceiling,offer,receivable,payable\nA,0.00,0.00,10000000000000.00,0.00,0.00,0.00\n",
+    ),
+    (
+        &["positions", "MAIN"],
+        b"firm,balance,credit,ceiling,offer,receivable,payable\nA,0.00,0.00,10000000000000.00,0.00,0.00,0.00\n",
+    ),
+    (
+        &["positions", "EAST"],
+        b"firm,balance,credit,ceiling,offer,receivable,payable\nA,0.00,0.00,10000000000000.00,0.00,0.00,10.00\nB,0.00,0.00,10000000000000.00,0.00,10.00,0.00\n",
+    ),
+    (
+        &["positions", "WEST"],
+        b"firm,balance,credit,ceiling,offer,receivable,payable\n",
+    ),
+    (
+        &["notices", "2026-01-09", "EAST"],
+        b"debtor,creditor,invoice,status,amount,open,due,overdue\nA,B,I-1,confirmed,10.00,10.00,2025-01-31,343\n",
+    ),
+    (
+        &["notices", "2026-01-09"],
+        b"debtor,creditor,invoice,status,amount,open,due,overdue\n",
+    ),
+    (&["audit"], b"yes acts 5 rounds 0\n"),
+];
+
+#[test]
+fn tables_of_pools(rt: HostRuntime) {
+    let day = left_by(&rt, rt.alloc(), &["run"], TWO_POOLS, b"", 0);
+    for (texts, output) in POOL_TABLES {
         expect_table(&rt, rt.alloc(), day.journal.as_slice(), texts, output);
     }
 }

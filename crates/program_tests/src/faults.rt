@@ -1,6 +1,6 @@
 //! One failing call at a time, and counts of faults at their last value.
 
-use crate::journals::TRIANGLE;
+use crate::journals::{TRIANGLE, TWO_OPEN};
 use crate::runs::{
     FOUR_ENTRIES, FOUR_LINES, disk_of, expect_audit, failing_source, left_by, left_on, lines_with,
     sink_of, source_of, text_with,
@@ -45,6 +45,19 @@ fn each_call_of_the_triangle_fails(rt: HostRuntime) {
             );
         }
     }
+}
+
+// Of two abandonments the second fails: the run ends, and the first one is kept.
+#[test]
+fn an_abandonment_fails(rt: HostRuntime) {
+    let left = left_by(&rt, rt.alloc(), &["run"], b"1 FIRM A\n", TWO_OPEN, 8);
+    left.expect(&rt, 5, b"fault device 0 1\n");
+    expect_audit(
+        &rt,
+        rt.alloc(),
+        left.journal.as_slice(),
+        b"yes acts 3 rounds 0\n",
+    );
 }
 
 // A Close three times, of which the last is published.

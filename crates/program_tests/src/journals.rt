@@ -14,6 +14,10 @@ const SHORT_RECORD: &[u8] = b"BUREAUJ1\x01\x00\x00\x00\x07\x00\x00\x00\x01\x01";
 const RECORD_TWICE: &[u8] =
     b"BUREAUJ1\x01\x00\x00\x00\x07\x00\x00\x00\x01\x01\x01A\x01\x00\x00\x00\x07\x00\x00\x00\x01\x01\x01A\x00";
 
+// A round of the pool MAIN and one of EAST, which caller 1 opened.
+pub(crate) const TWO_OPEN: &[u8] =
+    b"BUREAUJ2\x01\x00\x00\x00\x0a\x00\x00\x00\x01\x0c\x00\x00\x00\x4f\xe5\x01\x00\x00\x00\x10\x00\x00\x00\x01\x0f\x04EAST\x0c\x00\x00\x00\x4f\xe5\x00";
+
 // Three claims in a circle, and a Close: eleven acts, 262 bytes of a journal and 48 calls of a disk.
 pub(crate) const TRIANGLE: &[u8] =
     b"1 FIRM A\n1 FIRM B\n1 FIRM C\n1 FILE B I-1 A 10.00 2025-01-31\n1 FILE C I-2 B 7.00 2025-01-31\n1 FILE A I-3 C 12.00 2025-01-31\n1 CONFIRM B I-1 A\n1 CONFIRM C I-2 B\n1 CONFIRM A I-3 C\n1 CLOSE PLAIN 2025-12-31\n";
@@ -43,7 +47,7 @@ type Case = (
     u64,
 );
 
-const JOURNALS: [Case; 14] = [
+const JOURNALS: [Case; 15] = [
     ("run", b"", b"", 0, 0, b"", 9, 4),
     ("run", TRIANGLE, b"", 0, 0, TRIANGLE_DONE, 262, 48),
     ("run", TRIANGLE_TWICE, b"", 48, 5, PUBLISHED_LATER, 277, 58),
@@ -119,6 +123,16 @@ const JOURNALS: [Case; 14] = [
         2,
     ),
     ("run", b"", b"", 1, 5, b"fault device 0 1\n", 0, 1),
+    (
+        "run",
+        b"",
+        TWO_OPEN,
+        0,
+        0,
+        b"0 ABANDON = abandoned 1\n0 @EAST ABANDON = abandoned 1\n",
+        71,
+        11,
+    ),
     (
         "audit",
         b"",
@@ -207,10 +221,22 @@ fn days_on_one_journal(rt: HostRuntime) {
     for (first, fails, second, output, length, verdict) in DAYS {
         let day = second_day(&rt, rt.alloc(), first, fails, second);
         day.expect(&rt, 0, output);
-        assert!(rt; day.journal.as_slice().starts_with(b"BUREAUJ1"));
+        assert!(rt; day.journal.as_slice().starts_with(b"BUREAUJ2"));
         assert!(rt; day.journal.len() == length);
         expect_audit(&rt, rt.alloc(), day.journal.as_slice(), verdict);
     }
+}
+
+// A journal that an older program began is read as others are, and keeps its header.
+#[test]
+fn an_older_journal_keeps_its_header(rt: HostRuntime) {
+    let mut day = left_by(&rt, rt.alloc(), &["run"], TRIANGLE, b"", 45);
+    assert!(rt; day.journal.len() == 204);
+    day.journal[7] = b'1';
+    let next = left_by(&rt, rt.alloc(), &["run"], b"", day.journal.as_slice(), 0);
+    next.expect(&rt, 0, b"0 ABANDON = abandoned 1\n");
+    assert!(rt; next.journal.as_slice().starts_with(b"BUREAUJ1"));
+    assert!(rt; next.journal.len() == 214);
 }
 
 // Where the last gate of the triangle's journal stands after each number of its acts.
@@ -274,6 +300,42 @@ fn every_crash_of_the_triangle(rt: HostRuntime) {
                 moment,
                 image.as_slice(),
             );
+        }
+    }
+    drop(ended);
+}
+
+// Ends the test where an image of a moment does not hold the two acts that were found, with the abandonments that were kept by then:
+// the opening has three calls and each abandonment four.
+fn expect_abandoned<R: Abort + Threads + Wait + Sync>(
+    rt: &R,
+    alloc: Global,
+    moment: u64,
+    image: &[u8],
+) {
+    let acts = acts_of(rt, alloc, image);
+    assert!(rt; acts as u64 >= (moment.saturating_sub(6) / 8).saturating_add(2));
+    assert!(rt; acts <= 4);
+}
+
+// A crash at any moment of an opening that abandons the rounds of two pools leaves both openings, and the first of the abandonments.
+#[test]
+fn every_crash_of_two_abandonments(rt: HostRuntime) {
+    let ended = program(
+        &rt,
+        rt.alloc(),
+        &["run"],
+        source_of(&rt, rt.alloc(), b""),
+        sink_of(&rt, rt.alloc(), 0),
+        disk_of(&rt, rt.alloc(), TWO_OPEN, 0),
+    );
+    for moment in 0..=ended.disk.moment() {
+        for pick in 0..8 {
+            let image = ended
+                .disk
+                .image(rt.alloc(), moment, pick)
+                .expect(&rt, "memory");
+            expect_abandoned(&rt, rt.alloc(), moment, image.as_slice());
         }
     }
     drop(ended);

@@ -28,7 +28,7 @@ const CLAIM_ENTRIES: &[u8] =
     b"1 FIRM A = ok\n1 FIRM B = ok\n1 FILE B I-1 A 10.00 2025-01-31 = ok\n1 RECEIVE B I-1 10.01 = refused 11 over-open\n1 CONFIRM B I-1 A = ok\n1 RECEIVE B I-1 4.00 = ok\n1 POSITION A = balance 0.00 receivable 0.00 payable 6.00\n1 POSITION B = balance 0.00 receivable 6.00 payable 0.00\n1 DISPUTE B I-1 B = refused 8 not-debtor\n1 DISPUTE B I-1 A = ok\n1 POSITION A = balance 0.00 receivable 0.00 payable 0.00\n1 DISPUTE B I-1 A = refused 9 wrong-state\n1 WITHDRAW B I-1 = ok\n1 RECEIVE B I-1 1.00 = refused 9 wrong-state\n1 WITHDRAW B I-2 = refused 7 unknown-claim\n";
 
 // Inputs, each with the status and the output of its run.
-const RUNS: [(&[u8], u8, &[u8]); 11] = [
+const RUNS: [(&[u8], u8, &[u8]); 15] = [
     (FOUR_LINES, 0, FOUR_ENTRIES),
     (b"", 0, b""),
     (
@@ -41,6 +41,14 @@ const RUNS: [(&[u8], u8, &[u8]); 11] = [
     (b"1 FIRM\n", 6, b"fault line 1 fields\n"),
     (b"1 FIRM A\r", 6, b"fault line 1 field 1\n"),
     (b"1 FIRM A\n1 PUBLISH 1\n", 6, b"fault line 2 verb\n"),
+    (b"1 @MAIN FIRM A\n", 6, b"fault line 1 pool\n"),
+    (b"1 @ FIRM A\n", 6, b"fault line 1 pool\n"),
+    (b"1 @EAST\n", 6, b"fault line 1 verb\n"),
+    (
+        b"1 FIRM A\n1 @EAST FIRM A\n1 @EAST POSITION A\n",
+        0,
+        b"1 FIRM A = ok\n1 @EAST FIRM A = ok\n1 @EAST POSITION A = balance 0.00 receivable 0.00 payable 0.00\n",
+    ),
     (
         b"1 FIRM A\n1 FIRM A\n1 FIRM B\n1 FILE B I A 1.00 2025-01-31\n1 FILE C I A 1.00 2025-01-31\n1 FILE A J A 1.00 2025-01-31\n1 FILE B I A 2.00 2025-01-31\n1 CONFIRM A I A\n1 CONFIRM B I B\n1 CONFIRM B I A\n1 CONFIRM B I A\n",
         0,

@@ -4,19 +4,20 @@ use Rattle.std.proofs.lemmas.List.{reverse-append}
 use Rattle.std.proofs.lemmas.List.Elements.{All-push}
 use Rattle.disk_model.specs.Calls.{Seen, GoesOn, Passes}
 use Rattle.disk_model.proofs.Moments.{passes_still, passes_on, passes_wide}
-use Rattle.claim_history.specs.declared.act.Act.{Act}
-use Rattle.claim_history.specs.declared.entry.Entry.{Entry}
+use Rattle.claim_history.specs.declared.call.Call.{Call}
+use Rattle.claim_history.specs.declared.call.PoolEntry.{PoolEntry}
 use Rattle.claim_history.specs.declared.entry.Reply.{Reply}
 use Rattle.claim_history.specs.declared.entry.Reply.TheVariants as reply
 use Rattle.claim_history.specs.declared.entry.Why.TheVariants as why
-use Rattle.claim_history.specs.History.{Call, is_accepted, is_no_refusal, second_count, last_count}
-use Rattle.claim_history.specs.Needs.{is_of_device, body_length_of, record_length_of, own_bytes}
-use Rattle.claim_history.proofs.Room.{accepted_owns, use_law}
-use Rattle.act_bodies.specs.Bodies.{body_of, is_keepable}
+use Rattle.claim_history.specs.History.{is_accepted, is_no_refusal, second_count, last_count}
+use Rattle.claim_history.specs.Needs.{is_of_device, body_length_of}
+use Rattle.claim_history.specs.PoolNeeds.{call_bytes, own_bytes, pool_bytes}
+use Rattle.claim_history.proofs.PoolRoom.{accepted_owns, use_law}
+use Rattle.act_bodies.specs.Bodies.{is_keepable, body_of}
 use Rattle.round_journal.specs.Bytes.{StandsFor}
 use Rattle.round_journal.specs.Kept.{JournalView, IsKept, IsLast, HoldsOne}
 use Rattle.round_journal.specs.Appends.{HasAppended, HasNotAppended, HasTried}
-use Rattle.claim_history.specs.Callers.{call_of, accepted_calls}
+use Rattle.claim_history.specs.Pools.{accepted_calls, answered, call_of, entries_of}
 use Rattle.recorded_book.specs.Calls.{bodies_of_calls, HoldsDuring}
 use Rattle.recorded_book.specs.Moments.{HoldsAt, HasMoments}
 use Rattle.recorded_book.specs.Devices.{IsBetween, AreBetween}
@@ -26,7 +27,7 @@ use Rattle.recorded_book.proofs.Histories.{bodies_append, tried_new, tried_stays
 use Rattle.recorded_book.proofs.Grow.{moments_kept, moments_grow, held_on, held_now}
 
 -- what an append may leave is what is left by the history, or its accepted calls and the one in progress
-pub during_of_one : (history : List Entry) (last : Option (List ℕ)) (call : Call) (c : List ℕ) → IsTried history last → HoldsOne (bodies_of_calls (accepted_calls history)) last (body_of call.caller call.act) c → HoldsDuring history call c
+pub during_of_one : (history : List PoolEntry) (last : Option (List ℕ)) (call : Call) (c : List ℕ) → IsTried history last → HoldsOne (bodies_of_calls (accepted_calls history)) last (body_of call) c → HoldsDuring history call c
 during_of_one history None call c tried one = ⊎_elim
     (λ alone. inl (accepted_calls history, inl refl, inl alone))
     (λ more. ⊎_elim
@@ -39,21 +40,21 @@ during_of_one history (Some body) call c tried one = ⊎_elim
     (λ more. ⊎_elim
     (λ new. inr (inl (subst (StandsFor c) (sym (bodies_append (accepted_calls history) (call ∷ []))) new)))
     (λ other.
-    let is : other.0 ≡ body_of tried.0.caller tried.0.act = cc (other.1, tried.2) in
-    let stands : StandsFor c (bodies_of_calls (accepted_calls history) ++ body_of tried.0.caller tried.0.act ∷ []) = subst (λ (b : List ℕ). StandsFor c (bodies_of_calls (accepted_calls history) ++ b ∷ [])) is other.2 in
+    let is : other.0 ≡ body_of tried.0 = cc (other.1, tried.2) in
+    let stands : StandsFor c (bodies_of_calls (accepted_calls history) ++ body_of tried.0 ∷ []) = subst (λ (b : List ℕ). StandsFor c (bodies_of_calls (accepted_calls history) ++ b ∷ [])) is other.2 in
     inl (accepted_calls history ++ tried.0 ∷ [], inr (tried.0, tried.1, refl), inl (subst (StandsFor c) (sym (bodies_append (accepted_calls history) (tried.0 ∷ []))) stands)))
     more)
     one
 
 -- what may be left as the body that was tried last, after an append that failed
-tried_after : (history : List Entry) (e : Entry) (before after : Option (List ℕ)) → is_of_device e.reply ≡ true → is_accepted e ≡ false → IsTried history before → IsLast before (body_of e.caller e.act) after → IsTried (history ++ e ∷ []) after
+tried_after : (history : List PoolEntry) (e : PoolEntry) (before after : Option (List ℕ)) → is_of_device e.entry.reply ≡ true → is_accepted e.entry ≡ false → IsTried history before → IsLast before (body_of (call_of e)) after → IsTried (history ++ e ∷ []) after
 tried_after history e before None device refused tried is = tt
 tried_after history e before (Some body) device refused tried is = ⊎_elim
     (λ same. let old : IsTried history (Some body) = subst (IsTried history) (sym same) tried in (old.0, tried_stays history e old.0 refused old.1, old.2))
     (λ more. ⊎_elim (λ none. absurd (cc none)) (λ own. (call_of e, tried_new history e device, cc own)) more)
     is
 
-tried_noted : (history : List Entry) (e : Entry) (last : Option (List ℕ)) → is_accepted e ≡ false → IsTried history last → IsTried (history ++ e ∷ []) last
+tried_noted : (history : List PoolEntry) (e : PoolEntry) (last : Option (List ℕ)) → is_accepted e.entry ≡ false → IsTried history last → IsTried (history ++ e ∷ []) last
 tried_noted history e None refused tried = tt
 tried_noted history e (Some body) refused tried = (tried.0, tried_stays history e tried.0 refused tried.1, tried.2)
 
@@ -69,23 +70,23 @@ pub accepted_is_no_device : (r : Reply) → is_no_refusal r ≡ true → is_of_d
 accepted_is_no_device (reply.Refused w) is = absurd (cc is)
 accepted_is_no_device r is = refl
 
-pub count_more : (history : List Entry) (e : Entry) → last_count (reverse (history ++ e ∷ [])) ≡ max (second_count e.reply) (last_count (reverse history))
-count_more history e = ap last_count (reverse-append history (e ∷ []))
+pub count_more : (history : List PoolEntry) (e : PoolEntry) → last_count (entries_of (reverse (history ++ e ∷ []))) ≡ max (second_count e.entry.reply) (last_count (entries_of (reverse history)))
+count_more history e = ap (λ (ms : List PoolEntry). last_count (entries_of ms)) (reverse-append history (e ∷ []))
 
-own_refused : (a : Act) (r : Reply) → is_no_refusal r ≡ false → own_bytes a r ≡ 0
-own_refused a r is = ap (λ (b : Bool). if b then record_length_of a else 0) is
+own_refused : (call : Call) (r : Reply) → is_no_refusal r ≡ false → own_bytes call r ≡ 0
+own_refused call r is = ap (λ (b : Bool). if b then call_bytes call else 0) is
 
 -- no entry but one that tells of a device has counts
-pub no_counts : (low high : ℕ) (e : Entry) → is_of_device e.reply ≡ false → IsBetween low high e
+pub no_counts : (low high : ℕ) (e : PoolEntry) → is_of_device e.entry.reply ≡ false → IsBetween low high e
 no_counts low high e is before counted told = absurd (cc (is, ap is_of_device told))
 
-between_more : (low high high' : ℕ) (history : List Entry) (e : Entry) → high ≤ high' → AreBetween low high history → IsBetween low high' e → AreBetween low high' (history ++ e ∷ [])
+between_more : (low high high' : ℕ) (history : List PoolEntry) (e : PoolEntry) → high ≤ high' → AreBetween low high history → IsBetween low high' e → AreBetween low high' (history ++ e ∷ [])
 between_more low high high' history e le all new = All-push (IsBetween low high') history e
     (λ k d lt before counted told. let old = all k d lt before counted told in (old.0, old.1, omega (arith, old.2, le)))
     new
 
-pub between_own : (low high before after caller : ℕ) (a : Act) → before ≡ low → after ≡ high → low ≤ high → IsBetween low high (record { caller = caller; act = a; reply = reply.Refused (why.Device before after) })
-between_own low high before after caller a b_is a_is le b counted told =
+pub between_own : (low high before after : ℕ) (call : Call) → before ≡ low → after ≡ high → low ≤ high → IsBetween low high (answered call (reply.Refused (why.Device before after)))
+between_own low high before after call b_is a_is le b counted told =
     let first : before ≡ b = cc told in
     let second : after ≡ counted = cc told in
     (omega (arith, first, b_is), omega (arith, first, second, b_is, a_is, le), omega (arith, second, a_is))
@@ -95,24 +96,24 @@ module _ {D : Type 0} (seen : D → Seen) where
   view_at journal spare opened opened_with cleared cleared_with = record { journal = journal; spare = spare; at_opening_end = opened; opened_with = opened_with; at_clearing = cleared; cleared_with = cleared_with }
 
   -- an entry that makes no call of the disk: it is refused, and tells of no device
-  pub records_noted : (r : RecorderView D) (history : List Entry) (e : Entry) → is_accepted e ≡ false → is_of_device e.reply ≡ false → is_keepable e.caller e.act ≡ true → Records seen r history → Records seen r (history ++ e ∷ [])
+  pub records_noted : (r : RecorderView D) (history : List PoolEntry) (e : PoolEntry) → is_accepted e.entry ≡ false → is_of_device e.entry.reply ≡ false → is_keepable (call_of e) ≡ true → Records seen r history → Records seen r (history ++ e ∷ [])
   records_noted r history e refused undevice can has =
       let uses = use_law history e in
       let long : length (history ++ e ∷ []) ≡ length history + 1 = length-append history (e ∷ []) in
       let empty : List ℕ → Type 0 = λ c. ⊥ in
       let stays = passes_still (seen r.journal.disk) empty in
       record {
-        place = omega (arith, has.place, uses.bytes, own_refused e.act e.reply refused);
+        place = omega (arith, has.place, uses.bytes, own_refused (call_of e) e.entry.reply refused);
         opened_few = omega (arith, has.opened_few, long);
         cleared_few = omega (arith, has.cleared_few, long);
-        keepable = All-push (λ (x : Entry). is_keepable x.caller x.act ≡ true) history e has.keepable can;
-        counted = omega (arith, count_more history e, undevice_count e.reply undevice, has.counted);
+        keepable = All-push (λ (x : PoolEntry). is_keepable (call_of x) ≡ true) history e has.keepable can;
+        counted = omega (arith, count_more history e, undevice_count e.entry.reply undevice, has.counted);
         same = has.same;
         later = has.later;
         between = between_more (seen r.at_opening_end).count (seen r.journal.disk).count (seen r.journal.disk).count history e (omega arith) has.between (no_counts (seen r.at_opening_end).count (seen r.journal.disk).count e undevice);
         recorded = λ told. let was = has.recorded told in
             record {
-              kept = (was.kept.0, subst (λ (calls : List Call). IsKept seen r.journal (bodies_of_calls calls) was.kept.0) (sym (accepted_same history e refused)) was.kept.1, tried_noted history e was.kept.0 refused was.kept.2);
+              kept = (was.kept.0, was.kept.1, subst (λ (calls : List Call). IsKept seen r.journal was.kept.1 (bodies_of_calls calls) was.kept.0) (sym (accepted_same history e refused)) was.kept.2, tried_noted history e was.kept.0 refused was.kept.3);
               moments = moments_kept (seen r.journal.disk) (seen r.journal.disk) (seen r.journal.at_first_sync).moment r.opened_with history e empty was.moments stays (λ c no. absurd no) refused;
               since = held_on (seen r.journal.disk) (seen r.journal.disk) (seen r.at_clearing).moment r.cleared_with history e empty has.cleared_few was.since stays (λ c no. absurd no);
               stays = was.stays;
@@ -120,7 +121,7 @@ module _ {D : Type 0} (seen : D → Seen) where
       }
 
   -- a clearing
-  pub records_cleared : (r r' : RecorderView D) (history : List Entry) → Records seen r history → r'.journal ≡ r.journal → r'.at_opening_end ≡ r.at_opening_end → r'.opened_with ≡ r.opened_with → r'.at_clearing ≡ r.journal.disk → r'.cleared_with ≡ length history → Records seen r' history
+  pub records_cleared : (r r' : RecorderView D) (history : List PoolEntry) → Records seen r history → r'.journal ≡ r.journal → r'.at_opening_end ≡ r.at_opening_end → r'.opened_with ≡ r.opened_with → r'.at_clearing ≡ r.journal.disk → r'.cleared_with ≡ length history → Records seen r' history
   records_cleared r r' history has journal opened opened_with cleared cleared_with =
       let was : Records seen (view_at r.journal r'.spare r.at_opening_end r.opened_with r.journal.disk (length history)) history = record {
         place = has.place;
@@ -142,10 +143,10 @@ module _ {D : Type 0} (seen : D → Seen) where
       subst (λ (v : RecorderView D). Records seen v history) is was
 
   -- an append of the call of an entry
-  module _ (j j' : JournalView D) (spare spare' : ℕ) (opened : D) (opened_with : ℕ) (cleared : D) (cleared_with : ℕ) (history : List Entry) (e : Entry) (body : List ℕ)
+  module _ (j j' : JournalView D) (spare spare' : ℕ) (opened : D) (opened_with : ℕ) (cleared : D) (cleared_with : ℕ) (history : List PoolEntry) (e : PoolEntry) (body : List ℕ)
       (has : Records seen (view_at j spare opened opened_with cleared cleared_with) history)
-      (can : is_keepable e.caller e.act ≡ true)
-      (body_is : body ≡ body_of e.caller e.act)
+      (can : is_keepable (call_of e) ≡ true)
+      (body_is : body ≡ body_of (call_of e))
       (tried : HasTried seen j j' body) where
     was_told : IsTrue (seen j'.disk).tells → IsRecorded seen (view_at j spare opened opened_with cleared cleared_with) history
     was_told told = has.recorded (subst (λ (b : Bool). IsTrue b) tried.tells told)
@@ -154,25 +155,25 @@ module _ {D : Type 0} (seen : D → Seen) where
     pub append_goes : IsTrue (seen j.disk).tells → Passes (seen j.disk) (seen j'.disk) (HoldsDuring history (call_of e))
     append_goes told =
         let kept = (has.recorded told).kept in
-        passes_wide (seen j.disk) (seen j'.disk) (HoldsOne (bodies_of_calls (accepted_calls history)) kept.0 body) (HoldsDuring history (call_of e)) (tried.crash (bodies_of_calls (accepted_calls history)) kept.0 kept.1)
-        (λ c one. during_of_one history kept.0 (call_of e) c kept.2 (subst (λ (b : List ℕ). HoldsOne (bodies_of_calls (accepted_calls history)) kept.0 b c) body_is one))
+        passes_wide (seen j.disk) (seen j'.disk) (HoldsOne (bodies_of_calls (accepted_calls history)) kept.0 body) (HoldsDuring history (call_of e)) (tried.crash kept.1 (bodies_of_calls (accepted_calls history)) kept.0 kept.2)
+        (λ c one. during_of_one history kept.0 (call_of e) c kept.3 (subst (λ (b : List ℕ). HoldsOne (bodies_of_calls (accepted_calls history)) kept.0 b c) body_is one))
 
     -- the images of the opening stay
     stays_on : GoesOn (seen opened) (seen j.disk) → Passes (seen j.disk) (seen j'.disk) (HoldsDuring history (call_of e)) → GoesOn (seen opened) (seen j'.disk)
     stays_on was goes = passes_on (seen opened) (seen j.disk) (seen j'.disk) (λ c. Unit {0}) was (passes_wide (seen j.disk) (seen j'.disk) (HoldsDuring history (call_of e)) (λ c. Unit {0}) goes (λ c one. tt))
 
-    pub records_accepted : is_accepted e ≡ true → length body ≡ body_length_of e.act → HasAppended seen j j' body
+    pub records_accepted : is_accepted e.entry ≡ true → length body ≡ body_length_of e.entry.act + pool_bytes e.pool → HasAppended seen j j' body
         → Records seen (view_at j' spare' opened opened_with cleared cleared_with) (history ++ e ∷ [])
     records_accepted accepted length_is done =
         let uses = use_law history e in
         let long : length (history ++ e ∷ []) ≡ length history + 1 = length-append history (e ∷ []) in
-        let undevice = accepted_is_no_device e.reply accepted in
+        let undevice = accepted_is_no_device e.entry.reply accepted in
         record {
-          place = omega (arith, has.place, done.gate, length_is, uses.bytes, accepted_owns e.act e.reply accepted);
+          place = omega (arith, has.place, done.gate, length_is, uses.bytes, accepted_owns (call_of e) e.entry.reply accepted);
           opened_few = omega (arith, has.opened_few, long);
           cleared_few = omega (arith, has.cleared_few, long);
-          keepable = All-push (λ (x : Entry). is_keepable x.caller x.act ≡ true) history e has.keepable can;
-          counted = omega (arith, count_more history e, accepted_count e.reply accepted, has.counted, tried.counts);
+          keepable = All-push (λ (x : PoolEntry). is_keepable (call_of x) ≡ true) history e has.keepable can;
+          counted = omega (arith, count_more history e, accepted_count e.entry.reply accepted, has.counted, tried.counts);
           same = tried.tells ∙ has.same;
           later = omega (arith, has.later, tried.counts);
           between = between_more (seen opened).count (seen j.disk).count (seen j'.disk).count history e tried.counts has.between (no_counts (seen opened).count (seen j'.disk).count e undevice);
@@ -182,28 +183,28 @@ module _ {D : Type 0} (seen : D → Seen) where
               let goes = append_goes told_old in
               let same : bodies_of_calls (accepted_calls history) ++ body ∷ [] ≡ bodies_of_calls (accepted_calls (history ++ e ∷ [])) =
               ap (λ (b : List ℕ). bodies_of_calls (accepted_calls history) ++ b ∷ []) body_is ∙ sym (ap bodies_of_calls (accepted_more history e accepted) ∙ bodies_append (accepted_calls history) (call_of e ∷ [])) in
-              let kept : IsKept seen j' (bodies_of_calls (accepted_calls (history ++ e ∷ []))) None = subst (λ (bs : List (List ℕ)). IsKept seen j' bs None) same (done.kept (bodies_of_calls (accepted_calls history)) was.kept.0 was.kept.1) in
+              let kept : IsKept seen j' was.kept.1 (bodies_of_calls (accepted_calls (history ++ e ∷ []))) None = subst (λ (bs : List (List ℕ)). IsKept seen j' was.kept.1 bs None) same (done.kept was.kept.1 (bodies_of_calls (accepted_calls history)) was.kept.0 was.kept.2) in
               let holds : (c : List ℕ) → HoldsDuring history (call_of e) c → HoldsAt (history ++ e ∷ []) (length (accepted_calls history)) c = λ c during. during_accepted history e c accepted during in
               record {
-                kept = (None, kept, tt);
+                kept = (None, was.kept.1, kept, tt);
                 moments = subst (λ (d : D). HasMoments (seen j'.disk) (seen d).moment opened_with (history ++ e ∷ [])) (sym tried.opened)
                     (moments_grow (seen j.disk) (seen j'.disk) (seen j.at_first_sync).moment opened_with history e (HoldsDuring history (call_of e)) was.moments goes holds accepted
-                    (λ c now. all_holds (history ++ e ∷ []) c (inl (record { short = kept.short; ends = kept.images c now }))));
+                    (λ c now. all_holds (history ++ e ∷ []) c (inl (record { short = kept.short; begins = was.kept.1; ends = kept.images c now }))));
                 since = held_on (seen j.disk) (seen j'.disk) (seen cleared).moment cleared_with history e (HoldsDuring history (call_of e)) has.cleared_few was.since goes holds;
                 stays = stays_on was.stays goes;
               };
         }
 
-    pub records_failed : is_accepted e ≡ false → is_of_device e.reply ≡ true → second_count e.reply ≤ (seen j'.disk).count → IsBetween (seen j.disk).count (seen j'.disk).count e → HasNotAppended seen j j' body
+    pub records_failed : is_accepted e.entry ≡ false → is_of_device e.entry.reply ≡ true → second_count e.entry.reply ≤ (seen j'.disk).count → IsBetween (seen j.disk).count (seen j'.disk).count e → HasNotAppended seen j j' body
         → Records seen (view_at j' spare' opened opened_with cleared cleared_with) (history ++ e ∷ [])
     records_failed refused device second own failed =
         let uses = use_law history e in
         let long : length (history ++ e ∷ []) ≡ length history + 1 = length-append history (e ∷ []) in
         record {
-          place = omega (arith, has.place, failed.gate, uses.bytes, own_refused e.act e.reply refused);
+          place = omega (arith, has.place, failed.gate, uses.bytes, own_refused (call_of e) e.entry.reply refused);
           opened_few = omega (arith, has.opened_few, long);
           cleared_few = omega (arith, has.cleared_few, long);
-          keepable = All-push (λ (x : Entry). is_keepable x.caller x.act ≡ true) history e has.keepable can;
+          keepable = All-push (λ (x : PoolEntry). is_keepable (call_of x) ≡ true) history e has.keepable can;
           counted = omega (arith, count_more history e, second, has.counted, tried.counts);
           same = tried.tells ∙ has.same;
           later = omega (arith, has.later, tried.counts);
@@ -213,11 +214,11 @@ module _ {D : Type 0} (seen : D → Seen) where
               let was = was_told told in
               let told_old = subst (λ (b : Bool). IsTrue b) tried.tells told in
               let goes = append_goes told_old in
-              let after = failed.kept (bodies_of_calls (accepted_calls history)) was.kept.0 was.kept.1 in
-              let last_is : IsLast was.kept.0 (body_of e.caller e.act) after.0 = subst (λ (b : List ℕ). IsLast was.kept.0 b after.0) body_is after.1 in
+              let after = failed.kept was.kept.1 (bodies_of_calls (accepted_calls history)) was.kept.0 was.kept.2 in
+              let last_is : IsLast was.kept.0 (body_of (call_of e)) after.0 = subst (λ (b : List ℕ). IsLast was.kept.0 b after.0) body_is after.1 in
               let holds : (c : List ℕ) → HoldsDuring history (call_of e) c → HoldsAt (history ++ e ∷ []) (length (accepted_calls history)) c = λ c during. during_failed history e c device refused during in
               record {
-                kept = (after.0, subst (λ (calls : List Call). IsKept seen j' (bodies_of_calls calls) after.0) (sym (accepted_same history e refused)) after.2, tried_after history e was.kept.0 after.0 device refused was.kept.2 last_is);
+                kept = (after.0, was.kept.1, subst (λ (calls : List Call). IsKept seen j' was.kept.1 (bodies_of_calls calls) after.0) (sym (accepted_same history e refused)) after.2, tried_after history e was.kept.0 after.0 device refused was.kept.3 last_is);
                 moments = subst (λ (d : D). HasMoments (seen j'.disk) (seen d).moment opened_with (history ++ e ∷ [])) (sym tried.opened)
                     (moments_kept (seen j.disk) (seen j'.disk) (seen j.at_first_sync).moment opened_with history e (HoldsDuring history (call_of e)) was.moments goes holds refused);
                 since = held_on (seen j.disk) (seen j'.disk) (seen cleared).moment cleared_with history e (HoldsDuring history (call_of e)) has.cleared_few was.since goes holds;

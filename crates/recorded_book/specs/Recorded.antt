@@ -1,18 +1,20 @@
 -- What the record of a desk's calls on its disk keeps of a history.
 use Rattle.std.specs.Prelude.{◌≡◌, ◌≤◌, ◌+◌, ℕ, List, length, reverse, Option, Some, None, IsTrue}
 use Rattle.disk_model.specs.Calls.{Seen, GoesOn}
-use Rattle.claim_history.specs.declared.entry.Entry.{Entry}
-use Rattle.claim_history.specs.History.{Call, last_count}
-use Rattle.claim_history.specs.Needs.{used_bytes_of}
+use Rattle.claim_history.specs.declared.call.Call.{Call}
+use Rattle.claim_history.specs.declared.call.PoolEntry.{PoolEntry}
+use Rattle.claim_history.specs.History.{last_count}
+use Rattle.claim_history.specs.PoolNeeds.{used_bytes_of}
+use Rattle.claim_history.specs.Pools.{accepted_calls, entries_of}
 use Rattle.act_bodies.specs.Bodies.{body_of}
+use Rattle.round_journal.specs.Bytes.{Header}
 use Rattle.round_journal.specs.Kept.{JournalView, IsKept}
-use Rattle.claim_history.specs.Callers.{accepted_calls}
 use Rattle.recorded_book.specs.Calls.{bodies_of_calls, CanBeKept, TriedLast}
 use Rattle.recorded_book.specs.Moments.{HasMoments, HeldSince}
 use Rattle.recorded_book.specs.Devices.{AreBetween}
 
 -- What is seen of a recorder: its journal; how many bytes of a body there is memory for; the disk at the end of the opening,
--- and the number of entries that were opened; and the same of the last clearing.
+-- and the number of members that were opened; and the same of the last clearing.
 pub record RecorderView (D : Type 0) : Type 0 where
   pub journal : JournalView D
   pub spare : ℕ
@@ -21,39 +23,40 @@ pub record RecorderView (D : Type 0) : Type 0 where
   pub at_clearing : D
   pub cleared_with : ℕ
 
--- the body that was tried last is that of an entry that tells of a device, after which none was accepted
-abbrev pub IsTried : List Entry → Option (List ℕ) → Type 0
+-- the body that was tried last is that of a member that tells of a device, after which none was accepted
+abbrev pub IsTried : List PoolEntry → Option (List ℕ) → Type 0
 IsTried history None = Unit {0}
-IsTried history (Some body) = (tried : Call) × TriedLast history tried × (body ≡ body_of tried.caller tried.act)
+IsTried history (Some body) = (tried : Call) × TriedLast history tried × (body ≡ body_of tried)
 
 -- the journal keeps the bodies of the accepted calls, and perhaps one that was tried last
-abbrev pub KeepsAccepted : {D : Type 0} → (D → Seen) → JournalView D → List Entry → Type 0
+abbrev pub KeepsAccepted : {D : Type 0} → (D → Seen) → JournalView D → List PoolEntry → Type 0
 KeepsAccepted seen journal history =
-    (last : Option (List ℕ)) × IsKept seen journal (bodies_of_calls (accepted_calls history)) last × IsTried history last
+    (last : Option (List ℕ)) × (h : Header) × IsKept seen journal h (bodies_of_calls (accepted_calls history)) last
+    × IsTried history last
 
 -- What holds of its bytes: they are kept, and each image of each moment since the opening holds what was accepted by then. The
 -- images of the opening stay.
-pub record IsRecorded {D : Type 0} (seen : D → Seen) (r : RecorderView D) (history : List Entry) : Type 0 where
+pub record IsRecorded {D : Type 0} (seen : D → Seen) (r : RecorderView D) (history : List PoolEntry) : Type 0 where
   pub kept : KeepsAccepted seen r.journal history
   pub moments : HasMoments (seen r.journal.disk) (seen r.journal.at_first_sync).moment r.opened_with history
   pub since : HeldSince (seen r.at_clearing).moment r.cleared_with (seen r.journal.disk) history
   pub stays : GoesOn (seen r.at_opening_end) (seen r.journal.disk)
 
 -- What a recorder keeps of a history, of whose bytes it speaks where the disk tells them.
-pub record Records {D : Type 0} (seen : D → Seen) (r : RecorderView D) (history : List Entry) : Type 0 where
+pub record Records {D : Type 0} (seen : D → Seen) (r : RecorderView D) (history : List PoolEntry) : Type 0 where
   -- the journal has as many bytes as the history uses
   pub place : r.journal.gate + 1 ≡ used_bytes_of history
-  -- the entries that were opened, and those at the last clearing, are among those of the history
+  -- the members that were opened, and those at the last clearing, are among those of the history
   pub opened_few : r.opened_with ≤ length history
   pub cleared_few : r.cleared_with ≤ length history
   -- each of its calls can be kept
   pub keepable : CanBeKept history
-  -- no entry tells of a count above the present one
-  pub counted : last_count (reverse history) ≤ (seen r.journal.disk).count
+  -- no member tells of a count above the present one
+  pub counted : last_count (entries_of (reverse history)) ≤ (seen r.journal.disk).count
   -- since the end of the opening the disk tells its bytes as then, and its count has not fallen
   pub same : (seen r.journal.disk).tells ≡ (seen r.at_opening_end).tells
   pub later : (seen r.at_opening_end).count ≤ (seen r.journal.disk).count
-  -- each entry that tells of a device has its counts between those two
+  -- each member that tells of a device has its counts between those two
   pub between : AreBetween (seen r.at_opening_end).count (seen r.journal.disk).count history
   -- its bytes
   pub recorded : IsTrue (seen r.journal.disk).tells → IsRecorded seen r history

@@ -4,7 +4,7 @@ use claim_history::Day;
 use command_words::{InputReport, JournalReport};
 use disk_model::MemoryDisk;
 use printed_text::ExitStatus;
-use setoff_model::Kind;
+use setoff_model::{Kind, Name};
 use std::alloc::{AllocError, Global};
 use std::process::Abort;
 
@@ -301,11 +301,40 @@ fn tables_of_journals(rt: HostRuntime) {
     let today = Day::read(b"2026-01-10").expect(&rt, "a day");
     for (is_positions, bytes, fails, status, output) in TABLES {
         let table = if is_positions {
-            JournalReport::Positions
+            JournalReport::Positions { pool: None }
         } else {
-            JournalReport::Notices { today }
+            JournalReport::Notices { today, pool: None }
         };
         expect_report(&rt, rt.alloc(), table, bytes, fails, status, output);
+    }
+}
+
+// The record of the act `1 @EAST FIRM A`.
+const RECORD_OF_EAST: &[u8] =
+    b"BUREAUJ2\x01\x00\x00\x00\x0d\x00\x00\x00\x01\x0f\x04EAST\x01\x01A\x00";
+
+// The name of a pool, and its positions.
+const POOLS: [(&[u8], &[u8]); 3] = [
+    (
+        b"MAIN",
+        b"firm,balance,credit,ceiling,offer,receivable,payable\n",
+    ),
+    (
+        b"EAST",
+        b"firm,balance,credit,ceiling,offer,receivable,payable\nA,0.00,0.00,10000000000000.00,0.00,0.00,0.00\n",
+    ),
+    (
+        b"WEST",
+        b"firm,balance,credit,ceiling,offer,receivable,payable\n",
+    ),
+];
+
+#[test]
+fn tables_of_pools(rt: HostRuntime) {
+    for (name, output) in POOLS {
+        let pool = Some(Name::of(name).expect(&rt, "a name"));
+        let report = JournalReport::Positions { pool };
+        expect_report(&rt, rt.alloc(), report, RECORD_OF_EAST, 0, 0, output);
     }
 }
 
@@ -335,9 +364,10 @@ fn weighed_journals(rt: HostRuntime) {
     }
 }
 
-const AUDITS: [(&[u8], u64, u8, &[u8]); 5] = [
+const AUDITS: [(&[u8], u64, u8, &[u8]); 6] = [
     (b"", 0, 0, b"yes acts 0 rounds 0\n"),
     (ONE_RECORD, 0, 0, b"yes acts 1 rounds 0\n"),
+    (RECORD_OF_EAST, 0, 0, b"yes acts 1 rounds 0\n"),
     (REFUSED_RECORD, 0, 1, b"no 8 refused 7 unknown-claim\n"),
     (b"0123456789", 0, 8, b"fault journal 0 header\n"),
     (ONE_RECORD, 1, 5, b"fault device 0 1\n"),

@@ -1,6 +1,6 @@
 -- A line with a cause asks nothing.
-use Rattle.std.proofs.Common.{◌≡◌, ℕ, zero, suc, true, List, [], ◌∷◌, length, drop, get_or, refl, sym, ap, ◌∙◌, subst, decimal, if◌then◌else◌}
-use Rattle.std.specs.Prelude.{◌&&◌, bytes_eq, codes}
+use Rattle.std.proofs.Common.{◌≡◌, ℕ, zero, suc, Bool, true, false, inl, inr, List, [], ◌∷◌, length, drop, get_or, refl, sym, ap, ◌∙◌, subst, decimal, arith, if◌then◌else◌}
+use Rattle.std.specs.Prelude.{◌⊎◌, ◌&&◌, ◌++◌, bytes_eq, codes}
 use Rattle.std.proofs.lemmas.Bool.{and_parts}
 use Rattle.setoff_model.specs.declared.name.Key.{Key}
 use Rattle.setoff_model.specs.Names.{is_name}
@@ -9,13 +9,15 @@ use Rattle.text_lines.proofs.Joining.{join_law}
 use Rattle.text_lines.proofs.Visible.{visible_law}
 use Rattle.claim_history.specs.declared.act.Act.{Act}
 use Rattle.claim_history.specs.declared.act.Act.TheVariants as act
+use Rattle.claim_history.specs.Pools.{is_main}
 use Rattle.claim_history.specs.Acts.{is_request, is_key, is_amount, is_claim_amount, is_day, act_fields}
 use Rattle.request_text.specs.declared.error.LineCause.{LineCause}
 use Rattle.request_text.specs.declared.error.LineCause.TheVariants as causes
 use Rattle.request_text.specs.declared.verb.Verb.{Verb}
 use Rattle.request_text.specs.declared.verb.Verb.TheVariants as verbs
 use Rattle.request_text.specs.Lanes.{IsLane}
-use Rattle.request_text.specs.Causes.{Form, HasForm, verb_text, forms_of, IsFirstBadField, HasArgsCause, HasVerbCause, HasCause}
+use Rattle.request_text.specs.Pools.{IsOtherPool, pool_field, pool_fields}
+use Rattle.request_text.specs.Causes.{BeginsAt, BeginsElsewhere, Form, HasForm, verb_text, forms_of, IsFirstBadField, HasArgsCause, HasVerbCause, HasPoolCause, HasCause}
 use Rattle.request_text.specs.Grammar.{IsLine, line_fields}
 use Rattle.request_text.proofs.Words.{cut_fields}
 
@@ -27,16 +29,16 @@ AreInForm [] (field ∷ args) = ⊥
 AreInForm (form ∷ forms) [] = ⊥
 AreInForm (form ∷ forms) (field ∷ args) = HasForm form field × AreInForm forms args
 
-record IsInForm (after : List (List ℕ)) : Type 0 where
-  verb : Verb
-  args : List (List ℕ)
-  spelled : after ≡ verb_text verb ∷ args
-  good : AreInForm (forms_of verb) args
+pub record IsInForm (after : List (List ℕ)) : Type 0 where
+  pub verb : Verb
+  pub args : List (List ℕ)
+  pub spelled : after ≡ verb_text verb ∷ args
+  pub good : AreInForm (forms_of verb) args
 
 key_parts : (key : Key) → is_key key ≡ true → (is_name key.creditor ≡ true) × (is_name key.invoice ≡ true)
 key_parts key h = and_parts (is_name key.creditor) (is_name key.invoice) h
 
-in_form : (a : Act) → is_request a ≡ true → IsInForm (act_fields a)
+pub in_form : (a : Act) → is_request a ≡ true → IsInForm (act_fields a)
 in_form (act.Firm firm) h = record { verb = verbs.Firm; args = firm ∷ []; spelled = refl; good = (h, tt) }
 in_form (act.File key debtor amount due) h =
     let p = and_parts (is_key key && is_name debtor && is_claim_amount amount) (is_day due) h in
@@ -130,6 +132,7 @@ none_bad (form ∷ forms) (field ∷ args) (suc (suc k)) h b = none_bad forms ar
 
 no_args : (forms : List Form) (args : List (List ℕ)) (cause : LineCause) → AreInForm forms args → HasArgsCause forms args cause → ⊥
 no_args forms args causes.Lane h c = c
+no_args forms args causes.Pool h c = c
 no_args forms args causes.Verb h c = c
 no_args forms args causes.Fields h c = c (same_count forms args h)
 no_args forms args (causes.Field k) h c = none_bad forms args k h c.1
@@ -147,36 +150,109 @@ after_verb after cause f c =
 
 no_verb : (after : List (List ℕ)) (cause : LineCause) → IsInForm after → HasVerbCause after cause → ⊥
 no_verb after causes.Lane f c = after_verb after causes.Lane f c
+no_verb after causes.Pool f c = after_verb after causes.Pool f c
 no_verb after causes.Verb f c = c f.verb f.args f.spelled
 no_verb after causes.Fields f c = after_verb after causes.Fields f c
 no_verb after (causes.Field k) f c = after_verb after (causes.Field k) f c
 
+-- the first byte of a field that names a pool
+pub first_byte : (field name : List ℕ) (fs others : List (List ℕ)) → BeginsAt (field ∷ fs) name others → get_or field 0 0 ≡ 64
+first_byte field name fs others e = ap (λ (l : List (List ℕ)). get_or (get_or l 0 []) 0 0) e
+
+-- no verb begins with `@`
+no_sign : (verb : Verb) (args : List (List ℕ)) → BeginsElsewhere (verb_text verb ∷ args)
+no_sign verbs.Firm args = λ name others e. absurd (omega (arith, first_byte (verb_text verbs.Firm) name args others e))
+no_sign verbs.File args = λ name others e. absurd (omega (arith, first_byte (verb_text verbs.File) name args others e))
+no_sign verbs.Confirm args = λ name others e. absurd (omega (arith, first_byte (verb_text verbs.Confirm) name args others e))
+no_sign verbs.Dispute args = λ name others e. absurd (omega (arith, first_byte (verb_text verbs.Dispute) name args others e))
+no_sign verbs.Withdraw args = λ name others e. absurd (omega (arith, first_byte (verb_text verbs.Withdraw) name args others e))
+no_sign verbs.Receive args = λ name others e. absurd (omega (arith, first_byte (verb_text verbs.Receive) name args others e))
+no_sign verbs.Fund args = λ name others e. absurd (omega (arith, first_byte (verb_text verbs.Fund) name args others e))
+no_sign verbs.Draw args = λ name others e. absurd (omega (arith, first_byte (verb_text verbs.Draw) name args others e))
+no_sign verbs.Limit args = λ name others e. absurd (omega (arith, first_byte (verb_text verbs.Limit) name args others e))
+no_sign verbs.Offer args = λ name others e. absurd (omega (arith, first_byte (verb_text verbs.Offer) name args others e))
+no_sign verbs.Position args = λ name others e. absurd (omega (arith, first_byte (verb_text verbs.Position) name args others e))
+no_sign verbs.Close args = λ name others e. absurd (omega (arith, first_byte (verb_text verbs.Close) name args others e))
+no_sign verbs.Abandon args = λ name others e. absurd (omega (arith, first_byte (verb_text verbs.Abandon) name args others e))
+
+pub begins_elsewhere : (after : List (List ℕ)) → IsInForm after → BeginsElsewhere after
+begins_elsewhere after f = λ name others e. no_sign f.verb f.args name others (sym f.spelled ∙ e)
+
+-- two lists that begin with a pool are of one name and the same after it
+pub same_pool : (pool other : List ℕ) (fs others : List (List ℕ)) → pool_field pool ∷ fs ≡ pool_field other ∷ others → (pool ≡ other) × (fs ≡ others)
+same_pool pool other fs others e = (ap (λ (l : List (List ℕ)). drop 1 (get_or l 0 [])) e, ap (drop 1) e)
+
+-- the cause is in the fields after a pool, or after a lane alone
+abbrev IsAfterPool : List (List ℕ) → LineCause → Type 0
+IsAfterPool after cause = (BeginsElsewhere after × HasVerbCause after cause)
+    ⊎ ((pool : List ℕ) × ((others : List (List ℕ)) × (IsOtherPool pool × BeginsAt after pool others × HasVerbCause others cause)))
+
+after_pool : (b : Bool) (pool : List ℕ) (fs : List (List ℕ)) (cause : LineCause) → IsInForm fs → IsAfterPool ((if b then [] else pool_field pool ∷ []) ++ fs) cause → ⊥
+after_pool true pool fs cause f (inl h) = no_verb fs cause f h.1
+after_pool true pool fs cause f (inr h) = begins_elsewhere fs f h.0 h.1.0 h.1.1.1
+after_pool false pool fs cause f (inl h) = h.0 pool fs refl
+after_pool false pool fs cause f (inr h) = no_verb fs cause f (subst (λ (l : List (List ℕ)). HasVerbCause l cause) (sym (same_pool pool h.0 fs h.1.0 h.1.1.1).1) h.1.1.2)
+
+bad_pool : (b : Bool) (pool : List ℕ) (fs : List (List ℕ)) → is_main pool ≡ b → is_name pool ≡ true → IsInForm fs → HasPoolCause ((if b then [] else pool_field pool ∷ []) ++ fs) causes.Pool → ⊥
+bad_pool true pool fs main named f h = begins_elsewhere fs f h.0 h.1.0 h.1.1.0
+bad_pool false pool fs main named f h = h.1.1.1 (subst IsOtherPool (same_pool pool h.0 fs h.1.0 h.1.1.0).0 (named, main))
+
+no_pool : (pool : List ℕ) (fs : List (List ℕ)) (cause : LineCause) → is_name pool ≡ true → IsInForm fs → HasPoolCause (pool_fields pool ++ fs) cause → ⊥
+no_pool pool fs causes.Lane named f c = after_pool (is_main pool) pool fs causes.Lane f c
+no_pool pool fs causes.Pool named f c = bad_pool (is_main pool) pool fs refl named f c
+no_pool pool fs causes.Verb named f c = after_pool (is_main pool) pool fs causes.Verb f c
+no_pool pool fs causes.Fields named f c = after_pool (is_main pool) pool fs causes.Fields f c
+no_pool pool fs (causes.Field k) named f c = after_pool (is_main pool) pool fs (causes.Field k) f c
+
 -- the cause is in the fields after a lane
 abbrev IsAfterLane : List (List ℕ) → LineCause → Type 0
-IsAfterLane parts cause = (lane : ℕ) × ((after : List (List ℕ)) × (IsLane lane × (parts ≡ decimal lane ∷ after) × HasVerbCause after cause))
+IsAfterLane parts cause = (lane : ℕ) × ((after : List (List ℕ)) × (IsLane lane × (parts ≡ decimal lane ∷ after) × HasPoolCause after cause))
 
-after_lane : (lane : ℕ) (after : List (List ℕ)) (cause : LineCause) → IsInForm after → IsAfterLane (decimal lane ∷ after) cause → ⊥
-after_lane lane after cause f c = no_verb c.1.0 cause (subst IsInForm (ap (drop 1) c.1.1.1) f) c.1.1.2
+abbrev HasNoPoolCause : List (List ℕ) → LineCause → Type 0
+HasNoPoolCause after cause = HasPoolCause after cause → ⊥
 
-no_parts : (lane : ℕ) (after : List (List ℕ)) (cause : LineCause) → IsLane lane → IsInForm after → HasCause (decimal lane ∷ after) cause → ⊥
-no_parts lane after causes.Lane by f c = c lane after by refl
-no_parts lane after causes.Verb by f c = after_lane lane after causes.Verb f c
-no_parts lane after causes.Fields by f c = after_lane lane after causes.Fields f c
-no_parts lane after (causes.Field k) by f c = after_lane lane after (causes.Field k) f c
+after_lane : (lane : ℕ) (after : List (List ℕ)) (cause : LineCause) → HasNoPoolCause after cause → IsAfterLane (decimal lane ∷ after) cause → ⊥
+after_lane lane after cause none c = none (subst (λ (l : List (List ℕ)). HasPoolCause l cause) (sym (ap (drop 1) c.1.1.1)) c.1.1.2)
 
-pub asks_nothing : (line : List ℕ) (cause : LineCause) → HasCause (fields line) cause → (lane : ℕ) (a : Act) → IsLine line lane a → ⊥
-asks_nothing line cause c lane a l =
-    let parts : fields line ≡ line_fields lane a = ap fields l.spelled ∙ cut_fields join_law visible_law lane a l.by l.valid in
-    no_parts lane (act_fields a) cause l.by (in_form a l.valid) (subst (λ (ps : List (List ℕ)). HasCause ps cause) parts c)
+no_parts : (lane : ℕ) (after : List (List ℕ)) (cause : LineCause) → IsLane lane → HasNoPoolCause after cause → HasCause (decimal lane ∷ after) cause → ⊥
+no_parts lane after causes.Lane by none c = c lane after by refl
+no_parts lane after causes.Pool by none c = after_lane lane after causes.Pool none c
+no_parts lane after causes.Verb by none c = after_lane lane after causes.Verb none c
+no_parts lane after causes.Fields by none c = after_lane lane after causes.Fields none c
+no_parts lane after (causes.Field k) by none c = after_lane lane after (causes.Field k) none c
+
+pub asks_nothing : (line : List ℕ) (cause : LineCause) → HasCause (fields line) cause → (lane : ℕ) (pool : List ℕ) (a : Act) → IsLine line lane pool a → ⊥
+asks_nothing line cause c lane pool a l =
+    let parts : fields line ≡ line_fields lane pool a = ap fields l.spelled ∙ cut_fields join_law visible_law lane pool a l.by l.named l.valid in
+    no_parts lane (pool_fields pool ++ act_fields a) cause l.by (no_pool pool (act_fields a) cause l.named (in_form a l.valid))
+    (subst (λ (ps : List (List ℕ)). HasCause ps cause) parts c)
 
 -- ---- the cause is in the fields after a lane
 
-no_lane_after : (after : List (List ℕ)) → HasVerbCause after causes.Lane → ⊥
-no_lane_after after h = h.1.1.1
+no_lane_after : (after : List (List ℕ)) → HasPoolCause after causes.Lane → ⊥
+no_lane_after after (inl h) = h.1.1.1.1
+no_lane_after after (inr h) = h.1.1.2.1.1.1
 
 -- a lane and the cause of the fields after it
-pub lane_cause : (parts : List (List ℕ)) (lane : ℕ) (after : List (List ℕ)) (cause : LineCause) → IsLane lane → parts ≡ decimal lane ∷ after → HasVerbCause after cause → HasCause parts cause
+pub lane_cause : (parts : List (List ℕ)) (lane : ℕ) (after : List (List ℕ)) (cause : LineCause) → IsLane lane → parts ≡ decimal lane ∷ after → HasPoolCause after cause → HasCause parts cause
 lane_cause parts lane after causes.Lane by e h = absurd (no_lane_after after h)
+lane_cause parts lane after causes.Pool by e h = (lane, (after, (by, e, h)))
 lane_cause parts lane after causes.Verb by e h = (lane, (after, (by, e, h)))
 lane_cause parts lane after causes.Fields by e h = (lane, (after, (by, e, h)))
 lane_cause parts lane after (causes.Field k) by e h = (lane, (after, (by, e, h)))
+
+-- ---- the cause is in the fields after a pool, or after a lane alone
+
+pub other_cause : (after : List (List ℕ)) (pool : List ℕ) (others : List (List ℕ)) (cause : LineCause) → IsOtherPool pool → BeginsAt after pool others → HasVerbCause others cause → HasPoolCause after cause
+other_cause after pool others causes.Lane other e h = absurd h.1.1.1
+other_cause after pool others causes.Pool other e h = absurd h.1.1.1
+other_cause after pool others causes.Verb other e h = inr (pool, (others, (other, e, h)))
+other_cause after pool others causes.Fields other e h = inr (pool, (others, (other, e, h)))
+other_cause after pool others (causes.Field k) other e h = inr (pool, (others, (other, e, h)))
+
+pub main_cause : (after : List (List ℕ)) (cause : LineCause) → BeginsElsewhere after → HasVerbCause after cause → HasPoolCause after cause
+main_cause after causes.Lane none h = absurd h.1.1.1
+main_cause after causes.Pool none h = absurd h.1.1.1
+main_cause after causes.Verb none h = inl (none, h)
+main_cause after causes.Fields none h = inl (none, h)
+main_cause after (causes.Field k) none h = inl (none, h)

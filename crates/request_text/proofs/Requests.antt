@@ -24,7 +24,7 @@ begins input = record { before = []; cut = refl; number_is = refl; spelled = (re
 
 -- one more request of the last batch
 one_more : (number place : ℕ) (before : List (List ℕ)) (ended : List (List Request)) (batch : List Request) (line : List ℕ) (request : Request) → AreBatches number before (ended ++ batch ∷ []) → place ≡ number + length before
-    → request.line ≡ place → IsLine line request.lane request.act → AreBatches number (before ++ line ∷ []) (ended ++ (batch ++ request ∷ []) ∷ [])
+    → request.line ≡ place → IsLine line request.lane request.pool request.act → AreBatches number (before ++ line ∷ []) (ended ++ (batch ++ request ∷ []) ∷ [])
 one_more number place [] [] [] line request h p n l = (n ∙ omega (arith, p), l, (refl, refl))
 one_more number place [] [] (r ∷ batch) line request h p n l = absurd (let e = h.0 in cc)
 one_more number place [] ([] ∷ []) batch line request h p n l = absurd (let e = h.1 in cc)
@@ -55,7 +55,7 @@ goes_on input rest line after number batches more so_far cut step = record {
 
 -- a request is added to the last batch
 pub adds : (input rest line after : List ℕ) (number : ℕ) (ended ended' : List (List Request)) (batch batch' : List Request) (request : Request) → ReadUpTo input rest number (ended ++ batch ∷ []) → lines rest ≡ line ∷ lines after
-    → request.line ≡ number → IsLine line request.lane request.act → ended' ≡ ended → batch' ≡ batch ++ request ∷ [] → ReadUpTo input after (number + 1) (ended' ++ batch' ∷ [])
+    → request.line ≡ number → IsLine line request.lane request.pool request.act → ended' ≡ ended → batch' ≡ batch ++ request ∷ [] → ReadUpTo input after (number + 1) (ended' ++ batch' ∷ [])
 adds input rest line after number ended ended' batch batch' request so_far cut numbered spelled same more =
     let now : ended ++ (batch ++ request ∷ []) ∷ [] ≡ ended' ++ batch' ∷ [] = ap₂ (λ (bs : List (List Request)) (b : List Request). bs ++ b ∷ []) (sym same) (sym more) in
     subst (ReadUpTo input after (number + 1)) now
@@ -95,7 +95,7 @@ breaks input rest line after number cause batches so_far cut bad = record {
 none_with : (number : ℕ) (before : List (List ℕ)) (line : List ℕ) (after : List (List ℕ)) (cause : LineCause) (all : List (List Request)) → IsBadLine line cause → AreBatches number (before ++ line ∷ after) all → ⊥
 none_with number before line after cause [] bad h = h
 none_with number [] line after cause ([] ∷ batches) bad h = bad.no_fence h.0
-none_with number [] line after cause ((request ∷ requests) ∷ batches) bad h = asks_nothing line cause bad.why request.lane request.act h.1
+none_with number [] line after cause ((request ∷ requests) ∷ batches) bad h = asks_nothing line cause bad.why request.lane request.pool request.act h.1
 none_with number (b ∷ before) line after cause ([] ∷ batches) bad h = none_with (number + 1) before line after cause batches bad h.1
 none_with number (b ∷ before) line after cause ((request ∷ requests) ∷ batches) bad h = none_with (number + 1) before line after cause (requests ∷ batches) bad h.2
 

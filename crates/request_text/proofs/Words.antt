@@ -1,5 +1,5 @@
 -- A line and its fields.
-use Rattle.std.proofs.Common.{◌≡◌, ℕ, ◌<◌, ◌≤◌, ◌+◌, ◌/◌, ◌%◌, ◌^◌, true, List, [], ◌∷◌, ◌++◌, refl, sym, ap, ◌∙◌, subst, arith, decimal}
+use Rattle.std.proofs.Common.{◌≡◌, ℕ, ◌<◌, ◌≤◌, ◌+◌, ◌/◌, ◌%◌, ◌^◌, Bool, true, false, if◌then◌else◌, List, [], ◌∷◌, ◌++◌, refl, sym, ap, ◌∙◌, subst, arith, decimal}
 use Rattle.std.specs.Prelude.{◌&&◌, nat_le, codes, Result, Ok, Err, IfOk, IfErr}
 use Rattle.std.specs.List.{AllByRecursion}
 use Rattle.std.proofs.lemmas.Bool.{leb-true, and_parts}
@@ -15,10 +15,12 @@ use Rattle.text_lines.proofs.Spaces.{no_space_of}
 use Rattle.text_lines.proofs.Visible.{known, join, two}
 use Rattle.claim_history.specs.declared.act.Act.{Act}
 use Rattle.claim_history.specs.declared.act.Act.TheVariants as act
+use Rattle.claim_history.specs.Pools.{is_main}
 use Rattle.claim_history.specs.Days.{day_text, date_of, two_digits}
 use Rattle.claim_history.specs.Acts.{is_request, is_key, is_amount, is_claim_amount, is_day, act_fields}
 use Rattle.request_text.specs.declared.error.LineCause.{LineCause}
 use Rattle.request_text.specs.Lanes.{IsLane}
+use Rattle.request_text.specs.Pools.{pool_field, pool_fields}
 use Rattle.request_text.specs.Causes.{HasCause, HasForm, some_cents}
 use Rattle.request_text.specs.Grammar.{AreFields, IsLine, line_fields}
 
@@ -107,6 +109,14 @@ fields_visible law (act.Close kind horizon) h = (known (codes "CLOSE") refl, (ki
 fields_visible law (act.Abandon) h = (known (codes "ABANDON") refl, tt)
 fields_visible law (act.Publish round outcome) h = absurd cc
 
+-- so are those of a pool and an act
+pooled : (b : Bool) (pool : List ℕ) (fs : List (List ℕ)) → IsVisible (pool_field pool) → AllByRecursion IsVisible fs → AllByRecursion IsVisible ((if b then [] else pool_field pool ∷ []) ++ fs)
+pooled true pool fs own h = h
+pooled false pool fs own h = (own, h)
+
+pub all_visible : VisibleLaw → (pool : List ℕ) (a : Act) → is_name pool ≡ true → is_request a ≡ true → AllByRecursion IsVisible (pool_fields pool ++ act_fields a)
+all_visible law pool a named valid = pooled (is_main pool) pool (act_fields a) (join (codes "@") pool (known (codes "@") refl) (law.names pool named)) (fields_visible law a valid)
+
 no_spaces : (fs : List (List ℕ)) → AllByRecursion IsVisible fs → AllByRecursion HasNoSpace fs
 no_spaces [] h = tt
 no_spaces (f ∷ fs) h = (no_space_of f h.0, no_spaces fs h.1)
@@ -136,18 +146,25 @@ pub no_lane : (field : List ℕ) (number : ℕ) → number < 2 ^ 64 → field �
 no_lane field number small is wrong lane h e = wrong (subst IsLane (sym (one_lane number lane h small (sym is ∙ e))) h)
 
 -- the fields of a line are cut out of it again
-pub cut_fields : JoinLaw → VisibleLaw → (lane : ℕ) (a : Act) → IsLane lane → is_request a ≡ true → fields (line_of (line_fields lane a)) ≡ line_fields lane a
-cut_fields law visible lane a by valid = law.cut (decimal lane) (act_fields a) (no_space_of (decimal lane) (visible.whole lane (omega (arith, by.1)))) (no_spaces (act_fields a) (fields_visible visible a valid))
+pub cut_fields : JoinLaw → VisibleLaw → (lane : ℕ) (pool : List ℕ) (a : Act) → IsLane lane → is_name pool ≡ true → is_request a ≡ true
+    → fields (line_of (line_fields lane pool a)) ≡ line_fields lane pool a
+cut_fields law visible lane pool a by named valid =
+    law.cut (decimal lane) (pool_fields pool ++ act_fields a) (no_space_of (decimal lane) (visible.whole lane (omega (arith, by.1))))
+    (no_spaces (pool_fields pool ++ act_fields a) (all_visible visible pool a named valid))
 
 -- a line is read by its fields
 
-is_line : JoinLaw → (line : List ℕ) (lane : ℕ) (a : Act) → AreFields (fields line) lane a → IsLine line lane a
-is_line law line lane a h = record { by = h.by; valid = h.valid; spelled = sym (law.joined line) ∙ ap line_of h.spelled }
+is_line : JoinLaw → (line : List ℕ) (lane : ℕ) (pool : List ℕ) (a : Act) → AreFields (fields line) lane pool a → IsLine line lane pool a
+is_line law line lane pool a h = record { by = h.by; named = h.named; valid = h.valid; spelled = sym (law.joined line) ∙ ap line_of h.spelled }
 
-pub found_line : JoinLaw → (line : List ℕ) (parts : List (List ℕ)) (r : Result (ℕ × Act) LineCause) → parts ≡ fields line → IfOk r (λ (x : ℕ × Act). AreFields parts x.0 x.1) → IfOk r (λ (x : ℕ × Act). IsLine line x.0 x.1)
-found_line law line parts (Ok x) e h = is_line law line x.0 x.1 (record { by = h.by; valid = h.valid; spelled = sym e ∙ h.spelled })
+abbrev Found : Type 0
+Found = ℕ × List ℕ × Act
+
+pub found_line : JoinLaw → (line : List ℕ) (parts : List (List ℕ)) (r : Result Found LineCause) → parts ≡ fields line → IfOk r (λ (x : Found). AreFields parts x.0 x.1 x.2)
+    → IfOk r (λ (x : Found). IsLine line x.0 x.1 x.2)
+found_line law line parts (Ok x) e h = is_line law line x.0 x.1 x.2 (record { by = h.by; named = h.named; valid = h.valid; spelled = sym e ∙ h.spelled })
 found_line law line parts (Err cause) e h = tt
 
-pub bad_line : (line : List ℕ) (parts : List (List ℕ)) (r : Result (ℕ × Act) LineCause) → parts ≡ fields line → IfErr r (HasCause parts) → IfErr r (HasCause (fields line))
+pub bad_line : (line : List ℕ) (parts : List (List ℕ)) (r : Result Found LineCause) → parts ≡ fields line → IfErr r (HasCause parts) → IfErr r (HasCause (fields line))
 bad_line line parts (Ok x) e h = tt
 bad_line line parts (Err cause) e h = subst (λ (ps : List (List ℕ)). HasCause ps cause) e h

@@ -1,5 +1,5 @@
 -- What is wrong with a line: the first of the causes that applies.
-use Rattle.std.specs.Prelude.{◌≡◌, ℕ, zero, suc, true, List, [], ◌∷◌, length, codes, decimal}
+use Rattle.std.specs.Prelude.{◌≡◌, ◌⊎◌, ℕ, zero, suc, true, List, [], ◌∷◌, length, codes, decimal}
 use Rattle.setoff_model.specs.Names.{is_name}
 use Rattle.setoff_model.specs.Texts.{cents_text, kind_text}
 use Rattle.setoff_model.specs.declared.kind.Kind.{Kind}
@@ -11,6 +11,7 @@ use Rattle.request_text.specs.declared.error.LineCause.TheVariants as causes
 use Rattle.request_text.specs.declared.verb.Verb.{Verb}
 use Rattle.request_text.specs.declared.verb.Verb.TheVariants as verbs
 use Rattle.request_text.specs.Lanes.{IsLane, fence}
+use Rattle.request_text.specs.Pools.{IsOtherPool, pool_field}
 
 -- what a field after a verb is: a name, an amount from 0.01 on, an amount from 0.00 on, a kind, or a date
 pub data Form : Type 0 where
@@ -73,16 +74,31 @@ HasArgsCause forms args causes.Fields = length args ≡ length forms → ⊥
 HasArgsCause forms args (causes.Field k) = (length args ≡ length forms) × IsFirstBadField forms args k
 HasArgsCause forms args _ = ⊥
 
--- after the lane there is no field, or none that is a verb; or there is one, and the cause is in the fields after it
+-- there is no field, or the first is no verb; or it is one, and the cause is in the fields after it
 abbrev pub HasVerbCause : List (List ℕ) → LineCause → Type 0
 HasVerbCause after causes.Verb = (verb : Verb) (args : List (List ℕ)) → after ≡ verb_text verb ∷ args → ⊥
 HasVerbCause after cause = (verb : Verb) × ((args : List (List ℕ))
     × ((after ≡ verb_text verb ∷ args) × HasArgsCause (forms_of verb) args cause))
 
+-- the first of the fields is `@` and these bytes, and the others stand after it
+abbrev pub BeginsAt : List (List ℕ) → List ℕ → List (List ℕ) → Type 0
+BeginsAt after name others = after ≡ pool_field name ∷ others
+
+-- the first of the fields does not begin with `@`
+abbrev pub BeginsElsewhere : List (List ℕ) → Type 0
+BeginsElsewhere after = (name : List ℕ) (others : List (List ℕ)) → BeginsAt after name others → ⊥
+
+-- the first field after the lane begins with `@`, and what is behind it is no pool other than MAIN; or it is one, and the cause is in
+-- the fields after it; or it does not begin so, and the cause is in the fields after the lane
+abbrev pub HasPoolCause : List (List ℕ) → LineCause → Type 0
+HasPoolCause after causes.Pool = (name : List ℕ) × ((others : List (List ℕ)) × (BeginsAt after name others × (IsOtherPool name → ⊥)))
+HasPoolCause after cause = (BeginsElsewhere after × HasVerbCause after cause)
+    ⊎ ((pool : List ℕ) × ((others : List (List ℕ)) × (IsOtherPool pool × BeginsAt after pool others × HasVerbCause others cause)))
+
 -- the first field is no lane; or it is one, and the cause is in the fields after it
 abbrev pub HasCause : List (List ℕ) → LineCause → Type 0
 HasCause parts causes.Lane = (lane : ℕ) (after : List (List ℕ)) → IsLane lane → parts ≡ decimal lane ∷ after → ⊥
-HasCause parts cause = (lane : ℕ) × ((after : List (List ℕ)) × (IsLane lane × (parts ≡ decimal lane ∷ after) × HasVerbCause after cause))
+HasCause parts cause = (lane : ℕ) × ((after : List (List ℕ)) × (IsLane lane × (parts ≡ decimal lane ∷ after) × HasPoolCause after cause))
 
 -- the line is no fence, and this is the first cause that applies
 pub record IsBadLine (line : List ℕ) (cause : LineCause) : Type 0 where

@@ -1,4 +1,5 @@
 pub mod Lanes
+pub mod Pools
 pub mod Causes
 pub mod Grammar
 pub mod Batches

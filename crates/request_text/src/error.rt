@@ -10,7 +10,10 @@ pub enum LineCause {
     /// The first field is no lane.
     #[error("lane")]
     Lane,
-    /// There is no second field, or it is no verb.
+    /// The second field begins with `@`, and what is behind it is no name of a pool, or is MAIN.
+    #[error("pool")]
+    Pool,
+    /// There is no second field, or it is no verb. Where it is a pool, the same of the third.
     #[error("verb")]
     Verb,
     /// The number of fields after the verb is not the verb's.

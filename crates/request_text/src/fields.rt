@@ -1,18 +1,19 @@
 //! What a line's fields ask of a lane.
-ghost use Rattle.std.specs.Prelude.{◌≡◌, ℕ, decimal, ◌∷◌, [], codes, map, true, IfOk, IfErr, IfSome, IfNone};
+ghost use Rattle.std.specs.Prelude.{◌≡◌, ℕ, decimal, List, ◌∷◌, [], codes, map, true, IfOk, IfErr, IfSome, IfNone};
 ghost use Rattle.setoff_model.specs.Names.{is_name};
 ghost use Rattle.setoff_model.specs.Texts.{cents_text, kind_text};
 ghost use Rattle.text_lines.specs.Fields.{fields};
 ghost use Rattle.claim_history.specs.Days.{day_text};
 ghost use Rattle.claim_history.specs.Acts.{is_key, is_amount, is_claim_amount, is_day};
 ghost use Rattle.request_text.specs.Lanes.{IsLane};
-ghost use Rattle.request_text.specs.Grammar.{AreActFields, AreArgs, AreFields, IsLine};
-ghost use Rattle.request_text.specs.Causes.{HasArgsCause, HasCause, HasForm, HasVerbCause, forms_of, verb_text, any_cents, named, of_kind, on_day, some_cents};
+ghost use Rattle.request_text.specs.Pools.{IsOtherPool, pool_field};
+ghost use Rattle.request_text.specs.Grammar.{AreActFields, AreArgs, AreFields, ArePoolFields, IsLine};
+ghost use Rattle.request_text.specs.Causes.{HasArgsCause, HasCause, HasForm, HasPoolCause, HasVerbCause, forms_of, verb_text, any_cents, named, of_kind, on_day, some_cents};
 ghost use Rattle.request_text.specs.declared.verb.Verb.TheVariants as verbs;
 
 use crate::error::LineCause;
 use crate::verb::{Verb, verb_of};
-use claim_history::{Act, Day};
+use claim_history::{Act, Day, is_main, main_pool_name};
 use setoff_model::limits::MOST_LANES;
 use setoff_model::{Key, Kind, Name, read_amount, read_claim_amount, read_kind, read_number};
 use std::alloc::{AllocError, Global};
@@ -329,7 +330,7 @@ fn act_of(verb: Verb, args: &[&[u8]]) -> Result<Act, LineCause>
     }
 }
 
-// The act of the fields after a lane.
+// The act of the fields after a lane and a pool.
 fn act_after(after: &[&[u8]]) -> Result<Act, LineCause>
     ensures found { IfOk result (λ act. AreActFields (map (λ f. f.now) after.now) act) }
     ensures bad { IfErr result (HasVerbCause (map (λ f. f.now) after.now)) }
@@ -341,6 +342,57 @@ fn act_after(after: &[&[u8]]) -> Result<Act, LineCause>
         return Err(LineCause::Verb);
     };
     act_of(verb, args)
+}
+
+// What is behind the `@` that a field begins with.
+fn after_sign(field: &[u8]) -> Option<&[u8]>
+    ensures found { IfSome result (λ name. field.now ≡ pool_field name.now) }
+    ensures none { IfNone result ((name : List ℕ) → field.now ≡ pool_field name → ⊥) }
+{
+    match field {
+        [b'@', name @ ..] => Some(name),
+        _ => None,
+    }
+}
+
+// The pool other than MAIN that has this name.
+fn other_pool(name: &[u8]) -> Option<Name>
+    ensures found { IfSome result (λ pool. (pool ≡ name.now) × IsOtherPool pool) }
+    ensures none { IfNone result (IsOtherPool name.now → ⊥) }
+{
+    match Name::of(name) {
+        Some(pool) if !is_main(&pool) => Some(pool),
+        _ => None,
+    }
+}
+
+// The pool and the act of the fields after a lane.
+fn pool_and_act(after: &[&[u8]]) -> Result<(Name, Act), LineCause>
+    ensures found { IfOk result (λ asked. ArePoolFields (map (λ f. f.now) after.now) asked.0 asked.1) }
+    ensures bad { IfErr result (HasPoolCause (map (λ f. f.now) after.now)) }
+{
+    let [first, others @ ..] = after else {
+        return Err(LineCause::Verb);
+    };
+    if let Some(name) = after_sign(first) {
+        return in_other(name, others);
+    }
+    let act = act_after(after)?;
+    Ok((main_pool_name(), act))
+}
+
+// The pool that is named behind an `@`, and the act of the fields after it.
+fn in_other(name: &[u8], others: &[&[u8]]) -> Result<(Name, Act), LineCause>
+    ensures found { IfOk result (λ asked. ArePoolFields (pool_field name.now ∷ map (λ f. f.now) others.now) asked.0 asked.1) }
+    ensures bad { IfErr result (HasPoolCause (pool_field name.now ∷ map (λ f. f.now) others.now)) }
+{
+    let Some(pool) = other_pool(name) else {
+        return Err(LineCause::Pool);
+    };
+    match act_after(others) {
+        Ok(act) => Ok((pool, act)),
+        Err(cause) => Err(cause),
+    }
 }
 
 // The lane that a field is.
@@ -355,8 +407,8 @@ fn lane_at(field: &[u8]) -> Option<u32>
 }
 
 // What the fields of a line ask of a lane.
-fn asked_of(fields: &[&[u8]]) -> Result<(u32, Act), LineCause>
-    ensures found { IfOk result (λ asked. AreFields (map (λ f. f.now) fields.now) asked.0 asked.1) }
+fn asked_of(fields: &[&[u8]]) -> Result<(u32, Name, Act), LineCause>
+    ensures found { IfOk result (λ asked. AreFields (map (λ f. f.now) fields.now) asked.0 asked.1 asked.2) }
     ensures bad { IfErr result (HasCause (map (λ f. f.now) fields.now)) }
 {
     let [lane, after @ ..] = fields else {
@@ -366,25 +418,25 @@ fn asked_of(fields: &[&[u8]]) -> Result<(u32, Act), LineCause>
 }
 
 // What a field and the fields after it ask of the lane that it is.
-fn asked_after(lane: &[u8], after: &[&[u8]]) -> Result<(u32, Act), LineCause>
-    ensures found { IfOk result (λ asked. AreFields (lane.now ∷ map (λ f. f.now) after.now) asked.0 asked.1) }
+fn asked_after(lane: &[u8], after: &[&[u8]]) -> Result<(u32, Name, Act), LineCause>
+    ensures found { IfOk result (λ asked. AreFields (lane.now ∷ map (λ f. f.now) after.now) asked.0 asked.1 asked.2) }
     ensures bad { IfErr result (HasCause (lane.now ∷ map (λ f. f.now) after.now)) }
 {
     let Some(lane) = lane_at(lane) else {
         return Err(LineCause::Lane);
     };
-    match act_after(after) {
-        Ok(act) => Ok((lane, act)),
+    match pool_and_act(after) {
+        Ok((pool, act)) => Ok((lane, pool, act)),
         Err(cause) => Err(cause),
     }
 }
 
-/// What a line asks of a lane, or what is wrong with a line that is no fence.
+/// What a line asks of a lane and in which pool, or what is wrong with a line that is no fence.
 pub(crate) fn read_line(
     alloc: Global,
     line: &[u8],
-) -> Result<Result<(u32, Act), LineCause>, AllocError>
-    ensures found { IfOk result (λ read. IfOk read (λ asked. IsLine line.now asked.0 asked.1)) }
+) -> Result<Result<(u32, Name, Act), LineCause>, AllocError>
+    ensures found { IfOk result (λ read. IfOk read (λ asked. IsLine line.now asked.0 asked.1 asked.2)) }
     ensures bad { IfOk result (λ read. IfErr read (HasCause (fields line.now))) }
 {
     joined_fields_are_cut_again();

@@ -1,8 +1,9 @@
 //! Requests as text.
 //!
-//! A line is `FENCE`, which ends a batch, or a request: a lane from 1 to `MOST_LANES`, a verb and its fields, with
-//! single spaces between them. It ends at a line feed, or at a carriage return and a line feed; the last line may end
-//! with the input. A batch may be empty, and an input with no fence is one.
+//! A line is `FENCE`, which ends a batch, or a request: a lane from 1 to `MOST_LANES`, a pool, a verb and its fields,
+//! with single spaces between them. A pool is `@` and its name; MAIN is never named, and is the pool of each line that
+//! names none. A line ends at a line feed, or at a carriage return and a line feed; the last line may end with the input.
+//! A batch may be empty, and an input with no fence is one.
 //!
 //! - A text has one reading, or is refused with the number of its first bad line and the first cause in the order of
 //!   `LineCause` that applies to it.
@@ -21,7 +22,7 @@ mod writing;
 pub use error::{LineCause, RequestError};
 pub use reading::read_requests;
 pub use request::{Batch, Request};
-pub use writing::write_request;
+pub use writing::{write_pool, write_request};
 
 /// What is written of batches is read back as these batches, and as no others. A law, which does nothing when it is
 /// called.

@@ -21,13 +21,14 @@ fn is_fence(line: &[u8]) -> bool
 // The request of the line with a number.
 fn request_of(alloc: Global, number: u64, line: &[u8]) -> Result<Request, RequestError>
     ensures numbered { IfOk result (λ request. request.line ≡ number) }
-    ensures found { IfOk result (λ request. IsLine line.now request.lane request.act) }
+    ensures found { IfOk result (λ request. IsLine line.now request.lane request.pool request.act) }
     ensures bad { IfErr result (OnBadLine (λ n cause. (n ≡ number) × HasCause (fields line.now) cause)) }
 {
     match read_line(alloc, line)? {
-        Ok((lane, act)) => Ok(Request {
+        Ok((lane, pool, act)) => Ok(Request {
             line: number,
             lane,
+            pool,
             act,
         }),
         Err(cause) => Err(RequestError::BadLine {
@@ -37,8 +38,8 @@ fn request_of(alloc: Global, number: u64, line: &[u8]) -> Result<Request, Reques
     }
 }
 
-/// The batches of requests that the input spells: lines `lane VERB fields`, and lines `FENCE`, each of which ends a
-/// batch. An input with k fences has k + 1 batches, which may be empty. The lines are numbered from 1, fences too.
+/// The batches of requests that the input spells: lines `lane VERB fields`, with `@POOL` behind the lane where the pool
+/// is not MAIN, and lines `FENCE`, each of which ends a batch. An input with k fences has k + 1 batches, which may be empty. The lines are numbered from 1, fences too.
 ///
 /// `BadLine` comes exactly where some line is not in the grammar, with the first such line and the first cause that
 /// applies to it.

@@ -2,6 +2,7 @@
 ghost use Rattle.std.specs.Prelude.{◌≡◌};
 
 use claim_history::Act;
+use setoff_model::Name;
 use std::marker::Model;
 
 /// One line that asks something of a lane.
@@ -11,6 +12,8 @@ pub struct Request {
     pub line: u64,
     /// The lane, from 1 to `MOST_LANES`.
     pub lane: u32,
+    /// Whose firms, claims, accounts and rounds the act speaks of: MAIN where the line names none.
+    pub pool: Name,
     /// What is asked of the lane.
     pub act: Act,
 }
@@ -43,8 +46,8 @@ impl Batch {
         Batch { requests }
     }
 
-    /// The requests, by rising line numbers. Each lane is from 1 to `MOST_LANES`, and each act is valid and no
-    /// publication.
+    /// The requests, by rising line numbers. Each lane is from 1 to `MOST_LANES`, each pool has a name, and each act
+    /// is valid and no publication.
     pub fn requests(&self) -> &[Request]
         ensures requests { result.now ≡ self.now }
         ensures in_order { AreInOrder self.now }

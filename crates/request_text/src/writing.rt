@@ -4,22 +4,39 @@ ghost use Rattle.setoff_model.specs.declared.limits.TheConstants.{LINE_BYTES};
 ghost use Rattle.claim_history.specs.Acts.{is_request};
 ghost use Rattle.request_text.specs.Grammar.{request_line};
 ghost use Rattle.request_text.specs.Lanes.{IsLane};
+ghost use Rattle.request_text.specs.Pools.{pool_text};
 
-use claim_history::{Act, write_act};
-use setoff_model::{put, write_whole};
+use claim_history::{Act, is_main, write_act};
+use setoff_model::{Name, put, write_whole};
 
-/// Writes the line `lane VERB fields` of what is asked of a lane with its line feed: at most `LINE_BYTES`, into a buffer
-/// that has room. It takes no memory.
-pub fn write_request(buffer: &mut Vec<u8>, lane: u32, act: &Act)
+/// Writes the field `@POOL` with a space behind it, at most 18 bytes, or nothing where the pool is MAIN, into a buffer that has
+/// room. It takes no memory.
+pub fn write_pool(buffer: &mut Vec<u8>, pool: &Name)
+    requires spare { vec_len buffer.old + 18 ≤ vec_capacity buffer.old }
+    ensures text { buffer.new.items ≡ buffer.old.items ++ pool_text pool.now }
+    ensures len { vec_len buffer.new ≤ vec_len buffer.old + 18 }
+    ensures room { vec_capacity buffer.old ≤ vec_capacity buffer.new }
+{
+    if !is_main(pool) {
+        put(buffer, b"@");
+        put(buffer, pool.bytes());
+        put(buffer, b" ");
+    }
+}
+
+/// Writes the line `lane @POOL VERB fields` of what is asked of a lane with its line feed, without `@POOL` where the pool is
+/// MAIN: at most `LINE_BYTES`, into a buffer that has room. It takes no memory.
+pub fn write_request(buffer: &mut Vec<u8>, lane: u32, pool: &Name, act: &Act)
     requires lane { IsLane lane }
     requires valid { is_request act.now ≡ true }
     requires spare { vec_len buffer.old + LINE_BYTES ≤ vec_capacity buffer.old }
-    ensures text { buffer.new.items ≡ buffer.old.items ++ request_line lane act.now }
+    ensures text { buffer.new.items ≡ buffer.old.items ++ request_line lane pool.now act.now }
     ensures len { vec_len buffer.new ≤ vec_len buffer.old + LINE_BYTES }
     ensures room { vec_capacity buffer.old ≤ vec_capacity buffer.new }
 {
     write_whole(buffer, u64::from(lane));
     put(buffer, b" ");
+    write_pool(buffer, pool);
     write_act(buffer, act);
     put(buffer, b"\n");
 }

@@ -6,9 +6,10 @@ use Rattle.fault_count.proofs.Rising.{risen_within}
 use Rattle.disk_model.specs.Calls.{Seen, IsPresent, Passes, Only, Torn, After}
 use Rattle.disk_model.specs.Calls.{Holds as Written}
 use Rattle.disk_model.proofs.Moments.{passes_wide, present_has}
-use Rattle.round_journal.specs.Bytes.{header, front, EndsClosed, StandsFor, StandsForNone, HoldsBodies}
+use Rattle.round_journal.specs.Bytes.{Header, header_bytes, front, gate_behind, EndsClosed, StandsFor, StandsForNone, HoldsBodies}
+use Rattle.round_journal.specs.Bytes.Header.{second}
 use Rattle.round_journal.specs.Kept.{IsKeptAt}
-use Rattle.round_journal.specs.Opened.{AreFound, HoldsAs, Turns, HasTurned, IsSynced}
+use Rattle.round_journal.specs.Opened.{AreFound, HoldsAs, IsHeaderOf, Turns, HasTurned, IsSynced}
 use Rattle.round_journal.specs.Reading.{IsReading}
 use Rattle.round_journal.specs.Reading.Reading.{bodies_are, no_header, short_at, bad_at}
 use Rattle.round_journal.specs.Records.{HasRecords, IsBody, bodies_of}
@@ -17,10 +18,11 @@ use Rattle.round_journal.specs.declared.cause.RecordWhy.TheVariants.{Short, Body
 use Rattle.round_journal.specs.declared.record.Record.{Record}
 use Rattle.round_journal.specs.declared.stop.Stop.{Stop}
 use Rattle.round_journal.specs.declared.stop.Stop.TheVariants.{Memory, Failed, BadHeader, BadRecord}
-use Rattle.round_journal.proofs.Short.{holds_short, held_short}
+use Rattle.round_journal.proofs.Unique.{header_of}
+use Rattle.round_journal.proofs.Short.{holds_short, held_short, place_of}
 
 abbrev empty_journal : List ℕ
-empty_journal = header ++ 0 ∷ []
+empty_journal = header_bytes second ++ 0 ∷ []
 
 -- a sync that succeeded, and what comes after it
 pub turns : (a b d : Seen) (Q : List ℕ → Type 0) → Passes a b (IsPresent a) → Only a.reads (IsPresent b) → Q a.reads → Passes b d Q → Turns a b.moment d (IsPresent a) Q
@@ -76,7 +78,7 @@ made_as a b bytes short goes =
 created_is : (old new : List ℕ) → length old ≤ 9 → Written old 0 empty_journal new → new ≡ empty_journal
 created_is old new short holds = holds ∙ ap (λ (l : List ℕ). empty_journal ++ l) (drop_all 9 old (omega (arith, short)))
 
-pub created : (a b : Seen) → IsTrue b.tells → length a.reads ≤ 9 → Written a.reads 0 empty_journal b.reads → Only b.reads (IsPresent b) → IsKeptAt b 8 false [] None
+pub created : (a b : Seen) → IsTrue b.tells → length a.reads ≤ 9 → Written a.reads 0 empty_journal b.reads → Only b.reads (IsPresent b) → IsKeptAt b 8 false second [] None
 created a b told short holds only = record {
   tells = told;
   short = λ k d lt. absurd (omega (arith, lt));
@@ -87,15 +89,19 @@ created a b told short holds only = record {
 }
 
 -- a disk that is synced and stands for bodies is kept as it is
-pub found_kept : (disk : Seen) (bytes : List ℕ) (bodies : List (List ℕ)) (gate : ℕ) → IsSynced disk bytes → StandsFor bytes bodies → gate ≡ length (front bodies) → IsKeptAt disk gate false bodies None
-found_kept disk bytes bodies gate synced stands place = record {
-  tells = synced.tells;
-  short = stands.short;
-  fits = tt;
-  place = place;
-  flag = refl;
-  images = λ c now. subst (λ (f : List ℕ). EndsClosed (front bodies) f) (sym (synced.only c now)) stands.ends;
-}
+pub found_kept : (disk : Seen) (bytes : List ℕ) (bodies : List (List ℕ)) (gate : ℕ) → IsSynced disk bytes → StandsFor bytes bodies → gate ≡ gate_behind bodies → (h : Header) × IsHeaderOf bytes h × IsKeptAt disk gate false h bodies None
+found_kept disk bytes bodies gate synced stands place = (
+  stands.begins,
+  inl (header_of stands.begins bodies bytes (stands.ends.gate ∷ stands.ends.rest) stands.ends.spelled),
+  record {
+    tells = synced.tells;
+    short = stands.short;
+    fits = tt;
+    place = place;
+    flag = refl;
+    images = λ c now. subst (λ (f : List ℕ). EndsClosed (front stands.begins bodies) f) (sym (synced.only c now)) stands.ends;
+  },
+)
 
 -- a turn, the bytes that were read since, and what is made of them
 pub turned_on : (a b d : Seen) (turn : ℕ) (bytes lent : List ℕ) → lent ≡ bytes → HasTurned a turn b → b.reads ≡ a.reads → IsSynced b bytes → (IsSynced b lent → Passes b d (HoldsAs lent)) → HasTurned a turn d
@@ -113,10 +119,10 @@ made_synced a b bytes short goes synced =
     (goes (subst (λ (f : List ℕ). length f ≤ 9) synced.read short) (subst (λ (f : List ℕ). Only f (IsPresent a)) synced.read synced.only))
 
 -- the gate that is next lies within the disk
-pub kept_within : (disk : Seen) (bodies : List (List ℕ)) (gate : ℕ) → IsKeptAt disk gate false bodies None → IsPresent disk disk.reads → gate < length disk.reads
-kept_within disk bodies gate kept now =
-    let ends : EndsClosed (front bodies) disk.reads = kept.images disk.reads now in
-    omega (arith, kept.place, ap length ends.spelled, length-append (front bodies) (ends.gate ∷ ends.rest))
+pub kept_within : (disk : Seen) (h : Header) (bodies : List (List ℕ)) (gate : ℕ) → IsKeptAt disk gate false h bodies None → IsPresent disk disk.reads → gate < length disk.reads
+kept_within disk h bodies gate kept now =
+    let ends : EndsClosed (front h bodies) disk.reads = kept.images disk.reads now in
+    omega (arith, place_of h bodies gate kept.place, ap length ends.spelled, length-append (front h bodies) (ends.gate ∷ ends.rest))
 
 -- the records of bytes that were lent are those of the disk that was read
 pub found_of : {tells : Bool} {file bytes lent : List ℕ} {records : List Record} → lent ≡ bytes → (IsTrue tells → bytes ≡ file) → AreFound true lent records → AreFound tells file records

@@ -3,27 +3,29 @@ use Rattle.std.specs.Prelude.{◌≡◌, ◌+◌, ◌≤◌, ℕ, List, [], ◌�
 use Rattle.fault_count.specs.Counts.{HasRisen}
 use Rattle.claim_history.specs.declared.record_bytes.TheConstants.{RECORD_HEAD}
 use Rattle.disk_model.specs.Calls.{Seen, Passes}
+use Rattle.round_journal.specs.Bytes.{Header}
 use Rattle.round_journal.specs.Kept.{JournalView, IsKept, IsLast, HasFailedIn, HoldsOne}
 use Rattle.round_journal.specs.declared.device.Device.{Device}
 
--- It succeeded. Whatever bodies were kept, they are kept with the new one, and the next gate stands behind its record.
+-- It succeeded. Whatever header and bodies were kept, they are kept with the new one, and the next gate stands behind its record.
 pub record HasAppended {D : Type 0} (seen : D → Seen) (old new : JournalView D) (body : List ℕ) : Type 0 where
-  pub kept : (bodies : List (List ℕ)) (last : Option (List ℕ)) → IsKept seen old bodies last → IsKept seen new (bodies ++ body ∷ []) None
+  pub kept : (h : Header) (bodies : List (List ℕ)) (last : Option (List ℕ)) → IsKept seen old h bodies last
+      → IsKept seen new h (bodies ++ body ∷ []) None
   pub gate : new.gate ≡ old.gate + RECORD_HEAD + length body
 
 -- It failed. Whatever bodies were kept, they are kept, and perhaps a last one behind the gate, which is the same. How it failed
 -- is told, too.
 pub record HasNotAppended {D : Type 0} (seen : D → Seen) (old new : JournalView D) (body : List ℕ) : Type 0 where
-  pub kept : (bodies : List (List ℕ)) (last : Option (List ℕ)) → IsKept seen old bodies last
-      → (after : Option (List ℕ)) × IsLast last body after × IsKept seen new bodies after
-  pub way : (bodies : List (List ℕ)) (last : Option (List ℕ)) → IsKept seen old bodies last
-      → HasFailedIn seen old.disk new.disk new.gate new.unsettled bodies last body
+  pub kept : (h : Header) (bodies : List (List ℕ)) (last : Option (List ℕ)) → IsKept seen old h bodies last
+      → (after : Option (List ℕ)) × IsLast last body after × IsKept seen new h bodies after
+  pub way : (h : Header) (bodies : List (List ℕ)) (last : Option (List ℕ)) → IsKept seen old h bodies last
+      → HasFailedIn seen old.disk new.disk new.gate new.unsettled h bodies last body
   pub gate : new.gate ≡ old.gate
 
 -- Whether it succeeded or failed: each image since its start holds the bodies that were kept, alone or with one more; the disk
 -- tells its bytes as before, and its count of faults has not fallen; and what is known of the opening is as it was.
 pub record HasTried {D : Type 0} (seen : D → Seen) (old new : JournalView D) (body : List ℕ) : Type 0 where
-  pub crash : (bodies : List (List ℕ)) (last : Option (List ℕ)) → IsKept seen old bodies last
+  pub crash : (h : Header) (bodies : List (List ℕ)) (last : Option (List ℕ)) → IsKept seen old h bodies last
       → Passes (seen old.disk) (seen new.disk) (HoldsOne bodies last body)
   pub tells : (seen new.disk).tells ≡ (seen old.disk).tells
   pub counts : (seen old.disk).count ≤ (seen new.disk).count

@@ -1,7 +1,7 @@
 -- What an open journal keeps of its disk.
 use Rattle.std.specs.Prelude.{◌≡◌, ◌⊎◌, ◌<◌, ◌^◌, ℕ, Bool, true, false, List, [], ◌∷◌, ◌++◌, length, Option, Some, None, is_some, IfSome, IsTrue}
 use Rattle.disk_model.specs.Calls.{Seen, IsPresent, Passes}
-use Rattle.round_journal.specs.Bytes.{measured, front, AreShort, StandsFor, EndsClosed}
+use Rattle.round_journal.specs.Bytes.{Header, measured, front, gate_behind, AreShort, StandsFor, EndsClosed}
 
 -- What contracts see of a journal: its disk, the place of the gate for the next record, whether an append that failed may
 -- have begun to open this gate, and the disk as it was when the first sync of the opening had succeeded.
@@ -21,57 +21,58 @@ pub record HasStaged (whole piece bytes : List ℕ) : Type 0 where
 abbrev pub staged : List ℕ → List ℕ
 staged body = measured body ++ 0 ∷ []
 
--- the bodies and a gate that is not open, or the bodies and one more behind some gate
-abbrev pub HasBodies : List (List ℕ) → Option (List ℕ) → List ℕ → Type 0
-HasBodies bodies None bytes = EndsClosed (front bodies) bytes
-HasBodies bodies (Some body) bytes = HasStaged (front bodies) (staged body) bytes
+-- behind this header the bodies and a gate that is not open, or the bodies and one more behind some gate
+abbrev pub HasBodies : Header → List (List ℕ) → Option (List ℕ) → List ℕ → Type 0
+HasBodies h bodies None bytes = EndsClosed (front h bodies) bytes
+HasBodies h bodies (Some body) bytes = HasStaged (front h bodies) (staged body) bytes
 
 -- The disk tells its bytes, and each present image has the bodies. Where a last one was tried and its gate is not settled,
 -- each image has that one behind the gate.
-pub record IsKeptAt (disk : Seen) (gate : ℕ) (unsettled : Bool) (bodies : List (List ℕ)) (last : Option (List ℕ)) : Type 0 where
+pub record IsKeptAt (disk : Seen) (gate : ℕ) (unsettled : Bool) (h : Header) (bodies : List (List ℕ)) (last : Option (List ℕ))
+    : Type 0 where
   pub tells : IsTrue disk.tells
   pub short : AreShort bodies
   pub fits : IfSome last (λ body. length body < 2 ^ 32)
-  pub place : gate ≡ length (front bodies)
+  pub place : gate ≡ gate_behind bodies
   pub flag : unsettled ≡ is_some last
-  pub images : (c : List ℕ) → IsPresent disk c → HasBodies bodies last c
+  pub images : (c : List ℕ) → IsPresent disk c → HasBodies h bodies last c
 
--- a journal keeps these bodies, and perhaps a last one that was tried
-abbrev pub IsKept : {D : Type 0} → (D → Seen) → JournalView D → List (List ℕ) → Option (List ℕ) → Type 0
-IsKept seen journal bodies last = IsKeptAt (seen journal.disk) journal.gate journal.unsettled bodies last
+-- a journal keeps this header and these bodies, and perhaps a last one that was tried
+abbrev pub IsKept : {D : Type 0} → (D → Seen) → JournalView D → Header → List (List ℕ) → Option (List ℕ) → Type 0
+IsKept seen journal h bodies last = IsKeptAt (seen journal.disk) journal.gate journal.unsettled h bodies last
 
 -- the bodies are kept, with this one behind a gate that is not open, in each present image
-pub record IsStaged (disk : Seen) (gate : ℕ) (bodies : List (List ℕ)) (body : List ℕ) : Type 0 where
+pub record IsStaged (disk : Seen) (gate : ℕ) (h : Header) (bodies : List (List ℕ)) (body : List ℕ) : Type 0 where
   pub tells : IsTrue disk.tells
   pub short : AreShort bodies
   pub fits : length body < 2 ^ 32
-  pub place : gate ≡ length (front bodies)
-  pub images : (c : List ℕ) → IsPresent disk c → HasStaged (front bodies) (staged body) c
+  pub place : gate ≡ gate_behind bodies
+  pub images : (c : List ℕ) → IsPresent disk c → HasStaged (front h bodies) (staged body) c
 
 -- An append whose gate was settled failed before it began to open the gate. In each image since, the bodies end with a gate that
 -- is not open, and nothing is left to settle.
-pub record HasFailedShut (old new : Seen) (gate : ℕ) (unsettled : Bool) (bodies : List (List ℕ)) : Type 0 where
+pub record HasFailedShut (old new : Seen) (gate : ℕ) (unsettled : Bool) (h : Header) (bodies : List (List ℕ)) : Type 0 where
   pub settled : unsettled ≡ false
-  pub kept : IsKeptAt new gate unsettled bodies None
-  pub crash : Passes old new (HasBodies bodies None)
+  pub kept : IsKeptAt new gate unsettled h bodies None
+  pub crash : Passes old new (HasBodies h bodies None)
 
 -- It failed once it had begun to open the gate. The record had been synced behind the gate by then, and stands there in each image
 -- since.
-pub record HasFailedOpening {D : Type 0} (seen : D → Seen) (old new : D) (gate : ℕ) (unsettled : Bool) (bodies : List (List ℕ))
-    (body : List ℕ) : Type 0 where
+pub record HasFailedOpening {D : Type 0} (seen : D → Seen) (old new : D) (gate : ℕ) (unsettled : Bool) (h : Header)
+    (bodies : List (List ℕ)) (body : List ℕ) : Type 0 where
   pub begun : D
-  pub before : Passes (seen old) (seen begun) (HasBodies bodies None)
-  pub behind : IsStaged (seen begun) gate bodies body
-  pub crash : Passes (seen begun) (seen new) (HasStaged (front bodies) (staged body))
-  pub kept : IsKeptAt (seen new) gate unsettled bodies (Some body)
+  pub before : Passes (seen old) (seen begun) (HasBodies h bodies None)
+  pub behind : IsStaged (seen begun) gate h bodies body
+  pub crash : Passes (seen begun) (seen new) (HasStaged (front h bodies) (staged body))
+  pub kept : IsKeptAt (seen new) gate unsettled h bodies (Some body)
 
 -- How an append failed: while it closed a gate that an earlier one had left unsettled, which is so still; or once it had none to
 -- settle, in one of those two ways.
-abbrev pub HasFailedIn : {D : Type 0} → (D → Seen) → D → D → ℕ → Bool → List (List ℕ) → Option (List ℕ) → List ℕ → Type 0
-HasFailedIn {D} seen old new gate unsettled bodies last body =
-    ((is_some last ≡ true) × IsKeptAt (seen new) gate unsettled bodies last × Passes (seen old) (seen new) (HasBodies bodies last))
-    ⊎ ((begun : D) × Passes (seen old) (seen begun) (HasBodies bodies last) × IsKeptAt (seen begun) gate false bodies None
-    × (HasFailedShut (seen begun) (seen new) gate unsettled bodies ⊎ HasFailedOpening seen begun new gate unsettled bodies body))
+abbrev pub HasFailedIn : {D : Type 0} → (D → Seen) → D → D → ℕ → Bool → Header → List (List ℕ) → Option (List ℕ) → List ℕ → Type 0
+HasFailedIn {D} seen old new gate unsettled h bodies last body =
+    ((is_some last ≡ true) × IsKeptAt (seen new) gate unsettled h bodies last × Passes (seen old) (seen new) (HasBodies h bodies last))
+    ⊎ ((begun : D) × Passes (seen old) (seen begun) (HasBodies h bodies last) × IsKeptAt (seen begun) gate false h bodies None
+    × (HasFailedShut (seen begun) (seen new) gate unsettled h bodies ⊎ HasFailedOpening seen begun new gate unsettled h bodies body))
 
 -- what an append that failed may leave as the last one tried: what was, nothing, or its own
 abbrev pub IsLast : Option (List ℕ) → List ℕ → Option (List ℕ) → Type 0

@@ -10,7 +10,7 @@ use crate::log::Log;
 use crate::open_refused::OpenRefused;
 use crate::opening::{Opening, open_disk};
 use crate::record::Record;
-use claim_history::record_bytes::RECORD_HEAD;
+use claim_history::record_bytes::{POOL_BYTES, RECORD_HEAD};
 use disk_model::Disk;
 use setoff_model::limits::MOST_BODY;
 use std::alloc::Global;
@@ -40,14 +40,15 @@ impl<D: Disk> Journal<D> {
     ///
     /// After an Ok every present image stands for the records. An Err hands the disk back. Memory: there was none for
     /// the bytes, the records or the longest record. Device: the disk failed. BadHeader: there are more than nine bytes,
-    /// and they do not begin with the header. BadRecord: the record behind the first faulty open gate runs past the end
+    /// and they begin with neither header. BadRecord: the record behind the first faulty open gate runs past the end
     /// or lacks the next gate (Short), or its body is no act (Body).
     pub fn open(alloc: Global, mut disk: D) -> Result<(Journal<D>, Vec<Record>), OpenRefused<D>>
         ensures ok { IfOk result (λ r. IsOpen D.seen disk r.0 r.1.items) }
         ensures err { IfErr result (λ e. IsRefused (D.seen disk) (D.seen e.disk) e.cause) }
     {
         let before = disk.faults();
-        let Ok(staging) = Vec::with_capacity(alloc, MOST_BODY + RECORD_HEAD as usize) else {
+        let Ok(staging) = Vec::with_capacity(alloc, MOST_BODY + (POOL_BYTES + RECORD_HEAD) as usize)
+        else {
             return Err(OpenRefused {
                 disk,
                 cause: JournalCause::Memory,
@@ -70,7 +71,7 @@ impl<D: Disk> Journal<D> {
         }
     }
 
-    /// Appends a record with this body, of at most `MOST_BODY` bytes. It asks that the record ends within the first 2^30
+    /// Appends a record with this body, of at most `MOST_BODY` and `POOL_BYTES` bytes. It asks that the record ends within the first 2^30
     /// bytes, and takes no memory. Four calls of the disk are made: length, body and a closed gate are written behind the
     /// record's gate and synced, and then this gate is opened and synced. Where an append that failed may have begun to
     /// open the gate, two calls before these close it again.
@@ -79,7 +80,7 @@ impl<D: Disk> Journal<D> {
     /// they were, and an image may have the new one behind them, or the one of the append that failed before. Where it
     /// failed before it began to open the gate, and with none to close first, nothing is left to settle.
     pub fn append(&mut self, body: &[u8]) -> Result<(), Device>
-        requires short { length body.now ≤ MOST_BODY }
+        requires short { length body.now ≤ MOST_BODY + POOL_BYTES }
         requires near { self.old.gate + RECORD_HEAD + length body.now ≤ MOST_JOURNAL_BYTES }
         ensures done { OnOk result (HasAppended D.seen self.old self.new body.now) }
         ensures failed { OnErr result (HasNotAppended D.seen self.old self.new body.now) }

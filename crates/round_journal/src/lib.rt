@@ -1,9 +1,10 @@
 //! A journal of acts on a disk: after a crash the records are there, all but perhaps the last.
 //!
-//! The file begins with the eight bytes `BUREAUJ1`. Then come records: a gate byte, a length of four bytes, big-endian,
-//! and a body. After the last record comes the gate of the next one. A gate is open exactly where it is 1, and anything
-//! may follow a gate that is not. The bytes stand for the bodies of the records behind open gates, in order. A body is
-//! the bytes of an act with the number of its caller.
+//! A file begins with the eight bytes `BUREAUJ2`, or `BUREAUJ1` where it was made before there were pools, and keeps its
+//! header. Then come records: a gate byte, a length of four bytes, big-endian, and a body. After the last record comes
+//! the gate of the next one. A gate is open exactly where it is 1, and anything may follow a gate that is not. The bytes
+//! stand for the bodies of the records behind open gates, in order. A body is the bytes of an act with its pool and the
+//! number of its caller, under either header.
 //!
 //! An append writes the record and a closed gate behind it, syncs, opens the record's gate, and syncs. So no crash
 //! leaves an open gate before bytes that were not synced. An append that failed once it may have begun to open its gate
@@ -32,7 +33,7 @@ mod stop;
 mod whole;
 mod written;
 
-pub use act_bodies::{body_length, encode};
+pub use act_bodies::encode;
 pub use cause::{JournalCause, RecordWhy};
 pub use device::Device;
 pub use journal::Journal;

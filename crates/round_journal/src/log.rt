@@ -2,9 +2,9 @@
 ghost use Rattle.std.specs.Prelude.{◌≡◌, ◌+◌, ◌<◌, ◌≤◌, ℕ, true, false, List, [], ◌∷◌, ◌++◌, length, Option, Some, None, IsTrue, OnOk, OnErr, vec_capacity};
 ghost use Rattle.disk_model.specs.Calls.{Passes};
 ghost use Rattle.setoff_model.specs.declared.limits.TheConstants.{MOST_BODY, MOST_JOURNAL_BYTES};
-ghost use Rattle.claim_history.specs.declared.record_bytes.TheConstants.{RECORD_HEAD};
+ghost use Rattle.claim_history.specs.declared.record_bytes.TheConstants.{POOL_BYTES, RECORD_HEAD};
 ghost use Rattle.fault_count.specs.Counts.{IsCounted};
-ghost use Rattle.round_journal.specs.Bytes.{front};
+ghost use Rattle.round_journal.specs.Bytes.{Header, front};
 ghost use Rattle.round_journal.specs.Kept.{staged, HasBodies, HasFailedIn, HasStaged, IsKeptAt, IsStaged, IsLast, HoldsOne};
 
 use crate::written::write_and_sync;
@@ -19,27 +19,27 @@ pub(crate) struct Log<D: Disk> {
     pub(crate) gate: u64,
     pub(crate) unsettled: bool,
     pub(crate) staging: Vec<u8>,
-    ghost room: { MOST_BODY + RECORD_HEAD ≤ vec_capacity staging },
+    ghost room: { MOST_BODY + POOL_BYTES + RECORD_HEAD ≤ vec_capacity staging },
     ghost safe: { IsTrue (D.seen disk).tells → gate < length (D.seen disk).reads },
 }
 
 impl<D: Disk> Log<D> {
     /// Settles the gate where that is due, writes a record behind it, and opens it.
     pub(crate) fn append(&mut self, body: &[u8]) -> Result<(), DiskFailed>
-        requires short { length body.now ≤ MOST_BODY }
+        requires short { length body.now ≤ MOST_BODY + POOL_BYTES }
         requires near { self.old.gate + RECORD_HEAD + length body.now ≤ MOST_JOURNAL_BYTES }
-        ensures done { OnOk result ((bodies : List (List ℕ)) (last : Option (List ℕ))
-            → IsKeptAt (D.seen self.old.disk) self.old.gate self.old.unsettled bodies last
-            → IsKeptAt (D.seen self.new.disk) self.new.gate self.new.unsettled (bodies ++ body.now ∷ []) None) }
-        ensures failed { OnErr result ((bodies : List (List ℕ)) (last : Option (List ℕ))
-            → IsKeptAt (D.seen self.old.disk) self.old.gate self.old.unsettled bodies last
+        ensures done { OnOk result ((h : Header) (bodies : List (List ℕ)) (last : Option (List ℕ))
+            → IsKeptAt (D.seen self.old.disk) self.old.gate self.old.unsettled h bodies last
+            → IsKeptAt (D.seen self.new.disk) self.new.gate self.new.unsettled h (bodies ++ body.now ∷ []) None) }
+        ensures failed { OnErr result ((h : Header) (bodies : List (List ℕ)) (last : Option (List ℕ))
+            → IsKeptAt (D.seen self.old.disk) self.old.gate self.old.unsettled h bodies last
             → (after : Option (List ℕ)) × IsLast last body.now after
-            × IsKeptAt (D.seen self.new.disk) self.new.gate self.new.unsettled bodies after) }
-        ensures failed_in { OnErr result ((bodies : List (List ℕ)) (last : Option (List ℕ))
-            → IsKeptAt (D.seen self.old.disk) self.old.gate self.old.unsettled bodies last
-            → HasFailedIn D.seen self.old.disk self.new.disk self.new.gate self.new.unsettled bodies last body.now) }
-        ensures crash { (bodies : List (List ℕ)) (last : Option (List ℕ))
-            → IsKeptAt (D.seen self.old.disk) self.old.gate self.old.unsettled bodies last
+            × IsKeptAt (D.seen self.new.disk) self.new.gate self.new.unsettled h bodies after) }
+        ensures failed_in { OnErr result ((h : Header) (bodies : List (List ℕ)) (last : Option (List ℕ))
+            → IsKeptAt (D.seen self.old.disk) self.old.gate self.old.unsettled h bodies last
+            → HasFailedIn D.seen self.old.disk self.new.disk self.new.gate self.new.unsettled h bodies last body.now) }
+        ensures crash { (h : Header) (bodies : List (List ℕ)) (last : Option (List ℕ))
+            → IsKeptAt (D.seen self.old.disk) self.old.gate self.old.unsettled h bodies last
             → Passes (D.seen self.old.disk) (D.seen self.new.disk) (HoldsOne bodies last body.now) }
         ensures gate { OnOk result (self.new.gate ≡ self.old.gate + RECORD_HEAD + length body.now) }
         ensures gate_err { OnErr result (self.new.gate ≡ self.old.gate) }
@@ -55,15 +55,15 @@ impl<D: Disk> Log<D> {
     // Closes a gate that an append has begun to open and may not have opened.
     fn settle(&mut self) -> Result<(), DiskFailed>
         requires { self.old.gate ≤ MOST_JOURNAL_BYTES }
-        ensures done { OnOk result ((bodies : List (List ℕ)) (last : Option (List ℕ))
-            → IsKeptAt (D.seen self.old.disk) self.old.gate self.old.unsettled bodies last
-            → IsKeptAt (D.seen self.new.disk) self.new.gate self.new.unsettled bodies None) }
-        ensures failed { OnErr result ((bodies : List (List ℕ)) (last : Option (List ℕ))
-            → IsKeptAt (D.seen self.old.disk) self.old.gate self.old.unsettled bodies last
-            → IsKeptAt (D.seen self.new.disk) self.new.gate self.new.unsettled bodies last) }
-        ensures crash { (bodies : List (List ℕ)) (last : Option (List ℕ))
-            → IsKeptAt (D.seen self.old.disk) self.old.gate self.old.unsettled bodies last
-            → Passes (D.seen self.old.disk) (D.seen self.new.disk) (HasBodies bodies last) }
+        ensures done { OnOk result ((h : Header) (bodies : List (List ℕ)) (last : Option (List ℕ))
+            → IsKeptAt (D.seen self.old.disk) self.old.gate self.old.unsettled h bodies last
+            → IsKeptAt (D.seen self.new.disk) self.new.gate self.new.unsettled h bodies None) }
+        ensures failed { OnErr result ((h : Header) (bodies : List (List ℕ)) (last : Option (List ℕ))
+            → IsKeptAt (D.seen self.old.disk) self.old.gate self.old.unsettled h bodies last
+            → IsKeptAt (D.seen self.new.disk) self.new.gate self.new.unsettled h bodies last) }
+        ensures crash { (h : Header) (bodies : List (List ℕ)) (last : Option (List ℕ))
+            → IsKeptAt (D.seen self.old.disk) self.old.gate self.old.unsettled h bodies last
+            → Passes (D.seen self.old.disk) (D.seen self.new.disk) (HasBodies h bodies last) }
         ensures settled { OnOk result (self.new.unsettled ≡ false) }
         ensures due { OnErr result (self.old.unsettled ≡ true) }
         ensures gate { self.new.gate ≡ self.old.gate }
@@ -80,15 +80,15 @@ impl<D: Disk> Log<D> {
 
     // Writes the record and the next gate behind the gate, which stays closed.
     fn stage(&mut self, body: &[u8]) -> Result<(), DiskFailed>
-        requires short { length body.now ≤ MOST_BODY }
+        requires short { length body.now ≤ MOST_BODY + POOL_BYTES }
         requires near { self.old.gate ≤ MOST_JOURNAL_BYTES }
         requires settled { self.old.unsettled ≡ false }
-        ensures done { OnOk result ((bodies : List (List ℕ)) → IsKeptAt (D.seen self.old.disk) self.old.gate false bodies None
-            → IsStaged (D.seen self.new.disk) self.new.gate bodies body.now) }
-        ensures failed { OnErr result ((bodies : List (List ℕ)) → IsKeptAt (D.seen self.old.disk) self.old.gate false bodies None
-            → IsKeptAt (D.seen self.new.disk) self.new.gate false bodies None) }
-        ensures crash { (bodies : List (List ℕ)) → IsKeptAt (D.seen self.old.disk) self.old.gate false bodies None
-            → Passes (D.seen self.old.disk) (D.seen self.new.disk) (HasBodies bodies None) }
+        ensures done { OnOk result ((h : Header) (bodies : List (List ℕ)) → IsKeptAt (D.seen self.old.disk) self.old.gate false h bodies None
+            → IsStaged (D.seen self.new.disk) self.new.gate h bodies body.now) }
+        ensures failed { OnErr result ((h : Header) (bodies : List (List ℕ)) → IsKeptAt (D.seen self.old.disk) self.old.gate false h bodies None
+            → IsKeptAt (D.seen self.new.disk) self.new.gate false h bodies None) }
+        ensures crash { (h : Header) (bodies : List (List ℕ)) → IsKeptAt (D.seen self.old.disk) self.old.gate false h bodies None
+            → Passes (D.seen self.old.disk) (D.seen self.new.disk) (HasBodies h bodies None) }
         ensures long { OnOk result (IsTrue (D.seen self.new.disk).tells
             → self.old.gate + RECORD_HEAD + length body.now < length (D.seen self.new.disk).reads) }
         ensures settled { self.new.unsettled ≡ false }
@@ -105,15 +105,15 @@ impl<D: Disk> Log<D> {
     fn open_gate(&mut self, len: u64) -> Result<(), DiskFailed>
         requires near { self.old.gate + RECORD_HEAD + len ≤ MOST_JOURNAL_BYTES }
         requires long { IsTrue (D.seen self.old.disk).tells → self.old.gate + RECORD_HEAD + len < length (D.seen self.old.disk).reads }
-        ensures done { OnOk result ((bodies : List (List ℕ)) (body : List ℕ) → length body ≡ len
-            → IsStaged (D.seen self.old.disk) self.old.gate bodies body
-            → IsKeptAt (D.seen self.new.disk) self.new.gate self.new.unsettled (bodies ++ body ∷ []) None) }
-        ensures failed { OnErr result ((bodies : List (List ℕ)) (body : List ℕ) → length body ≡ len
-            → IsStaged (D.seen self.old.disk) self.old.gate bodies body
-            → IsKeptAt (D.seen self.new.disk) self.new.gate self.new.unsettled bodies (Some body)) }
-        ensures crash { (bodies : List (List ℕ)) (body : List ℕ) → length body ≡ len
-            → IsStaged (D.seen self.old.disk) self.old.gate bodies body
-            → Passes (D.seen self.old.disk) (D.seen self.new.disk) (HasStaged (front bodies) (staged body)) }
+        ensures done { OnOk result ((h : Header) (bodies : List (List ℕ)) (body : List ℕ) → length body ≡ len
+            → IsStaged (D.seen self.old.disk) self.old.gate h bodies body
+            → IsKeptAt (D.seen self.new.disk) self.new.gate self.new.unsettled h (bodies ++ body ∷ []) None) }
+        ensures failed { OnErr result ((h : Header) (bodies : List (List ℕ)) (body : List ℕ) → length body ≡ len
+            → IsStaged (D.seen self.old.disk) self.old.gate h bodies body
+            → IsKeptAt (D.seen self.new.disk) self.new.gate self.new.unsettled h bodies (Some body)) }
+        ensures crash { (h : Header) (bodies : List (List ℕ)) (body : List ℕ) → length body ≡ len
+            → IsStaged (D.seen self.old.disk) self.old.gate h bodies body
+            → Passes (D.seen self.old.disk) (D.seen self.new.disk) (HasStaged (front h bodies) (staged body)) }
         ensures gate { OnOk result (self.new.gate ≡ self.old.gate + RECORD_HEAD + len) }
         ensures gate_err { OnErr result (self.new.gate ≡ self.old.gate) }
         ensures tells { (D.seen self.new.disk).tells ≡ (D.seen self.old.disk).tells }
@@ -129,10 +129,10 @@ impl<D: Disk> Log<D> {
 
 // Puts the length, the body and a closed gate into the buffer.
 fn fill(staging: &mut Vec<u8>, body: &[u8])
-    requires room { MOST_BODY + RECORD_HEAD ≤ vec_capacity staging.old }
-    requires short { length body.now ≤ MOST_BODY }
+    requires room { MOST_BODY + POOL_BYTES + RECORD_HEAD ≤ vec_capacity staging.old }
+    requires short { length body.now ≤ MOST_BODY + POOL_BYTES }
     ensures items { staging.new.items ≡ staged body.now }
-    ensures room { MOST_BODY + RECORD_HEAD ≤ vec_capacity staging.new }
+    ensures room { MOST_BODY + POOL_BYTES + RECORD_HEAD ≤ vec_capacity staging.new }
 {
     staging.clear();
     let _ = staging.extend_from_slice(&(body.len() as u32).to_be_bytes());

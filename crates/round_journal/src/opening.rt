@@ -1,9 +1,9 @@
 //! Brings a disk to a journal.
 ghost use Rattle.std.specs.Prelude.{◌≡◌, ◌≤◌, true, false, length, None, IfErr, IfOk, IsTrue};
 ghost use Rattle.disk_model.specs.Calls.{Passes};
-ghost use Rattle.round_journal.specs.Bytes.{front};
+ghost use Rattle.round_journal.specs.Bytes.{Header, gate_behind};
 ghost use Rattle.round_journal.specs.Kept.{IsKeptAt};
-ghost use Rattle.round_journal.specs.Opened.{AreFound, HasOpened, HasTurned, HoldsAs, IsSpared, IsSynced, Leaves};
+ghost use Rattle.round_journal.specs.Opened.{AreFound, HasOpened, HasTurned, HoldsAs, IsHeaderOf, IsSpared, IsSynced, Leaves};
 ghost use Rattle.round_journal.specs.Records.{bodies_of};
 ghost use Rattle.round_journal.specs.Stops.{cause_of, HasStop, IsHalt};
 
@@ -25,9 +25,9 @@ pub(crate) struct Opening<D> {
 /// Syncs, reads the records, and makes a journal of at most nine bytes that stand for no list.
 pub(crate) fn open_disk<D: Disk>(alloc: Global, disk: &mut D) -> Result<Opening<D>, Stop>
     ensures found { IfOk result (λ o. AreFound (D.seen disk.old).tells (D.seen disk.old).reads o.scan.records.items) }
-    ensures place { IfOk result (λ o. o.scan.gate ≡ length (front (bodies_of o.scan.records.items))) }
-    ensures kept { IfOk result (λ o. IsTrue (D.seen disk.old).tells
-        → IsKeptAt (D.seen disk.new) o.scan.gate false (bodies_of o.scan.records.items) None) }
+    ensures place { IfOk result (λ o. o.scan.gate ≡ gate_behind (bodies_of o.scan.records.items)) }
+    ensures kept { IfOk result (λ o. IsTrue (D.seen disk.old).tells → (h : Header) × IsHeaderOf (D.seen disk.old).reads h
+        × IsKeptAt (D.seen disk.new) o.scan.gate false h (bodies_of o.scan.records.items) None) }
     ensures first { IfOk result (λ o. (D.seen o.opened.value).reads ≡ (D.seen disk.old).reads) }
     ensures turned { IfOk result (λ o. IsTrue (D.seen disk.old).tells
         → HasTurned (D.seen disk.old) (D.seen o.opened.value).moment (D.seen disk.new)) }
@@ -65,9 +65,9 @@ fn read_synced<D: Disk>(alloc: Global, disk: &mut D) -> Result<(Vec<u8>, Snapsho
 // The records of the bytes of a disk. Where at most nine bytes stand for no list, a journal is made that has none.
 fn found_or_made<D: Disk>(alloc: Global, disk: &mut D, bytes: &[u8]) -> Result<Scan, Stop>
     ensures found { IfOk result (λ s. AreFound true bytes.now s.records.items) }
-    ensures place { IfOk result (λ s. s.gate ≡ length (front (bodies_of s.records.items))) }
-    ensures kept { IfOk result (λ s. IsSynced (D.seen disk.old) bytes.now
-        → IsKeptAt (D.seen disk.new) s.gate false (bodies_of s.records.items) None) }
+    ensures place { IfOk result (λ s. s.gate ≡ gate_behind (bodies_of s.records.items)) }
+    ensures kept { IfOk result (λ s. IsSynced (D.seen disk.old) bytes.now → (h : Header) × IsHeaderOf bytes.now h
+        × IsKeptAt (D.seen disk.new) s.gate false h (bodies_of s.records.items) None) }
     ensures crash { IsSynced (D.seen disk.old) bytes.now → Passes (D.seen disk.old) (D.seen disk.new) (HoldsAs bytes.now) }
     ensures spared { IfOk result (λ _. IsSynced (D.seen disk.old) bytes.now → IsSpared bytes.now (D.seen disk.new).reads) }
     ensures left { IfErr result (λ stop. IsSynced (D.seen disk.old) bytes.now

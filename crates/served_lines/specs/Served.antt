@@ -1,20 +1,22 @@
 -- A batch and what came of its lines.
-use Rattle.std.specs.Prelude.{◌≡◌, ◌⊎◌, ◌==◌, ◌≤◌, ℕ, Bool, true, false, List, [], ◌∷◌, ◌++◌, length, drop, map, filter}
+use Rattle.std.specs.Prelude.{◌≡◌, ◌⊎◌, ◌&&◌, ◌==◌, ◌≤◌, ℕ, Bool, true, false, List, [], ◌∷◌, ◌++◌, length, drop, map, filter}
 use Rattle.std.specs.List.{list_all, list_any}
 use mathlib.Core.List.{IsPrefix}
 use Rattle.setoff_model.specs.CutView.{CutView, OutcomeView, obligations}
+use Rattle.setoff_model.specs.Same.{same_name}
 use Rattle.setoff_model.specs.Setoff.{Proves, IsOldestFirst}
 use Rattle.claim_history.specs.declared.act.Act.{Act}
 use Rattle.claim_history.specs.declared.act.Act.TheVariants as act
-use Rattle.claim_history.specs.declared.entry.Entry.{Entry}
+use Rattle.claim_history.specs.declared.call.Call.{Call}
+use Rattle.claim_history.specs.declared.call.PoolEntry.{PoolEntry}
 use Rattle.claim_history.specs.declared.entry.Reply.{Reply}
 use Rattle.claim_history.specs.declared.entry.Reply.TheVariants as reply
 use Rattle.claim_history.specs.declared.entry.Why.TheVariants as why
 use Rattle.claim_history.specs.History.{is_accepted}
 use Rattle.claim_history.specs.Acts.{is_close}
-use Rattle.claim_history.specs.Callers.{entries_by}
-use Rattle.claim_history.specs.Rounds.{IsRoundCut}
 use Rattle.claim_history.specs.Laws.{round_in}
+use Rattle.claim_history.specs.Pools.{members_by}
+use Rattle.claim_history.specs.PoolRounds.{IsRoundCut}
 use Rattle.limited_book.specs.Limited.{IsFull}
 use Rattle.limited_book.specs.declared.full.Full.{Full}
 use Rattle.request_text.specs.declared.request.Request.{Request}
@@ -22,22 +24,27 @@ use Rattle.served_lines.specs.declared.answer.Answer.{Answer}
 use Rattle.served_lines.specs.declared.line_end.LineEnd.{LineEnd}
 use Rattle.served_lines.specs.declared.line_end.LineEnd.TheVariants as ends
 
--- the request's call
-pub record IsCall (request : Request) (e : Entry) : Type 0 where
-  pub by : e.caller ≡ request.lane
-  pub asks : e.act ≡ request.act
+-- the call of a request: its lane is the caller
+abbrev pub asked_call : Request → Call
+asked_call request = record { caller = request.lane; pool = request.pool; act = request.act }
 
--- a call that is refused, or of another verb than Close
-abbrev pub EndsAtOnce : Act → Entry → Type 0
-EndsAtOnce (act.Close kind horizon) e = is_accepted e ≡ false
-EndsAtOnce _ e = Unit {0}
+-- the member is of the request's call
+pub record IsCall (request : Request) (m : PoolEntry) : Type 0 where
+  pub by : m.entry.caller ≡ request.lane
+  pub in_pool : m.pool ≡ request.pool
+  pub asks : m.entry.act ≡ request.act
 
--- the request is a Close, and the call is accepted for this round
-pub record IsCloseFor (request : Request) (round : ℕ) (e : Entry) : Type 0 where
-  pub call : IsCall request e
+-- a member that is refused, or of another verb than Close
+abbrev pub EndsAtOnce : Act → PoolEntry → Type 0
+EndsAtOnce (act.Close kind horizon) m = is_accepted m.entry ≡ false
+EndsAtOnce _ m = Unit {0}
+
+-- the request is a Close, and the member accepts it for this round
+pub record IsCloseFor (request : Request) (round : ℕ) (m : PoolEntry) : Type 0 where
+  pub call : IsCall request m
   pub closes : is_close request.act ≡ true
-  pub accepted : is_accepted e ≡ true
-  pub round_is : round_in e.reply ≡ round
+  pub accepted : is_accepted m.entry ≡ true
+  pub round_is : round_in m.entry.reply ≡ round
 
 -- the round is published, or the disk failed
 abbrev pub IsEnding : Reply → Type 0
@@ -45,65 +52,67 @@ IsEnding (reply.Published total) = Unit {0}
 IsEnding (reply.Refused (why.Device before counted)) = Unit {0}
 IsEnding _ = ⊥
 
--- the lane's publication of the round, whose outcome is proved for the round's cut and oldest first
-pub record IsPublicationOf (whole : List Entry) (lane round : ℕ) (e : Entry) : Type 0 where
+-- the publication of the round by the request's lane in the request's pool, whose outcome is proved for the round's cut and oldest
+-- first
+pub record IsPublicationOf (whole : List PoolEntry) (request : Request) (round : ℕ) (m : PoolEntry) : Type 0 where
   pub outcome : OutcomeView
   pub cut : CutView
-  pub by : e.caller ≡ lane
-  pub asks : e.act ≡ act.Publish round outcome
-  pub ends : IsEnding e.reply
-  pub cut_is : IsRoundCut whole round cut
+  pub by : m.entry.caller ≡ request.lane
+  pub in_pool : m.pool ≡ request.pool
+  pub asks : m.entry.act ≡ act.Publish round outcome
+  pub ends : IsEnding m.entry.reply
+  pub cut_is : IsRoundCut whole request.pool round cut
   pub proved : Proves (obligations cut) outcome.discharges outcome.prices
   pub oldest_first : IsOldestFirst (obligations cut) outcome.discharges
 
--- one call, which ends at once
-pub record IsOne (request : Request) (entries : List Entry) : Type 0 where
-  pub call : Entry
-  pub is : entries ≡ call ∷ []
+-- one member, which ends at once
+pub record IsOne (request : Request) (members : List PoolEntry) : Type 0 where
+  pub call : PoolEntry
+  pub is : members ≡ call ∷ []
   pub asks : IsCall request call
   pub ends : EndsAtOnce request.act call
 
 -- an accepted Close alone
-pub record IsClose (request : Request) (entries : List Entry) : Type 0 where
+pub record IsClose (request : Request) (members : List PoolEntry) : Type 0 where
   pub round : ℕ
-  pub close : Entry
-  pub is : entries ≡ close ∷ []
+  pub close : PoolEntry
+  pub is : members ≡ close ∷ []
   pub closes : IsCloseFor request round close
 
 -- an accepted Close and the publication of its round
-pub record IsRound (whole : List Entry) (request : Request) (entries : List Entry) : Type 0 where
+pub record IsRound (whole : List PoolEntry) (request : Request) (members : List PoolEntry) : Type 0 where
   pub round : ℕ
-  pub close : Entry
-  pub publication : Entry
-  pub is : entries ≡ close ∷ publication ∷ []
+  pub close : PoolEntry
+  pub publication : PoolEntry
+  pub is : members ≡ close ∷ publication ∷ []
   pub closes : IsCloseFor request round close
-  pub publishes : IsPublicationOf whole request.lane round publication
+  pub publishes : IsPublicationOf whole request round publication
 
--- Somewhere past the opened entries, where the caller had done these since, the act was full as is told.
-pub record WasFull (whole : List Entry) (opened : ℕ) (done : List Entry) (caller : ℕ) (a : Act) (full : Full) : Type 0 where
-  pub place : List Entry
+-- Somewhere past the opened members, where the caller had done these since, the call was full as is told.
+pub record WasFull (whole : List PoolEntry) (opened : ℕ) (done : List PoolEntry) (call : Call) (full : Full) : Type 0 where
+  pub place : List PoolEntry
   pub begins : IsPrefix place whole
   pub past : opened ≤ length place
-  pub done_is : entries_by caller (drop opened place) ≡ done
-  pub is_full : IsFull place caller a full
+  pub done_is : members_by call.caller (drop opened place) ≡ done
+  pub is_full : IsFull place call full
 
--- the entries of a line, after those that its lane had done since the opening
-abbrev pub LineAdds : List Entry → ℕ → List Entry → Request → LineEnd → List Entry → Type 0
-LineAdds whole opened done request ends.Replied entries = IsOne request entries ⊎ IsRound whole request entries
-LineAdds whole opened done request ends.Memory entries = (entries ≡ []) ⊎ IsClose request entries
-LineAdds whole opened done request (ends.Full what needed limit) entries =
-    (entries ≡ []) × WasFull whole opened done request.lane request.act (record { what = what; needed = needed; limit = limit })
+-- the members of a line, after those that its lane had done since the opening
+abbrev pub LineAdds : List PoolEntry → ℕ → List PoolEntry → Request → LineEnd → List PoolEntry → Type 0
+LineAdds whole opened done request ends.Replied members = IsOne request members ⊎ IsRound whole request members
+LineAdds whole opened done request ends.Memory members = (members ≡ []) ⊎ IsClose request members
+LineAdds whole opened done request (ends.Full what needed limit) members =
+    (members ≡ []) × WasFull whole opened done (asked_call request) (record { what = what; needed = needed; limit = limit })
 
 -- a request and what came of it
 pub record Line : Type 0 where
   pub request : Request
   pub end : LineEnd
 
--- the entries of lines in turn
-abbrev pub LinesAdd : List Entry → ℕ → List Entry → List Line → List Entry → Type 0
-LinesAdd whole opened done [] entries = entries ≡ []
-LinesAdd whole opened done (line ∷ lines) entries =
-    (front later : List Entry) × (entries ≡ front ++ later) × LineAdds whole opened done line.request line.end front
+-- the members of lines in turn
+abbrev pub LinesAdd : List PoolEntry → ℕ → List PoolEntry → List Line → List PoolEntry → Type 0
+LinesAdd whole opened done [] members = members ≡ []
+LinesAdd whole opened done (line ∷ lines) members =
+    (front later : List PoolEntry) × (members ≡ front ++ later) × LineAdds whole opened done line.request line.end front
     × LinesAdd whole opened (done ++ front) lines later
 
 -- each request with what came of it
@@ -116,13 +125,17 @@ lines_of (request ∷ requests) (answer ∷ answers) = record { request = reques
 abbrev pub lane_lines : ℕ → List Request → List Answer → List Line
 lane_lines lane requests answers = filter (λ line. line.request.lane == lane) (lines_of requests answers)
 
--- the caller is the lane of a request
-abbrev pub has_lane : List Request → Entry → Bool
-has_lane requests e = list_any (λ request. request.lane == e.caller) requests
+-- the member is by the lane and in the pool of the request
+abbrev pub is_asked_by : PoolEntry → Request → Bool
+is_asked_by m request = request.lane == m.entry.caller && same_name request.pool m.pool
 
--- Each line of the batch has its answer. After this history each entry that was added is of a lane of the batch, and the entries
--- of each lane are those of its lines in order.
-pub record IsServed (batch : List Request) (answers : List Answer) (before added : List Entry) : Type 0 where
+-- so it is of one of the requests
+abbrev pub has_request : List Request → PoolEntry → Bool
+has_request requests m = list_any (is_asked_by m) requests
+
+-- Each line of the batch has its answer. After this history each member that was added has the lane and the pool of a request of the
+-- batch, and the members of each lane are those of its lines in order.
+pub record IsServed (batch : List Request) (answers : List Answer) (before added : List PoolEntry) : Type 0 where
   pub answered : map (λ answer. answer.line) answers ≡ map (λ request. request.line) batch
-  pub lanes : list_all (has_lane batch) added ≡ true
-  pub each : (lane : ℕ) → LinesAdd (before ++ added) (length before) [] (lane_lines lane batch answers) (entries_by lane added)
+  pub asked : list_all (has_request batch) added ≡ true
+  pub each : (lane : ℕ) → LinesAdd (before ++ added) (length before) [] (lane_lines lane batch answers) (members_by lane added)

@@ -1,12 +1,13 @@
-//! Lines that were not replied to, and entries that tell of a device.
-ghost use Rattle.std.specs.Prelude.{◌≡◌};
+//! Lines that were not replied to, and members of a history that tell of a device.
+ghost use Rattle.std.specs.Prelude.{◌≡◌, ◌≤◌, drop, length};
 ghost use Rattle.std.specs.List.{list_any};
 ghost use Rattle.claim_history.specs.Needs.{is_of_device};
 ghost use Rattle.served_lines.specs.Ends.{is_memory_end, is_full_end, has_line_end};
 
 use crate::answer::Answer;
 use crate::line_end::LineEnd;
-use claim_history::{Entry, tells_of_device};
+use claim_book::Books;
+use claim_history::tells_of_device;
 
 fn is_memory_end(end: LineEnd) -> bool
     ensures { result ≡ is_memory_end end }
@@ -40,9 +41,16 @@ pub fn some_full(answers: &[Answer]) -> bool
     answers.iter().any(|answer| is_full_end(answer.end))
 }
 
-/// Whether some entry tells of a device.
-pub fn some_device(entries: &[Entry]) -> bool
-    ensures { result ≡ list_any (λ e. is_of_device e.reply) entries.now }
+/// Whether some member of the history from a place on tells of a device.
+pub fn some_device(books: &Books, from: u64) -> bool
+    requires { from ≤ length books.now.members }
+    ensures { result ≡ list_any (λ m. is_of_device m.entry.reply) (drop from books.now.members) }
 {
-    entries.iter().any(|entry| tells_of_device(&entry.reply))
+    for place in from..books.len() {
+        let (_, entry) = books.member(place);
+        if tells_of_device(&entry.reply) {
+            return true;
+        }
+    }
+    false
 }

@@ -1,8 +1,9 @@
 //! What comes of the lines of a batch.
 //!
-//! A line of the input asks one act. It is replied to, by one entry or, where it is a Close that is accepted, by this entry
-//! and the publication of its round; or there was no memory for it; or its act was full. `IsServed` says what the entries of a
-//! batch are, of any number of lanes: those of each lane are those of its lines, in order.
+//! A line of the input asks one act in one pool. It is replied to, by one member of the history or, where it is a Close that is
+//! accepted, by this member and the publication of its round; or there was no memory for it; or its act was full. `IsServed` says
+//! what the members of a batch are, of any number of lanes and pools: those of each lane are those of its lines, in order, each
+//! in the pool of its line.
 #![tactic(auto)]
 
 mod answer;

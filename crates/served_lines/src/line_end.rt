@@ -5,7 +5,7 @@ use limited_book::Room;
 /// What came of a line.
 #[derive(Clone, Copy, PartialEq, Eq)]
 pub enum LineEnd {
-    /// Its act has its entry; where it is a Close that is accepted, its round has the entry of its publication, too.
+    /// Its act has its entry in its pool; where it is a Close that is accepted, its round has the entry of its publication, too.
     Replied,
     /// Its act needs more than there is room for. It has no entry.
     Full {

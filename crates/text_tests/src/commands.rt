@@ -1,7 +1,7 @@
 //! The words of commands.
 use claim_history::Day;
 use command_words::{Command, InputReport, JournalReport, USAGE, WordsError, command_of};
-use setoff_model::Kind;
+use setoff_model::{Kind, Name};
 use std::alloc::Global;
 use std::process::Abort;
 
@@ -22,15 +22,30 @@ fn told(rt: &impl Abort, alloc: Global, texts: &[&str]) -> Result<Command, Words
 #[test]
 fn each_list_of_words_is_its_command(rt: HostRuntime) {
     let today = Day::read(b"2025-03-31").expect(&rt, "a day");
-    let lists: [(&[&str], Command); 15] = [
+    let east = Name::of(b"EAST").expect(&rt, "a name");
+    let lists: [(&[&str], Command); 17] = [
         (&["run"], Command::Run),
         (&["check"], Command::OnInput(InputReport::Check)),
         (&["explain"], Command::OnInput(InputReport::Explain)),
         (&["audit"], Command::OnJournal(JournalReport::Audit)),
-        (&["positions"], Command::OnJournal(JournalReport::Positions)),
+        (
+            &["positions"],
+            Command::OnJournal(JournalReport::Positions { pool: None }),
+        ),
+        (
+            &["positions", "EAST"],
+            Command::OnJournal(JournalReport::Positions { pool: Some(east) }),
+        ),
         (
             &["notices", "2025-03-31"],
-            Command::OnJournal(JournalReport::Notices { today }),
+            Command::OnJournal(JournalReport::Notices { today, pool: None }),
+        ),
+        (
+            &["notices", "2025-03-31", "EAST"],
+            Command::OnJournal(JournalReport::Notices {
+                today,
+                pool: Some(east),
+            }),
         ),
         (
             &["weigh", "PLAIN", "2025-03-31"],
@@ -127,6 +142,14 @@ const NO_COMMANDS: &[&[&str]] = &[
     &["notices", "2025-3-31"],
     &["notices", "--", "2025-03-31"],
     &["notices", "2025-03-31", "2025-03-31"],
+    &["notices", "EAST"],
+    &["notices", "EAST", "2025-03-31"],
+    &["notices", "2025-03-31", "east"],
+    &["notices", "2025-03-31", "EAST", "EAST"],
+    &["positions", ""],
+    &["positions", "@EAST"],
+    &["positions", "EAST", "EAST"],
+    &["audit", "EAST"],
     &["explain", "1"],
     &["weigh"],
     &["weigh", "PLAIN"],
@@ -167,8 +190,8 @@ const FORMS: &[&str] = &[
     "check ",
     "explain ",
     "audit ",
-    "positions ",
-    "notices DATE ",
+    "positions [POOL] ",
+    "notices DATE [POOL] ",
     "weigh KIND DATE ",
     "import LANE ",
     "trial FIRMS CLAIMS SEED ",

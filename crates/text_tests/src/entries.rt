@@ -2,8 +2,8 @@
 ghost use Rattle.std.specs.Prelude.{IsTrue};
 ghost use Rattle.claim_history.specs.Laws.{IsReplyInRange};
 
-use claim_history::{Act, Entry, Position, Reply, Why};
-use entry_text::write_entry;
+use claim_history::{Act, Entry, PoolEntry, Position, Reply, Why, main_pool_name};
+use entry_text::write_pool_entry;
 use setoff_model::Name;
 use std::alloc::Global;
 use std::process::Abort;
@@ -24,14 +24,47 @@ fn in_range(reply: &Reply) -> bool
     }
 }
 
-// The line of an entry of this caller.
-fn line_of(rt: &impl Abort, alloc: Global, caller: u32, act: Act, reply: Reply) -> Vec<u8> {
+// The line of this caller's entry of a pool.
+fn line_in(
+    rt: &impl Abort,
+    alloc: Global,
+    caller: u32,
+    pool: Name,
+    act: Act,
+    reply: Reply,
+) -> Vec<u8> {
     let entry = Entry { caller, act, reply };
     let mut buffer = Vec::with_capacity(alloc, 200).expect(rt, "memory");
     assert!(rt; entry.act.valid());
     assert!(rt; in_range(&entry.reply));
-    write_entry(&mut buffer, &entry);
+    write_pool_entry(&mut buffer, &PoolEntry { pool, entry });
     buffer
+}
+
+// The line of this caller's entry of the pool MAIN.
+fn line_of(rt: &impl Abort, alloc: Global, caller: u32, act: Act, reply: Reply) -> Vec<u8> {
+    line_in(rt, alloc, caller, main_pool_name(), act, reply)
+}
+
+#[test]
+fn entries_name_their_pools(rt: HostRuntime) {
+    let firm = Name::of(b"A").expect(&rt, "a name");
+    let east = Name::of(b"EAST").expect(&rt, "a name");
+    let none = Position {
+        balance: 0,
+        receivable: 0,
+        payable: 0,
+    };
+    let line = line_of(&rt, rt.alloc(), 1, Act::Firm { firm }, Reply::Done);
+    assert!(rt; line.as_slice() == b"1 FIRM A = ok\n".as_slice());
+    let line = line_in(&rt, rt.alloc(), 1, east, Act::Firm { firm }, Reply::Done);
+    assert!(rt; line.as_slice() == b"1 @EAST FIRM A = ok\n".as_slice());
+    let told = Reply::Position(none);
+    let line = line_in(&rt, rt.alloc(), 1, east, Act::Position { firm }, told);
+    assert!(rt;
+        line.as_slice()
+            == b"1 @EAST POSITION A = balance 0.00 receivable 0.00 payable 0.00\n".as_slice()
+    );
 }
 
 #[test]

@@ -1,8 +1,9 @@
 //! Acts, their texts and their ranges, and the laws of histories.
 use claim_history::{
-    Act, Day, Entry, Reply, Why, accepted, full_register_refuses_claims, legal_history_grows,
-    limits_hold, open_cut_is_frozen, owned_round_stays_open, publication_keeps_net_positions,
-    publications_are_greatest, room_for_endings_is_kept, state_is_of_the_history, use_is_counted,
+    Act, Day, Entry, Reply, Why, accepted, each_pool_has_its_history, full_register_refuses_claims,
+    is_main, limits_hold, main_pool_name, open_cut_is_frozen, owned_round_stays_open, pool_bytes,
+    publication_keeps_net_positions, publications_are_greatest, published_cuts_are_in_order,
+    room_for_endings_is_kept, rounds_left_open_are_ended, state_is_of_the_history, use_is_counted,
     write_act,
 };
 use setoff_model::{Key, Kind, Name, Outcome};
@@ -220,13 +221,32 @@ fn acceptance(rt: HostRuntime) {
 #[test]
 fn laws() {
     state_is_of_the_history();
-    legal_history_grows();
+    each_pool_has_its_history();
     limits_hold();
     open_cut_is_frozen();
     owned_round_stays_open();
+    rounds_left_open_are_ended();
     publication_keeps_net_positions();
     publications_are_greatest();
+    published_cuts_are_in_order();
     room_for_endings_is_kept();
     use_is_counted();
     full_register_refuses_claims();
+}
+
+// Names, whether each is that of MAIN, and the bytes that name its pool in a record.
+const POOLS: &[(&[u8], bool, u64)] = &[
+    (b"MAIN", true, 0),
+    (b"MAIN-2", false, 8),
+    (b"EAST", false, 6),
+    (b"ABCDEFGHIJKLMNOP", false, 18),
+];
+
+#[test]
+fn main_is_named_by_no_bytes(rt: HostRuntime) {
+    for (text, main, bytes) in POOLS {
+        let pool = name(&rt, text);
+        assert!(rt; is_main(&pool) == *main && pool_bytes(&pool) == *bytes);
+    }
+    assert!(rt; main_pool_name().bytes() == b"MAIN".as_slice());
 }

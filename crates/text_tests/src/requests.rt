@@ -30,6 +30,22 @@ fn requests_are_read(rt: HostRuntime) {
     }
 }
 
+#[test]
+fn lines_name_pools(rt: HostRuntime) {
+    let batches = read(
+        &rt,
+        rt.alloc(),
+        b"1 FIRM A\n1 @EAST FIRM A\n2 @EAST POSITION A\n2 @MAIN-2 ABANDON",
+    );
+    let pools: [&[u8]; 4] = [b"MAIN", b"EAST", b"EAST", b"MAIN-2"];
+    assert!(rt; batches.len() == 1);
+    let requests = batches[0].requests();
+    assert!(rt; requests.len() == 4);
+    for (place, pool) in pools.iter().enumerate() {
+        assert!(rt; requests[place].pool.bytes() == *pool);
+    }
+}
+
 // Inputs, how many batches each has, and how many requests the first and the last of them.
 const FENCED: &[(&[u8], usize, usize, usize)] = &[
     (b"", 1, 0, 0),
@@ -70,6 +86,7 @@ const BAD_LINES: &[(LineCause, &[&[u8]])] = &[
             b"01 FIRM A",
             b"18446744073709551617 FIRM A",
             b"FIRM A",
+            b"@EAST 1 FIRM A",
             b"fence",
             b"FENCE ",
             b"FENCE\r",
@@ -77,8 +94,31 @@ const BAD_LINES: &[(LineCause, &[&[u8]])] = &[
         ],
     ),
     (
+        LineCause::Pool,
+        &[
+            b"1 @MAIN FIRM A",
+            b"1 @ FIRM A",
+            b"1 @MAIN",
+            b"1 @east FIRM A",
+            b"1 @1A FIRM A",
+            b"1 @ABCDEFGHIJKLMNOPQ FIRM A",
+            b"1 @@EAST FIRM A",
+        ],
+    ),
+    (
         LineCause::Verb,
-        &[b"1 FENCE", b"1", b"1  FIRM A", b"1 firm A", b"1 PUBLISH 1"],
+        &[
+            b"1 FENCE",
+            b"1",
+            b"1  FIRM A",
+            b"1 firm A",
+            b"1 PUBLISH 1",
+            b"1 @EAST",
+            b"1 @EAST ",
+            b"1 @EAST @WEST FIRM A",
+            b"1 @EAST 1 FIRM A",
+            b"1 EAST FIRM A",
+        ],
     ),
     (
         LineCause::Fields,
@@ -91,6 +131,8 @@ const BAD_LINES: &[(LineCause, &[&[u8]])] = &[
             b"1 OFFER A",
             b"1 FIRM",
             b"1 FIRM A ",
+            b"1 @EAST FIRM",
+            b"1 @EAST FIRM A @EAST",
             b"1 CONFIRM B I-1",
         ],
     ),
@@ -102,6 +144,7 @@ const BAD_LINES: &[(LineCause, &[&[u8]])] = &[
             b"1 POSITION A_",
             b"1 FIRM A\r",
             b"1 FIRM 1A",
+            b"1 @EAST FIRM @EAST",
             b"1 FIRM ABCDEFGHIJKLMNOPQ",
         ],
     ),
@@ -173,7 +216,7 @@ fn is_written(rt: &impl Abort, alloc: Global, request: &Request, line: &[u8]) {
     let mut written = Vec::with_capacity(alloc, 200).expect(rt, "memory");
     assert!(rt; 1 <= request.lane && request.lane <= 16);
     assert!(rt; request.act.valid() && !request.act.publishes());
-    write_request(&mut written, request.lane, &request.act);
+    write_request(&mut written, request.lane, &request.pool, &request.act);
     assert!(rt; written.as_slice() == line);
 }
 
@@ -194,6 +237,9 @@ const LINES: &[&[u8]] = &[
     b"1 CLOSE PLAIN 2025-12-31\n",
     b"1 CLOSE FUNDED 1970-01-01\n",
     b"1 ABANDON\n",
+    b"1 @EAST FIRM A\n",
+    b"1 @A ABANDON\n",
+    b"16 @ABCDEFGHIJKLMNOP FILE B I-1 A 9999999999.99 9999-12-31\n",
 ];
 
 #[test]

@@ -3,10 +3,11 @@ use Rattle.std.proofs.Common.{◌≡◌, ◌∙◌, ℕ, zero, suc, ◌+◌, fal
 use Rattle.std.proofs.lemmas.List.Elements.{All-append, All-nil, All-cons, All-head, All-tail, All-weaker}
 use Rattle.claim_history.specs.declared.act.Act.{Act}
 use Rattle.claim_history.specs.declared.act.Act.TheVariants as act
+use Rattle.claim_history.specs.declared.call.Call.{Call}
+use Rattle.claim_history.specs.declared.call.PoolEntry.{PoolEntry}
 use Rattle.claim_history.specs.declared.entry.Entry.{Entry}
 use Rattle.claim_history.specs.Acts.{is_close}
-use Rattle.claim_history.specs.Callers.{call_of}
-use Rattle.claim_history.specs.History.{Call}
+use Rattle.claim_history.specs.Pools.{call_of, entries_of}
 use Rattle.claim_history.proofs.Histories.{is_of_rounds}
 use Rattle.trial_round.specs.declared.days.TheConstants.{DUE_DAY}
 use Rattle.trial_round.specs.Input.{acts_before_close, call_by_one, claim_acts, claim_cents, claim_key, debtor_place, filed_and_confirmed, firm_acts, firm_name}
@@ -42,11 +43,11 @@ no_close a of = refl
 pub acts_close_none : (firms claims seed : ℕ) → All (λ a. is_close a ≡ false) (acts_before_close firms claims seed)
 acts_close_none firms claims seed = All-weaker OfNoRound (λ (a : Act). is_close a ≡ false) no_close (acts_before_close firms claims seed) (acts_of_none firms claims seed)
 
--- the entries of such acts
-pub entries_of_none : (entries : List Entry) (acts : List Act) → map call_of entries ≡ map call_by_one acts → All OfNoRound acts → All (λ e. is_of_rounds e.act ≡ false) entries
+-- the entries of members that ask such acts
+pub entries_of_none : (members : List PoolEntry) (acts : List Act) → map call_of members ≡ map call_by_one acts → All OfNoRound acts → All (λ e. is_of_rounds e.act ≡ false) (entries_of members)
 entries_of_none [] acts same of = All-nil (λ (e : Entry). is_of_rounds e.act ≡ false)
-entries_of_none (e ∷ entries) [] same of = absurd (cc same)
-entries_of_none (e ∷ entries) (a ∷ acts) same of =
-    let first : call_of e ≡ call_by_one a = cc same in
-    let asked : e.act ≡ a = ap (λ (c : Call). c.act) first in
-    All-cons (λ (x : Entry). is_of_rounds x.act ≡ false) e entries (ap is_of_rounds asked ∙ All-head OfNoRound a acts of) (entries_of_none entries acts (cc same) (All-tail OfNoRound a acts of))
+entries_of_none (m ∷ members) [] same of = absurd (cc same)
+entries_of_none (m ∷ members) (a ∷ acts) same of =
+    let first : call_of m ≡ call_by_one a = cc same in
+    let asked : m.entry.act ≡ a = ap (λ (c : Call). c.act) first in
+    All-cons (λ (x : Entry). is_of_rounds x.act ≡ false) m.entry (entries_of members) (ap is_of_rounds asked ∙ All-head OfNoRound a acts of) (entries_of_none members acts (cc same) (All-tail OfNoRound a acts of))

@@ -73,4 +73,4 @@ acts_asked firms claims seed size =
 
 pub all_asked : (firms claims seed : ℕ) → IsTrialSize firms claims → All CanBeAsked (map by_lane_one (trial_acts firms claims seed))
 all_asked firms claims seed size =
-    All-map CanBeAsked by_lane_one (trial_acts firms claims seed) (λ k d lt. record { by = (omega arith, omega arith); valid = acts_asked firms claims seed size k d lt })
+    All-map CanBeAsked by_lane_one (trial_acts firms claims seed) (λ k d lt. record { by = (omega arith, omega arith); named = refl; valid = acts_asked firms claims seed size k d lt })

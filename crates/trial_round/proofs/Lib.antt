@@ -7,6 +7,7 @@ pub mod Batch
 pub mod Replayed
 pub mod Rounded
 pub mod Lines
+pub mod Main
 pub mod Acts
 pub mod Found
 pub mod Pieces

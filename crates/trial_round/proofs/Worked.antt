@@ -10,8 +10,7 @@ use Rattle.setoff_model.proofs.Deciding.{proof_test_law}
 use Rattle.claim_history.specs.declared.act.Act.{Act}
 use Rattle.claim_history.specs.declared.act.Act.TheVariants as act
 use Rattle.claim_history.specs.Cut.{cut_of}
-use Rattle.claim_history.specs.History.{replay_of}
-use Rattle.claim_history.specs.States.{state_of}
+use Rattle.claim_history.specs.Pools.{ledger_in, main_pool, replay_of}
 use Rattle.trial_round.specs.declared.days.TheConstants.{HORIZON_DAY}
 use Rattle.trial_round.specs.Draws.{draw, next_state, state_after}
 use Rattle.trial_round.specs.Input.{acts_before_close, call_by_one, claim_acts, claim_cents, creditor_place, debtor_place, filed_and_confirmed, firm_acts}
@@ -59,12 +58,12 @@ worked_cut = record {
       ∷ [];
 }
 
-cut_of_acts : cut_of 1 (state_of (replay_of (map call_by_one (worked_acts (codes "1") (codes "2"))))).ledger Plain HORIZON_DAY ≡ worked_cut
+cut_of_acts : cut_of 1 (ledger_in (replay_of (map call_by_one (worked_acts (codes "1") (codes "2")))) main_pool) Plain HORIZON_DAY ≡ worked_cut
 cut_of_acts = refl
 
 cut : trial_cut 2 2 1 ≡ worked_cut
 unfolding trial_cut
-cut = ap (λ (done : List Act). cut_of 1 (state_of (replay_of (map call_by_one done))).ledger Plain HORIZON_DAY) acts ∙ cut_of_acts
+cut = ap (λ (done : List Act). cut_of 1 (ledger_in (replay_of (map call_by_one done)) main_pool) Plain HORIZON_DAY) acts ∙ cut_of_acts
 
 -- with the prices 0 and 1
 total : IsGreatestTotal worked_cut 48434

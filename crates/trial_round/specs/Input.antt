@@ -1,10 +1,12 @@
--- The input of a trial: firms are registered, claims among them are drawn, filed and confirmed, and a round is closed.
+-- The input of a trial: firms are registered, claims among them are drawn, filed and confirmed, and a round is closed, all in the pool
+-- MAIN.
 use Rattle.std.specs.Prelude.{ℕ, zero, suc, ◌+◌, ◌-◌, ◌*◌, ◌%◌, nat_le, List, [], ◌∷◌, ◌++◌, map, codes, decimal, if◌then◌else◌}
 use Rattle.setoff_model.specs.declared.name.Key.{Key}
 use Rattle.setoff_model.specs.declared.kind.Kind.TheVariants.{Plain}
 use Rattle.claim_history.specs.declared.act.Act.{Act}
 use Rattle.claim_history.specs.declared.act.Act.TheVariants as act
-use Rattle.claim_history.specs.History.{Call}
+use Rattle.claim_history.specs.declared.call.Call.{Call}
+use Rattle.claim_history.specs.Pools.{main_pool}
 use Rattle.request_text.specs.Grammar.{Asked, batch_text}
 use Rattle.trial_round.specs.declared.days.TheConstants.{DUE_DAY, HORIZON_DAY}
 use Rattle.trial_round.specs.Draws.{draw}
@@ -71,13 +73,13 @@ trial_acts firms claims seed = acts_before_close firms claims seed ++ close_act 
 
 -- ---- the text
 
--- an act that lane 1 is asked for
+-- an act that lane 1 is asked for in the pool MAIN
 abbrev pub by_lane_one : Act → Asked
-by_lane_one a = record { lane = 1; act = a }
+by_lane_one a = record { lane = 1; pool = main_pool; act = a }
 
 -- the same as a call
 abbrev pub call_by_one : Act → Call
-call_by_one a = record { caller = 1; act = a }
+call_by_one a = record { caller = 1; pool = main_pool; act = a }
 
 -- the lines of these acts
 unfoldable pub text_of_acts : List Act → List ℕ

@@ -6,8 +6,7 @@ use Rattle.setoff_model.specs.CutView.{CutView, obligations}
 use Rattle.setoff_model.specs.Setoff.{IsGreatest, total_of}
 use Rattle.setoff_model.specs.Texts.{cents_text}
 use Rattle.claim_history.specs.Cut.{cut_of}
-use Rattle.claim_history.specs.History.{replay_of}
-use Rattle.claim_history.specs.States.{state_of}
+use Rattle.claim_history.specs.Pools.{ledger_in, main_pool, replay_of}
 use Rattle.request_text.specs.declared.request.Request.{Request}
 use Rattle.request_text.specs.Grammar.{numbered}
 use Rattle.trial_round.specs.declared.days.TheConstants.{HORIZON_DAY}
@@ -24,9 +23,9 @@ pub record IsTrialSize (firms claims : ℕ) : Type 0 where
 unfoldable pub trial_batch : ℕ → ℕ → ℕ → List Request
 trial_batch firms claims seed = numbered 1 (map by_lane_one (trial_acts firms claims seed))
 
--- the cut of the round: that of the one history of the acts before the last
+-- the cut of the round: that of the pool MAIN in the one history of the acts before the last
 unfoldable pub trial_cut : ℕ → ℕ → ℕ → CutView
-trial_cut firms claims seed = cut_of 1 (state_of (replay_of (map call_by_one (acts_before_close firms claims seed)))).ledger Plain
+trial_cut firms claims seed = cut_of 1 (ledger_in (replay_of (map call_by_one (acts_before_close firms claims seed))) main_pool) Plain
     HORIZON_DAY
 
 -- the greatest total that a lawful set-off of the cut has

@@ -1,8 +1,9 @@
-//! The input of a trial: firms, claims that are drawn among them, and a round.
+//! The input of a trial: firms, claims that are drawn among them, and a round, all in the pool MAIN.
 ghost use Rattle.std.specs.Prelude.{◌≡◌, ◌+◌, ◌-◌, ◌*◌, ◌<◌, ◌≤◌, ◌^◌, ◌++◌, ◌∷◌, decimal, true, OnOk, IfOk, vec_capacity};
 ghost use Rattle.setoff_model.specs.declared.limits.TheConstants.{MOST_CLAIMS, MOST_FIRMS};
 ghost use Rattle.setoff_model.specs.Names.{is_letter, is_name};
 ghost use Rattle.claim_history.specs.Acts.{is_claim_amount, is_key, is_request};
+ghost use Rattle.claim_history.specs.Pools.{main_pool};
 ghost use Rattle.claim_history.specs.declared.act.Act.TheVariants as acts;
 ghost use Rattle.request_text.specs.Grammar.{request_line};
 ghost use Rattle.trial_round.specs.Input.{claim_acts, claim_cents, claim_key, close_act, debtor_place};
@@ -11,7 +12,7 @@ ghost use Rattle.trial_round.specs.Trial.{IsTrialSize, trial_batch};
 
 use crate::days::{DUE_DAY, HORIZON_DAY};
 use crate::draws::Draws;
-use claim_history::{Act, Day};
+use claim_history::{Act, Day, main_pool_name};
 use request_text::{
     Batch, RequestError, read_requests, write_request, written_requests_are_read_back,
 };
@@ -38,13 +39,13 @@ fn numbered_name(room: &mut Vec<u8>, letter: u8, number: u32) -> Name
     }
 }
 
-// Writes the line of an act that lane 1 is asked for.
+// Writes the line of an act that lane 1 is asked for in the pool MAIN.
 fn write_line(text: &mut Vec<u8>, act: &Act) -> Result<(), AllocError>
     requires { is_request act.now ≡ true }
-    ensures { OnOk result (text.new.items ≡ text.old.items ++ request_line 1 act.now) }
+    ensures { OnOk result (text.new.items ≡ text.old.items ++ request_line 1 main_pool act.now) }
 {
     text.reserve(LINE_BYTES)?;
-    write_request(text, 1, act);
+    write_request(text, 1, &main_pool_name(), act);
     Ok(())
 }
 
@@ -116,8 +117,8 @@ fn write_filed(text: &mut Vec<u8>, claim: DrawnClaim) -> Result<(), AllocError>
     requires key { is_key claim.key ≡ true }
     requires debtor { is_name claim.debtor ≡ true }
     requires amount { is_claim_amount claim.amount ≡ true }
-    ensures { OnOk result (text.new.items ≡ text.old.items ++ request_line 1 (acts.File claim.key claim.debtor claim.amount DUE_DAY)
-        ++ request_line 1 (acts.Confirm claim.key claim.debtor)) }
+    ensures { OnOk result (text.new.items ≡ text.old.items ++ request_line 1 main_pool (acts.File claim.key claim.debtor claim.amount DUE_DAY)
+        ++ request_line 1 main_pool (acts.Confirm claim.key claim.debtor)) }
 {
     let Some(due) = Day::of_number(DUE_DAY) else {
         unreachable!()
@@ -186,7 +187,7 @@ fn write_claims(
 
 // Closes a plain round.
 fn write_close(text: &mut Vec<u8>) -> Result<(), AllocError>
-    ensures { OnOk result (text.new.items ≡ text.old.items ++ request_line 1 close_act) }
+    ensures { OnOk result (text.new.items ≡ text.old.items ++ request_line 1 main_pool close_act) }
 {
     let Some(horizon) = Day::of_number(HORIZON_DAY) else {
         unreachable!()

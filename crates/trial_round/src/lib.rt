@@ -1,8 +1,8 @@
 //! A trial: a large round that is drawn from a number.
 //!
-//! Firms are registered, and claims among them are drawn, filed and confirmed; then a plain round is closed. The drawn lines are
-//! served as any input is: as one batch, by a lane on a desk, whose disk is in memory. What was published is judged by the checker,
-//! and one line tells of the round's cut and its total.
+//! Firms are registered, and claims among them are drawn, filed and confirmed; then a plain round is closed, all in the pool MAIN.
+//! The drawn lines are served as any input is: as one batch, by a lane on a desk, whose disk is in memory. What was published is
+//! judged by the checker, and one line tells of the round's cut and its total.
 //!
 //! The draws are a linear congruential generator of 32 bits, x * 1664525 + 1013904223, of which a draw takes the first 16.
 #![tactic(auto)]

@@ -2,8 +2,7 @@
 ghost use Rattle.std.specs.Prelude.{◌≡◌, [], IfOk};
 ghost use Rattle.setoff_model.specs.CutView.{WellFormed, obligations};
 ghost use Rattle.setoff_model.specs.Setoff.{Proves};
-ghost use Rattle.claim_history.specs.History.{AreValid, IsLegal};
-ghost use Rattle.claim_history.specs.Rounds.{cuts_after};
+ghost use Rattle.claim_history.specs.PoolRounds.{cuts_after};
 ghost use Rattle.served_lines.specs.Served.{IsServed};
 ghost use Rattle.trial_round.specs.Trial.{AreSums, IsTrialSize, trial_batch, trial_cut};
 ghost use Rattle.trial_round.specs.Round.{EndsWith, HasRound, HasServedAlone};
@@ -11,7 +10,10 @@ ghost use Rattle.trial_round.specs.Opening.{IsWant};
 
 use crate::input::trial_batch;
 use bureau_desk::{Desk, DeskCause, DeskRefused};
-use claim_history::{Act, Entry, publications_are_greatest};
+use claim_book::Books;
+use claim_history::{
+    Act, Entry, each_pool_has_its_history, main_pool_name, publications_are_greatest,
+};
 use disk_model::MemoryDisk;
 use lane_runner::{BatchEnd, Unhindered, run_batch};
 use level_solver::LevelSolver;
@@ -32,7 +34,7 @@ pub struct Sums {
     pub total: u64,
 }
 
-// The outcome of the publication that a history ends with.
+// The outcome of the publication that the entries of a pool end with.
 fn last_outcome(history: &[Entry]) -> &Outcome
     requires { (outcome : _) × EndsWith history.now outcome }
     ensures { EndsWith history.now result.now }
@@ -86,15 +88,12 @@ fn open_desk(alloc: Global) -> Result<Desk<MemoryDisk>, AllocError>
 {
     let disk = MemoryDisk::new(alloc, Vec::new(alloc), Vec::new(alloc));
     match Desk::open(alloc, disk) {
-        Ok(desk) => {
-            let _book = desk.book();
-            Ok(desk)
-        }
+        Ok(desk) => Ok(desk),
         Err(DeskRefused { disk: _, cause }) => Err(opening_error(cause)),
     }
 }
 
-// What the round of a trial came to, which its history ends with. The one error is want of memory.
+// What the round of a trial came to, which the entries of its pool end with. The one error is want of memory.
 fn sums_of_round(
     alloc: Global,
     firms: u32,
@@ -117,24 +116,25 @@ fn judge(
     claims: u32,
     seed: u32,
     answers: &[Answer],
-    history: &[Entry],
+    books: &Books,
     rounds: &[Cut],
 ) -> Result<Sums, AllocError>
     requires size { IsTrialSize firms claims }
-    requires served { IsServed (trial_batch firms claims seed) answers.now [] history.now }
-    requires legal { IsLegal history.now }
-    requires valid { AreValid history.now }
-    requires rounds { rounds.now ≡ cuts_after 0 history.now }
+    requires served { IsServed (trial_batch firms claims seed) answers.now [] books.now.members }
+    requires rounds { rounds.now ≡ cuts_after 0 books.now.members }
 
     // What it came to.
     ensures { IfOk result (λ sums. AreSums (trial_cut firms claims seed) sums.claims sums.parties sums.total) }
 {
+    each_pool_has_its_history();
     publications_are_greatest();
     cut_of_a_history_is_of_its_facts();
     no_line_is_full_within_the_bound();
-    if some_memory(answers) || some_device(history) {
+    let _len = books.len();
+    if some_memory(answers) || some_device(books, 0) {
         return Err(AllocError);
     }
+    let history = books.book(&main_pool_name()).history();
     sums_of_round(alloc, firms, claims, seed, history, rounds)
 }
 
@@ -173,9 +173,9 @@ fn judge_end(
 {
     match &end.answers {
         Some(answers) => {
-            let history = end.desk.book().history();
+            let books = end.desk.books();
             let rounds = end.desk.rounds();
-            judge(alloc, firms, claims, seed, answers.list(), history, rounds)
+            judge(alloc, firms, claims, seed, answers.list(), books, rounds)
         }
         None => Err(AllocError),
     }

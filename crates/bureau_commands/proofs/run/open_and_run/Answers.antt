@@ -3,7 +3,7 @@ use Rattle.std.specs.Io.KnownBytes.{Appends}
 use Rattle.std.proofs.Common.{◌≡◌, ◌∙◌, ◌≤◌, [], ℕ, List, length, ap, refl, subst, sym, arith}
 use Rattle.bureau_edge.specs.Streams.{AppendsPart}
 use Rattle.fault_count.proofs.Rising.{risen_within}
-use Rattle.claim_history.specs.Rounds.{cuts_after}
+use Rattle.claim_history.specs.PoolRounds.{cuts_after}
 use Rattle.printed_text.specs.declared.exit_status.ExitStatus.TheVariants as statuses
 use Rattle.printed_text.specs.Texts.{memory_text}
 use Rattle.bureau_reports.specs.DiskTexts.{opening_status, opening_text}
@@ -45,7 +45,7 @@ returns-in-Err-clause-wrote g c =
 pub returns-in-Err-clause-write_fault : goal.returns-in-Err-clause-write_fault
 returns-in-Err-clause-write_fault g c = c.tell_refused.ensures.write_fault
 
--- ---- the abandonment's line
+-- ---- the lines of the abandonments
 
 pub print_added-requires-clause-from : goal.print_added-requires-clause-from
 print_added-requires-clause-from g c = subst (λ (n : ℕ). n ≤ length c.in-Ok-open.desk.history) (sym c.opened_with-from.ensures) (begun_few g.D.Disk.seen c.args.disk c.in-Ok-open.desk c.in-Ok-open.ensures.ok)

@@ -29,7 +29,7 @@ returns-in_default-clause-disk_fault g c = journal_rose _ _ _ _ _ _ _ _ (returns
 
 pub returns-in-Ok-view-clause-wrote : goal.returns-in-Ok-view-clause-wrote
 returns-in-Ok-view-clause-wrote g c =
-    wrote_for _ (IsJournalDue c.args.report _ _ _ _) _ _ _ (book_due c.args.report _ _ _ _ c.in-Ok-view.book.history c.in-Ok-view.ensures.ok) c.print_book-status.ensures.wrote
+    wrote_for _ (IsJournalDue c.args.report _ _ _ _) _ _ _ (book_due c.args.report _ _ _ _ c.in-Ok-view.books.members c.in-Ok-view.ensures.ok) c.print_books-status.ensures.wrote
 
 pub returns-in-Ok-view-clause-among : goal.returns-in-Ok-view-clause-among
 returns-in-Ok-view-clause-among g c = journal_among _ _ _ _ _ _ _ _ (returns-in-Ok-view-clause-wrote g c)
@@ -38,7 +38,7 @@ pub returns-in-Ok-view-clause-quiet : goal.returns-in-Ok-view-clause-quiet
 returns-in-Ok-view-clause-quiet g c = c.view.ensures.quiet
 
 pub returns-in-Ok-view-clause-write_fault : goal.returns-in-Ok-view-clause-write_fault
-returns-in-Ok-view-clause-write_fault g c = c.print_book-status.ensures.write_fault
+returns-in-Ok-view-clause-write_fault g c = c.print_books-status.ensures.write_fault
 
 pub returns-in-Ok-view-clause-disk_fault : goal.returns-in-Ok-view-clause-disk_fault
 returns-in-Ok-view-clause-disk_fault g c = journal_rose _ _ _ _ _ _ _ _ (returns-in-Ok-view-clause-wrote g c)

@@ -1,13 +1,14 @@
 use Rattle.std.proofs.Common.{◌∷◌, [], ◌∙◌, ap, codes}
 use Rattle.std.proofs.lemmas.Result.{IfOk-weaker}
-use Rattle.command_words.specs.Program.{knowing, trial_values, value, weigh_values}
+use Rattle.command_words.specs.Program.{choice, knowing, notices_values, trial_values, value, weigh_values}
 use Rattle.command_words.proofs.program.with_values.Goals as goal
 
 pub returns : goal.returns
 returns c = record {
   shape = λ plain_is.
-      let notices = c.in_ok-known.ensures.shape ∙ ap (knowing (codes "notices") (value (codes "DATE") ∷ [])) plain_is in
-      let import = c.in_ok-known-2.ensures.shape ∙ ap (knowing (codes "import") (value (codes "LANE") ∷ [])) notices in
-      let weigh = c.in_ok-known-3.ensures.shape ∙ ap (knowing (codes "weigh") weigh_values) import in
+      let positions = c.in_ok-known.ensures.shape ∙ ap (knowing (codes "positions") (choice (codes "POOL") ∷ [])) plain_is in
+      let notices = c.in_ok-known-2.ensures.shape ∙ ap (knowing (codes "notices") notices_values) positions in
+      let import = c.in_ok-known-3.ensures.shape ∙ ap (knowing (codes "import") (value (codes "LANE") ∷ [])) notices in
+      let weigh = c.in_ok-known-4.ensures.shape ∙ ap (knowing (codes "weigh") weigh_values) import in
       IfOk-weaker c.with_trial.result _ _ (λ r adds. adds ∙ ap (knowing (codes "trial") trial_values) weigh) c.with_trial.ensures.shape;
 }

@@ -1,20 +1,23 @@
-use Rattle.std.proofs.Common.{List, ◌≤◌, sym, ap, subst, ◌∙◌}
-use Rattle.claim_history.specs.declared.act.Act.TheVariants as act
-use Rattle.claim_history.specs.declared.entry.Entry.{Entry}
-use Rattle.claim_history.specs.States.{state_of}
-use Rattle.claim_book.specs.Book.{BookView, room_for}
+use Rattle.std.proofs.Common.{◌≡◌, ◌≤◌, ◌++◌, ◌∷◌, [], List, sym, ap, subst, ◌∙◌}
+use Rattle.claim_history.specs.declared.call.PoolEntry.{PoolEntry}
+use Rattle.claim_history.specs.Pools.{IsLegal, answered, state_in}
+use Rattle.claim_book.specs.Book.{room_for}
+use Rattle.claim_book.specs.Pools.{BooksView, room_in}
 use Rattle.claim_book.proofs.Kept.{needed_by_any}
 use Rattle.journal_replay.proofs.Replays.{published_so}
 use Rattle.journal_replay.proofs.replaying.replay_publication.Goals as goal
 
 pub apply_publish-cut-requires-clause-room : goal.apply_publish-cut-requires-clause-room
 apply_publish-cut-requires-clause-room c =
-    let fits = c.in_ok-reserve.ensures.room in
-    needed_by_any (state_of c.reserve.new.self.history) c.args.caller (act.Publish c.args.round c.args.outcome) c.reserve.new.self.room
-    (subst (λ (h : List Entry). room_for (state_of h) (act.Publish c.args.round c.args.outcome) ≤ c.reserve.new.self.room) (sym c.reserve.ensures.history) fits)
+    let room : room_for (state_in c.reserve.new.self.members c.args.call.pool) c.args.call.act ≤ room_in c.args.call.pool c.reserve.new.self.rooms =
+    subst (λ (ms : List PoolEntry). room_for (state_in ms c.args.call.pool) c.args.call.act ≤ room_in c.args.call.pool c.reserve.new.self.rooms) (sym c.reserve.ensures.members) c.in_ok-reserve.ensures.room in
+    needed_by_any (state_in c.reserve.new.self.members c.args.call.pool) c.args.call.caller c.args.call.act (room_in c.args.call.pool c.reserve.new.self.rooms) room
 
 pub returns-clause-done : goal.returns-clause-done
 returns-clause-done c =
-    published_so c.book-known.result.now.history c.args.book.now.history c.reserve.new.self.history c.apply_publish-cut.new.self.history c.args.caller c.args.round c.args.outcome c.in_ok-reply.reply
-    c.apply_publish-cut.ensures.history c.reserve.ensures.history (ap (λ (b : BookView). b.history) c.book-known.ensures.book) c.history-history.ensures.legal c.in_ok-reply.ensures
-    (sym c.accepts.ensures ∙ c.if-not-accepts.false) c.book-known.ensures.within
+    let known : c.books-known.result.now.members ≡ c.args.books.now.members = ap (λ (b : BooksView). b.members) c.books-known.ensures.books in
+    let legal : IsLegal c.args.books.now.members = subst IsLegal known c.len-len.ensures.legal in
+    published_so c.args.books.now.members c.apply_publish-cut.new.self.members c.args.call c.in_ok-reply.reply
+    (c.apply_publish-cut.ensures.members ∙ ap (λ (ms : List PoolEntry). ms ++ answered c.args.call c.in_ok-reply.reply ∷ []) c.reserve.ensures.members)
+    legal c.requires.publishes c.in_ok-reply.ensures
+    (sym c.accepts.ensures ∙ c.if-not-accepts.false) c.books-known.ensures.within

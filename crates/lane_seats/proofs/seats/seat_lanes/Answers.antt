@@ -2,7 +2,7 @@ use Rattle.bureau_desk.specs.declared.base.DeskBase.{DeskBase}
 use Rattle.std.proofs.Common.{◌≡◌, ◌∙◌, ◌+◌, ◌-◌, ◌≤◌, ℕ, [], ◌∷◌, ◌++◌, length, vec_capacity, ap, sym, subst, arith, length-append}
 use Rattle.std.specs.Prelude.{Vec}
 use Rattle.std.specs.declared.alloc.Global.{Global}
-use Rattle.claim_history.specs.declared.entry.Entry.{Entry}
+use Rattle.claim_history.specs.declared.call.PoolEntry.{PoolEntry}
 use Rattle.turn_lock.specs.declared.view.View.{View}
 use Rattle.turn_lock.specs.Turns.{EachOf}
 use Rattle.turn_lock.specs.Seats.{number, registrar_view}
@@ -35,8 +35,8 @@ loop-ends-preserved g c =
     let fresh : IsNewLane c.args.shared.now.turn (registrar_view c.args.registrar.now).opened rs (length lanes) lane = record {
       seat = record {
         number_is = number_is;
-        opened_is = ap (λ (v : View Entry (DeskBase g.row.D.Denot)). v.opened) c.caller-seat.ensures.seat.2 ∙ inv.made.opened_is;
-        none = ap (λ (v : View Entry (DeskBase g.row.D.Denot)). v.history.own) c.caller-seat.ensures.seat.2;
+        opened_is = ap (λ (v : View PoolEntry (DeskBase g.row.D.Denot)). v.opened) c.caller-seat.ensures.seat.2 ∙ inv.made.opened_is;
+        none = ap (λ (v : View PoolEntry (DeskBase g.row.D.Denot)). v.history.own) c.caller-seat.ensures.seat.2;
       };
       fit = record { ready = c.caller-seat.ensures.ready; fresh = last.0; room = subst (λ (n : ℕ). length (of_lane n rs) ≤ vec_capacity ends) place_is last.1 };
     } in
@@ -45,9 +45,9 @@ loop-ends-preserved g c =
       made = record {
         same = known.0 ∙ inv.made.same;
         made_is = omega (arith, known.1, inv.made.made_is, ap length c.push_reserved.ensures.items, length-append lanes (lane ∷ []));
-        seen = ap (λ (v : View Entry (DeskBase g.row.D.Denot)). v.history.seen) known.2 ∙ inv.made.seen;
-        opened_is = ap (λ (v : View Entry (DeskBase g.row.D.Denot)). v.opened) known.2 ∙ inv.made.opened_is;
-        base_is = ap (λ (v : View Entry (DeskBase g.row.D.Denot)). v.base) known.2 ∙ inv.made.base_is;
+        seen = ap (λ (v : View PoolEntry (DeskBase g.row.D.Denot)). v.history.seen) known.2 ∙ inv.made.seen;
+        opened_is = ap (λ (v : View PoolEntry (DeskBase g.row.D.Denot)). v.opened) known.2 ∙ inv.made.opened_is;
+        base_is = ap (λ (v : View PoolEntry (DeskBase g.row.D.Denot)). v.base) known.2 ∙ inv.made.base_is;
       };
       all = omega (arith, count, ap length c.push_reserved.ensures.items, length-append lanes (lane ∷ []));
       places = each_front P left ends old;

@@ -1,4 +1,5 @@
 use Rattle.std.specs.Prelude.{slice_get}
+use Rattle.claim_history.specs.Pools.{member_of}
 use Rattle.entry_text.specs.Entries.{entry_line}
 use Rattle.printed_text.specs.Printing.{statement_of}
 use Rattle.setoff_model.proofs.Lists.{on_err}
@@ -10,17 +11,20 @@ use Rattle.printed_text.proofs.output.print_answer.Goals as goal
 pub returns-in_err-print_entry-clause-part : goal.returns-in_err-print_entry-clause-part
 returns-in_err-print_entry-clause-part g c =
     let e = c.args.entry.now in
+    let line = entry_line (member_of c.args.pool.now e) in
     let statement = statement_of (slice_get c.args.rounds.now c.args.next) e.act e.reply in
-    on_err _ _ (breaks_at_first (g.K.Sink.held c.args.sink.now) (g.K.Sink.held c.print_entry.new.sink) c.args.buffer.now.items (entry_line e) statement (entry_line e ++ statement) refl c.in_err-print_entry.ensures.part)
+    on_err _ _ (breaks_at_first (g.K.Sink.held c.args.sink.now) (g.K.Sink.held c.print_entry.new.sink) c.args.buffer.now.items line statement (line ++ statement) refl c.in_err-print_entry.ensures.part)
 
 pub returns-clause-ok : goal.returns-clause-ok
 returns-clause-ok g c =
     let e = c.args.entry.now in
+    let line = entry_line (member_of c.args.pool.now e) in
     let statement = statement_of (slice_get c.args.rounds.now c.args.next) e.act e.reply in
-    on_ok_if c.print_publication.result _ _ (λ h. pass_then (g.K.Sink.held c.args.sink.now) (g.K.Sink.held c.print_entry.new.sink) (g.K.Sink.held c.print_publication.new.sink) c.args.buffer.now.items c.print_entry.new.buffer.items c.print_publication.new.buffer.items (entry_line e) statement c.in_ok-print_entry.ensures.ok h) c.print_publication.ensures.ok
+    on_ok_if c.print_publication.result _ _ (λ h. pass_then (g.K.Sink.held c.args.sink.now) (g.K.Sink.held c.print_entry.new.sink) (g.K.Sink.held c.print_publication.new.sink) c.args.buffer.now.items c.print_entry.new.buffer.items c.print_publication.new.buffer.items line statement c.in_ok-print_entry.ensures.ok h) c.print_publication.ensures.ok
 
 pub returns-clause-part : goal.returns-clause-part
 returns-clause-part g c =
     let e = c.args.entry.now in
+    let line = entry_line (member_of c.args.pool.now e) in
     let statement = statement_of (slice_get c.args.rounds.now c.args.next) e.act e.reply in
-    on_err_if c.print_publication.result _ _ (λ h. part_then (g.K.Sink.held c.args.sink.now) (g.K.Sink.held c.print_entry.new.sink) (g.K.Sink.held c.print_publication.new.sink) c.args.buffer.now.items c.print_entry.new.buffer.items (entry_line e) statement c.in_ok-print_entry.ensures.ok h) c.print_publication.ensures.part
+    on_err_if c.print_publication.result _ _ (λ h. part_then (g.K.Sink.held c.args.sink.now) (g.K.Sink.held c.print_entry.new.sink) (g.K.Sink.held c.print_publication.new.sink) c.args.buffer.now.items c.print_entry.new.buffer.items line statement c.in_ok-print_entry.ensures.ok h) c.print_publication.ensures.part

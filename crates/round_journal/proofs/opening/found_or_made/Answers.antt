@@ -1,4 +1,5 @@
-use Rattle.std.proofs.Common.{◌≤◌, ℕ, List, length, None, false, sym, subst}
+use Rattle.std.proofs.Common.{◌≤◌, ℕ, List, length, None, false, inr, refl, sym, subst}
+use Rattle.round_journal.specs.Bytes.Header.{second}
 use Rattle.round_journal.specs.Kept.{IsKeptAt}
 use Rattle.round_journal.specs.Records.{bodies_of}
 use Rattle.round_journal.specs.declared.record.Record.{Record}
@@ -12,9 +13,12 @@ returns-clause-found g c =
 
 pub returns-clause-kept : goal.returns-clause-kept
 returns-clause-kept g c synced =
-    let none = rw c.in_default.is at c.in_ok-scan.ensures in
-    subst (λ (rs : List Record). IsKeptAt (g.D.Disk.seen c.create.new.disk) 8 false (bodies_of rs) None) (sym c.new.ensures.items)
-    (c.in_ok-create.ensures.done synced.tells (subst (λ (f : List ℕ). length f ≤ 9) synced.read none.0))
+    let none = rw c.in_default.is at c.in_ok-scan.ensures in (
+      second,
+      inr (none.1, refl),
+      subst (λ (rs : List Record). IsKeptAt (g.D.Disk.seen c.create.new.disk) 8 false second (bodies_of rs) None) (sym c.new.ensures.items)
+          (c.in_ok-create.ensures.done synced.tells (subst (λ (f : List ℕ). length f ≤ 9) synced.read none.0)),
+    )
 
 pub returns-clause-crash : goal.returns-clause-crash
 returns-clause-crash g c =

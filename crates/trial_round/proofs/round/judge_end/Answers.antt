@@ -1,8 +1,7 @@
 use Rattle.std.specs.Prelude.{Option, Some, MatchOption}
 use Rattle.std.proofs.Common.{◌≡◌, ◌∙◌, List, [], ap, sym, subst}
-use Rattle.claim_history.specs.declared.entry.Entry.{Entry}
-use Rattle.claim_history.specs.History.{AreValid, IsLegal}
-use Rattle.claim_history.specs.Rounds.{cuts_after}
+use Rattle.claim_history.specs.declared.call.PoolEntry.{PoolEntry}
+use Rattle.claim_history.specs.PoolRounds.{cuts_after}
 use Rattle.served_lines.specs.declared.answer.Answer.{Answer}
 use Rattle.served_lines.specs.Served.{IsServed}
 use Rattle.trial_round.specs.Trial.{trial_batch}
@@ -17,16 +16,9 @@ judge-requires-clause-size c = c.requires.size
 pub judge-requires-clause-served : goal.judge-requires-clause-served
 judge-requires-clause-served c =
     let batch = trial_batch c.args.firms c.args.claims c.args.seed in
-    let is : c.history-history.result.now ≡ c.args.end.now.desk.history = c.history-history.ensures.entries ∙ c.book.ensures.history in
-    subst (IsServed batch c.list.result.now []) (sym is)
+    subst (IsServed batch c.list.result.now []) (sym c.books-books.ensures.history)
     (asked (λ (list : List Answer). IsServed batch list [] c.args.end.now.desk.history) c.args.end.now.answers _ c.list.result.now c.in-Some.is c.list.ensures c.requires.served.served)
-
-pub judge-requires-clause-legal : goal.judge-requires-clause-legal
-judge-requires-clause-legal c = subst IsLegal (sym (c.history-history.ensures.entries ∙ c.book.ensures.history)) c.book.ensures.keeps.legal
-
-pub judge-requires-clause-valid : goal.judge-requires-clause-valid
-judge-requires-clause-valid c = subst AreValid (sym (c.history-history.ensures.entries ∙ c.book.ensures.history)) c.book.ensures.keeps.valid
 
 pub judge-requires-clause-rounds : goal.judge-requires-clause-rounds
 judge-requires-clause-rounds c =
-    c.rounds-rounds.ensures ∙ c.requires.served.rounds ∙ sym (ap (λ (l : List Entry). cuts_after 0 l) (c.history-history.ensures.entries ∙ c.book.ensures.history))
+    c.rounds-rounds.ensures ∙ c.requires.served.rounds ∙ sym (ap (λ (l : List PoolEntry). cuts_after 0 l) c.books-books.ensures.history)

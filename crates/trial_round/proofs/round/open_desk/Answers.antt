@@ -6,7 +6,7 @@ use Rattle.trial_round.proofs.round.open_desk.Goals as goal
 
 pub returns-in-Ok : goal.returns-in-Ok
 returns-in-Ok c =
-    opened_empty seen_of c.new-disk.result c.in-Ok.desk c.in-Ok.ensures.ok refl (ap (λ (s : MemoryState). s.bytes) c.new-disk.ensures ∙ c.new.ensures.items) c.book-book.ensures.keeps.legal
+    opened_empty seen_of c.new-disk.result c.in-Ok.desk c.in-Ok.ensures.ok refl (ap (λ (s : MemoryState). s.bytes) c.new-disk.ensures ∙ c.new.ensures.items)
 
 pub opening_error-requires : goal.opening_error-requires
 opening_error-requires c =

@@ -1,7 +1,7 @@
 use Rattle.std.proofs.Common.{sym, ap, subst, arith}
 use Rattle.claim_history.specs.History.{MayFollow}
 use Rattle.claim_book.specs.Book.{BookView}
-use Rattle.claim_book.proofs.Books.{may_stand, are_accounts, book_grows}
+use Rattle.claim_book.proofs.Parts.{may_stand, are_accounts, book_grows}
 use Rattle.claim_book.proofs.Kept.{keeps_room}
 use Rattle.claim_book.proofs.book.Book.apply.Goals as goal
 

@@ -6,7 +6,7 @@ use Rattle.claim_history.specs.declared.act.Act.TheVariants as act
 use Rattle.claim_history.specs.Cut.{cut_of}
 use Rattle.claim_history.specs.States.{state_of}
 use Rattle.claim_book.specs.Book.{BookView, ledger_of}
-use Rattle.claim_book.proofs.Books.{is_close, close_grows}
+use Rattle.claim_book.proofs.Parts.{is_close, close_grows}
 use Rattle.claim_book.proofs.book.Book.apply_close.Goals as goal
 
 pub horizon_of-horizon-requires : goal.horizon_of-horizon-requires
