@@ -15,10 +15,10 @@ use Rattle.claim_history.specs.declared.act.Act.{Act}
 use Rattle.claim_history.specs.declared.act.Act.TheVariants as act
 use Rattle.claim_history.specs.declared.call.Call.{Call}
 use Rattle.claim_history.specs.Pools.{is_main, main_pool}
-use Rattle.claim_history.specs.Acts.{is_valid, is_key, is_amount, is_claim_amount, is_day, is_round, is_outcome}
+use Rattle.claim_history.specs.Acts.{is_valid, is_key, is_amount, is_claim_amount, is_agreed, is_day, is_round, is_outcome}
 use Rattle.act_bodies.specs.Bodies.{four, eight, name_bytes, key_bytes, outcome_bytes, pool_mark, called, fields_of, body_of, is_keepable}
 use Rattle.act_bodies.specs.Laws.{OneCallLaw}
-use Rattle.act_bodies.specs.Reading.{◌>>=◌, both_at, made_at, number_at, name_at, day_at, kind_at, key_at, claim_at, account_at, outcome_at, firm_at, file_at, confirm_at, dispute_at, withdraw_at, receive_at, fund_at, draw_at, limit_at, offer_at, position_at, close_at, publish_at, fields_at, act_at, other_pool, pool_at, call_at}
+use Rattle.act_bodies.specs.Reading.{◌>>=◌, both_at, made_at, number_at, name_at, day_at, kind_at, key_at, claim_at, account_at, outcome_at, firm_at, file_at, confirm_at, agree_at, dispute_at, withdraw_at, receive_at, fund_at, draw_at, limit_at, offer_at, position_at, close_at, publish_at, fields_at, act_at, other_pool, pool_at, call_at}
 use Rattle.act_bodies.proofs.Keepable.{caller_fits, pool_named, act_valid}
 use Rattle.act_bodies.proofs.Readers.{IsBytes, IsBytes-rest, bind_some, given, past, some_is, Takes, then as joined, IsField, field32, field64, both_field}
 use Rattle.act_bodies.proofs.Values.{passed, made_again, Named, name_field, Dated, day_field, kind_bytes, AnyKind, kind_field, HasNames, key_field, claim_bytes, IsClaim, claim_field, IsMoney, account_bytes, IsAccount, account_field, HasLists, outcome_field, near_stored, IsStored}
@@ -53,6 +53,10 @@ file_takes = made_takes _ _ _ file_field 2 _ (λ x. refl)
 confirm_takes : TakesAct 3 confirm_at
 unfolding confirm_at fields_of
 confirm_takes = made_takes claim_bytes IsClaim claim_at claim_field 3 _ (λ x. refl)
+
+agree_takes : TakesAct 16 agree_at
+unfolding agree_at fields_of
+agree_takes = made_takes _ _ _ terms_field 16 _ (λ x. refl)
 
 dispute_takes : TakesAct 4 dispute_at
 unfolding dispute_at fields_of
@@ -136,7 +140,8 @@ fields_take tag bytes a rest fits e =
     (λ e. step tag 7 fund_at _ bytes a rest fits fund_takes (λ e. step tag 8 draw_at _ bytes a rest fits draw_takes
     (λ e. step tag 9 limit_at _ bytes a rest fits limit_takes (λ e. step tag 10 offer_at _ bytes a rest fits offer_takes
     (λ e. step tag 11 position_at _ bytes a rest fits position_takes (λ e. step tag 12 close_at _ bytes a rest fits close_takes
-    (λ e. step tag 13 abandon_at _ bytes a rest fits abandon_takes (λ e. absurd cc) e) e) e) e) e) e) e) e) e) e) e) e) e
+    (λ e. step tag 13 abandon_at _ bytes a rest fits abandon_takes (λ e. step tag 16 agree_at _ bytes a rest fits agree_takes
+    (λ e. absurd cc) e) e) e) e) e) e) e) e) e) e) e) e) e) e
 
 pub act_takes : (bytes : List ℕ) (a : Act) (rest : List ℕ) → IsBytes bytes → act_at bytes ≡ Some (a, rest) → Takes bytes (fields_of a) rest
 unfolding act_at
@@ -191,13 +196,17 @@ lists outcome h =
     ((omega arith, monies outcome.discharges cents.1), (omega arith, stored (length outcome.prices) n outcome.prices near.1))
 
 pub act_again : (a : Act) (rest : List ℕ) → is_valid a ≡ true → act_at (fields_of a ++ rest) ≡ Some (a, rest)
-unfolding fields_of act_at fields_at firm_at file_at confirm_at dispute_at withdraw_at receive_at fund_at draw_at limit_at offer_at position_at close_at publish_at
+unfolding fields_of act_at fields_at firm_at file_at confirm_at agree_at dispute_at withdraw_at receive_at fund_at draw_at limit_at offer_at position_at close_at publish_at
 act_again (act.Firm firm) rest h = made_again name_bytes Named name_at name_field (λ f. act.Firm f) firm rest h
 act_again (act.File key debtor amount due) rest h =
     let dated = and_parts (is_key key && is_name debtor && is_claim_amount amount) (is_day due) h in
     let paid = and_parts (is_key key && is_name debtor) (is_claim_amount amount) dated.0 in
     made_again _ _ _ file_field (λ (((k, d), c), u). act.File k d c u) (((key, debtor), amount), due) rest ((claim key debtor paid.0, claim_money amount paid.1), dated.1)
-act_again (act.Confirm key debtor) rest h = made_again claim_bytes IsClaim claim_at claim_field (λ (k, d). act.Confirm k d) (key, debtor) rest (claim key debtor h)
+act_again (act.Confirm key debtor None) rest h =
+    made_again claim_bytes IsClaim claim_at claim_field (λ (k, d). act.Confirm k d None) (key, debtor) rest (claim key debtor (and_parts (is_key key && is_name debtor) (is_agreed None) h).0)
+act_again (act.Confirm key debtor (Some agreed)) rest h =
+    let paid = and_parts (is_key key && is_name debtor) (is_claim_amount agreed) h in
+    made_again _ _ _ terms_field (λ ((k, d), c). act.Confirm k d (Some c)) ((key, debtor), agreed) rest (claim key debtor paid.0, claim_money agreed paid.1)
 act_again (act.Dispute key debtor) rest h = made_again claim_bytes IsClaim claim_at claim_field (λ (k, d). act.Dispute k d) (key, debtor) rest (claim key debtor h)
 act_again (act.Withdraw key) rest h = made_again key_bytes HasNames key_at key_field (λ k. act.Withdraw k) key rest (names key h)
 act_again (act.Receive key amount) rest h =
@@ -244,7 +253,8 @@ no_pool : (a : Act) → pool_at (fields_of a) ≡ Some (main_pool, fields_of a)
 unfolding pool_at fields_of
 no_pool (act.Firm firm) = refl
 no_pool (act.File key debtor amount due) = refl
-no_pool (act.Confirm key debtor) = refl
+no_pool (act.Confirm key debtor None) = refl
+no_pool (act.Confirm key debtor (Some agreed)) = refl
 no_pool (act.Dispute key debtor) = refl
 no_pool (act.Withdraw key) = refl
 no_pool (act.Receive key amount) = refl

@@ -3,6 +3,7 @@ ghost use Rattle.std.specs.Prelude.{◌≡◌, ◌+◌, ◌*◌, ◌≤◌, ◌<
 ghost use Rattle.std.specs.List.{flat_map};
 ghost use Rattle.setoff_model.specs.declared.limits.TheConstants.{MOST_CLAIMS, MOST_FIRMS};
 ghost use Rattle.setoff_model.specs.declared.kind.Kind.{Kind};
+ghost use Rattle.claim_history.specs.declared.act.Act.TheVariants as act;
 ghost use Rattle.claim_history.specs.Acts.{is_valid};
 ghost use Rattle.claim_history.specs.Needs.{body_length_of};
 ghost use Rattle.claim_history.specs.PoolNeeds.{pool_bytes};
@@ -57,7 +58,11 @@ fn put_act(buffer: &mut Vec<u8>, act: &Act)
             amount,
             due,
         } => put_file(buffer, key, debtor, *amount, due),
-        Act::Confirm { key, debtor } => put_claim(buffer, tag::CONFIRM, key, debtor),
+        Act::Confirm {
+            key,
+            debtor,
+            agreed,
+        } => put_confirm(buffer, key, debtor, *agreed),
         Act::Dispute { key, debtor } => put_claim(buffer, tag::DISPUTE, key, debtor),
         Act::Withdraw { key } => put_key(buffer, tag::WITHDRAW, key),
         Act::Receive { key, amount } => put_receive(buffer, key, *amount),
@@ -149,6 +154,23 @@ fn put_file(buffer: &mut Vec<u8>, key: &Key, debtor: &Name, amount: u64, due: &D
     put_claim(buffer, tag::FILE, key, debtor);
     put_eight(buffer, amount);
     put_four(buffer, due.number());
+}
+
+// A confirmation, with the amount that the debtor agrees to where it names one.
+#[tactic(auto, unfolding(crate::specs::Bodies::fields_of))]
+fn put_confirm(buffer: &mut Vec<u8>, key: &Key, debtor: &Name, agreed: Option<u64>)
+    requires { vec_len buffer.old + body_length_of (act.Confirm key.now debtor.now agreed) ≤ vec_capacity buffer.old + 4 }
+    ensures text { buffer.new.items ≡ buffer.old.items ++ fields_of (act.Confirm key.now debtor.now agreed) }
+    ensures len { vec_len buffer.new + 4 ≡ vec_len buffer.old + body_length_of (act.Confirm key.now debtor.now agreed) }
+    ensures room { vec_capacity buffer.old ≤ vec_capacity buffer.new }
+{
+    match agreed {
+        None => put_claim(buffer, tag::CONFIRM, key, debtor),
+        Some(agreed) => {
+            put_claim(buffer, tag::AGREE, key, debtor);
+            put_eight(buffer, agreed);
+        }
+    }
 }
 
 fn put_receive(buffer: &mut Vec<u8>, key: &Key, amount: u64)

@@ -32,7 +32,20 @@ pub(crate) fn file(key: Key, debtor: Name, amount: u64, due: Day) -> Act {
 }
 
 pub(crate) fn confirm(key: Key, debtor: Name) -> Act {
-    Act::Confirm { key, debtor }
+    Act::Confirm {
+        key,
+        debtor,
+        agreed: None,
+    }
+}
+
+// Confirms a part of a claim.
+pub(crate) fn agree(key: Key, debtor: Name, amount: u64) -> Act {
+    Act::Confirm {
+        key,
+        debtor,
+        agreed: Some(amount),
+    }
 }
 
 pub(crate) fn dispute(key: Key, debtor: Name) -> Act {

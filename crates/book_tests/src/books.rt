@@ -70,14 +70,14 @@ fn limits_of_an_account(rt: HostRuntime) {
 
 // What the acts below are made of: B's claim I-1 against A, due on 31 January 2025.
 #[derive(Clone, Copy)]
-struct Parts {
-    a: Name,
-    b: Name,
-    key: Key,
-    due: Day,
+pub(crate) struct Parts {
+    pub(crate) a: Name,
+    pub(crate) b: Name,
+    pub(crate) key: Key,
+    pub(crate) due: Day,
 }
 
-fn make_parts(rt: &impl Abort) -> Parts {
+pub(crate) fn make_parts(rt: &impl Abort) -> Parts {
     let b = name(rt, b"B");
     Parts {
         a: name(rt, b"A"),
@@ -87,31 +87,43 @@ fn make_parts(rt: &impl Abort) -> Parts {
     }
 }
 
-fn are_registered(rt: &impl Abort, alloc: Global, book: &mut Book, parts: &Parts) {
+pub(crate) fn are_registered(rt: &impl Abort, alloc: Global, book: &mut Book, parts: &Parts) {
     let firms = vec![in alloc; Act::Firm { firm: parts.a }, Act::Firm { firm: parts.b }];
     replies(rt, book, 1, firms.expect(rt, "memory"), &[Reply::Done; 2]);
     assert!(rt; book.claim(&parts.key).is_none() && book.claims().len() == 0);
 }
 
-// What an act is answered, and the status of the claim and what is left of it then.
-type Stage = (Reply, Status, u64);
+// What an act is answered, and the status of the claim, its open amount and its part then.
+pub(crate) type Stage = (Reply, Status, u64, u64);
 
 // The claim goes through these stages.
-fn goes_through(rt: &impl Abort, book: &mut Book, parts: &Parts, acts: Vec<Act>, stages: &[Stage]) {
+pub(crate) fn goes_through(
+    rt: &impl Abort,
+    book: &mut Book,
+    parts: &Parts,
+    acts: Vec<Act>,
+    stages: &[Stage],
+) {
     assert!(rt; acts.len() == stages.len());
-    for (act, (due, status, left)) in acts.into_iter().zip(stages) {
+    for (act, (due, status, left, part)) in acts.into_iter().zip(stages) {
         is_answered(rt, book, 1, act, *due);
-        stands_at(rt, book, &parts.key, *status, *left);
+        stands_at(rt, book, &parts.key, *status, (*left, *part));
     }
 }
 
-// The claim of a key has this status, and this is left of it.
-pub(crate) fn stands_at(rt: &impl Abort, book: &Book, key: &Key, status: Status, left: u64) {
+// The claim of a key has this status, this open amount and this part.
+pub(crate) fn stands_at(
+    rt: &impl Abort,
+    book: &Book,
+    key: &Key,
+    status: Status,
+    amounts: (u64, u64),
+) {
     let claim = book.claim(key).expect(rt, "a claim");
-    assert!(rt; claim.status == status && claim.left == left);
+    assert!(rt; claim.status == status && (claim.left, claim.part) == amounts);
 }
 
-fn is_confirmed_in_part(rt: &impl Abort, alloc: Global, book: &mut Book, parts: &Parts) {
+fn is_received_in_part(rt: &impl Abort, alloc: Global, book: &mut Book, parts: &Parts) {
     let acts = vec![in alloc;
         file(parts.key, parts.a, 1_000, parts.due),
         confirm(parts.key, parts.a),
@@ -119,10 +131,10 @@ fn is_confirmed_in_part(rt: &impl Abort, alloc: Global, book: &mut Book, parts: 
         receive(parts.key, 601),
     ];
     let stages = [
-        (Reply::Done, Status::Filed, 1_000),
-        (Reply::Done, Status::Confirmed, 1_000),
-        (Reply::Done, Status::Confirmed, 600),
-        (Reply::Refused(Why::OverOpen), Status::Confirmed, 600),
+        (Reply::Done, Status::Filed, 1_000, 0),
+        (Reply::Done, Status::Confirmed, 1_000, 1_000),
+        (Reply::Done, Status::Confirmed, 600, 600),
+        (Reply::Refused(Why::OverOpen), Status::Confirmed, 600, 600),
     ];
     goes_through(rt, book, parts, acts.expect(rt, "memory"), &stages);
 }
@@ -146,9 +158,9 @@ fn is_withdrawn(rt: &impl Abort, alloc: Global, book: &mut Book, parts: &Parts) 
         confirm(parts.key, parts.a),
     ];
     let stages = [
-        (Reply::Done, Status::Disputed, 600),
-        (Reply::Done, Status::Withdrawn, 600),
-        (Reply::Refused(Why::WrongState), Status::Withdrawn, 600),
+        (Reply::Done, Status::Disputed, 600, 0),
+        (Reply::Done, Status::Withdrawn, 600, 0),
+        (Reply::Refused(Why::WrongState), Status::Withdrawn, 600, 0),
     ];
     goes_through(rt, book, parts, acts.expect(rt, "memory"), &stages);
     assert!(rt; book.claims().len() == 1 && book.history().len() == 9);
@@ -158,7 +170,7 @@ fn is_withdrawn(rt: &impl Abort, alloc: Global, book: &mut Book, parts: &Parts) 
 fn claim_lives(rt: &impl Abort, alloc: Global, book: &mut Book) {
     let parts = make_parts(rt);
     are_registered(rt, alloc, book, &parts);
-    is_confirmed_in_part(rt, alloc, book, &parts);
+    is_received_in_part(rt, alloc, book, &parts);
     is_owed(rt, book, &parts);
     is_withdrawn(rt, alloc, book, &parts);
 }

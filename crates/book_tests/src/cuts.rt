@@ -93,20 +93,22 @@ fn make_names(rt: &impl Abort) -> Names {
     }
 }
 
+// A confirmed claim with its amount as filed, its open amount and its part.
 fn claim(
     creditor: Name,
     invoice: Name,
     debtor: Name,
-    amount: u64,
-    left: u64,
+    amounts: (u64, u64, u64),
     due: Day,
 ) -> ClaimFact {
+    let (amount, left, part) = amounts;
     ClaimFact {
         key: Key { creditor, invoice },
         debtor,
         status: Status::Confirmed,
         amount,
         left,
+        part,
         due,
     }
 }
@@ -158,9 +160,9 @@ fn the_triangle(rt: HostRuntime) {
         day,
     } = names;
     let claims = [
-        claim(b, i1, a, 1000, 1000, day),
-        claim(c, i2, b, 700, 700, day),
-        claim(a, i3, c, 1200, 1200, day),
+        claim(b, i1, a, (1000, 1000, 1000), day),
+        claim(c, i2, b, (700, 700, 700), day),
+        claim(a, i3, c, (1200, 1200, 1200), day),
     ];
     let due = [
         placed(b, i1, 0, 1, 1000),
@@ -170,7 +172,7 @@ fn the_triangle(rt: HostRuntime) {
     cuts_to(&rt, rt.alloc(), &names, &claims, &due);
 }
 
-// After a round of 7.00 on each claim of the triangle, and B I-4 A 2.00.
+// After a round of 7.00 on each claim of the triangle, and B I-4 A 2.00, of which A agrees to 1.50.
 #[test]
 fn the_triangle_after_a_round(rt: HostRuntime) {
     let names = make_names(&rt);
@@ -182,15 +184,15 @@ fn the_triangle_after_a_round(rt: HostRuntime) {
         day,
     } = names;
     let claims = [
-        claim(b, i1, a, 1000, 300, day),
-        claim(c, i2, b, 700, 0, day),
-        claim(a, i3, c, 1200, 500, day),
-        claim(b, i4, a, 200, 200, day),
+        claim(b, i1, a, (1000, 300, 300), day),
+        claim(c, i2, b, (700, 0, 0), day),
+        claim(a, i3, c, (1200, 500, 500), day),
+        claim(b, i4, a, (200, 200, 150), day),
     ];
     let due = [
         placed(b, i1, 0, 1, 300),
         placed(a, i3, 2, 0, 500),
-        placed(b, i4, 0, 1, 200),
+        placed(b, i4, 0, 1, 150),
     ];
     cuts_to(&rt, rt.alloc(), &names, &claims, &due);
 }
@@ -219,6 +221,15 @@ fn ruled_status(number: u32) -> Status {
     }
 }
 
+// What a debtor agrees to of an open amount by a fixed rule: half of it where the claim is one in five.
+fn ruled_part(number: u32, left: u64) -> u64 {
+    match ruled_status(number) {
+        Status::Confirmed if number % 5 == 0 => left / 2,
+        Status::Confirmed => left,
+        Status::Filed | Status::Disputed | Status::Withdrawn => 0,
+    }
+}
+
 // A claim by a fixed rule, between two of nine firms: one in eleven is paid, and due days are around day 20,000.
 fn ruled_claim(rt: &impl Abort, number: u32) -> ClaimFact {
     let debtor = number / 3 % 9;
@@ -238,6 +249,7 @@ fn ruled_claim(rt: &impl Abort, number: u32) -> ClaimFact {
         status: ruled_status(number),
         amount,
         left,
+        part: ruled_part(number, left),
         due: day(rt, 19_994 + number % 13),
     }
 }
@@ -303,7 +315,7 @@ fn windows_match(cut: &Cut, accounts: &[AccountFact]) -> bool {
 }
 
 fn takes_part(claim: &ClaimFact, horizon: Day) -> bool {
-    claim.status == Status::Confirmed && claim.left != 0 && claim.due <= horizon
+    claim.part != 0 && claim.due <= horizon
 }
 
 // The cut's claims are those of the table that take part, in its order, among parties in order of appearance.
@@ -313,7 +325,7 @@ fn claims_match(rt: &impl Abort, cut: &Cut, claims: &[ClaimFact], horizon: Day) 
     for claim in claims {
         if takes_part(claim, horizon) {
             let found = cut.claims().get(place).expect(rt, "a claim");
-            assert!(rt; found.key == claim.key && found.amount == claim.left);
+            assert!(rt; found.key == claim.key && found.amount == claim.part);
             assert!(rt; is_next(cut.parties(), found.debtor, claim.debtor, &mut seen));
             assert!(rt; is_next(cut.parties(), found.creditor, claim.key.creditor, &mut seen));
             place += 1;

@@ -59,6 +59,7 @@ fn is_claim_of(accounts: &[AccountFact], claim: &ClaimFact) -> bool
         && has_account(accounts, &claim.key.creditor)
         && claim.debtor != claim.key.creditor
         && claim.left <= MOST_AMOUNT
+        && claim.part <= claim.left
 }
 
 fn has_account(accounts: &[AccountFact], firm: &Name) -> bool

@@ -15,6 +15,8 @@ mod facts;
 #[cfg(test)]
 mod limits;
 #[cfg(test)]
+mod parts;
+#[cfg(test)]
 mod pools;
 #[cfg(test)]
 mod rounds;

@@ -24,7 +24,7 @@ fn make_room(rt: &impl Abort, books: &mut LimitedBooks, call: &Call)
 
 // Puts an act of caller 1 in the pool MAIN at the end, which is done.
 #[tactic(auto, using(crate::proofs::Members::due_follows))]
-fn is_done(rt: &impl Abort, books: &mut LimitedBooks, act: Act) {
+pub(crate) fn is_done(rt: &impl Abort, books: &mut LimitedBooks, act: Act) {
     let call = Call {
         caller: 1,
         pool: main_pool_name(),
@@ -42,15 +42,16 @@ fn is_done(rt: &impl Abort, books: &mut LimitedBooks, act: Act) {
     books.apply(pool, Entry { caller, act, reply });
 }
 
-// Lets a caller open round 1 of a pool.
+// Lets a caller open the round of a number in a pool.
 #[tactic(auto, using(crate::proofs::Members::due_follows))]
-fn opens(
+pub(crate) fn opens(
     rt: &impl Abort,
     alloc: Global,
     books: &mut LimitedBooks,
     caller: u32,
     pool: Name,
     day: Day,
+    round: u32,
 ) {
     let act = Act::Close {
         kind: Kind::Plain,
@@ -60,7 +61,7 @@ fn opens(
     make_room(rt, books, &call);
     use_is_counted();
     let reply = books.answer(&call);
-    assert!(rt; matches!(reply, Reply::Opened { round: 1 }));
+    assert!(rt; matches!(reply, Reply::Opened { .. }) && reply == Reply::Opened { round });
     let cut = books.next_cut(alloc, &call).expect(rt, "memory");
     let Ok(()) = books.fits_opening(&call, &cut) else {
         panic!(rt; "it does not fit");
@@ -69,9 +70,15 @@ fn opens(
     books.apply_close(pool, Entry { caller, act, reply }, cut);
 }
 
-// Lets a caller publish round 1 of a pool, with these discharges and prices and this total.
+// Lets a call publish its round with this total.
 #[tactic(auto, using(crate::proofs::Members::due_follows))]
-fn publishes(rt: &impl Abort, alloc: Global, books: &mut LimitedBooks, call: Call, total: u64) {
+pub(crate) fn publishes(
+    rt: &impl Abort,
+    alloc: Global,
+    books: &mut LimitedBooks,
+    call: Call,
+    total: u64,
+) {
     assert!(rt; call.act.publishes());
     make_room(rt, books, &call);
     let reply = books.publication_reply(alloc, &call).expect(rt, "memory");
@@ -84,10 +91,10 @@ fn publishes(rt: &impl Abort, alloc: Global, books: &mut LimitedBooks, call: Cal
     );
 }
 
-// The publication of round 1 with these discharges and prices.
-fn publication(discharges: Vec<u64>, prices: Vec<i64>) -> Act {
+// The publication of a round with these discharges and prices.
+pub(crate) fn publication(round: u32, discharges: Vec<u64>, prices: Vec<i64>) -> Act {
     Act::Publish {
-        round: 1,
+        round,
         outcome: Outcome::new(discharges, prices),
     }
 }
@@ -106,7 +113,7 @@ fn main_publishes(rt: &impl Abort, alloc: Global, books: &mut LimitedBooks) {
     let call = Call {
         caller: 1,
         pool: main_pool_name(),
-        act: publication(discharges, prices),
+        act: publication(1, discharges, prices),
     };
     publishes(rt, alloc, books, call, 2_100);
 }
@@ -115,7 +122,7 @@ fn other_publishes(rt: &impl Abort, alloc: Global, books: &mut LimitedBooks, poo
     let call = Call {
         caller: 2,
         pool,
-        act: publication(Vec::new(alloc), Vec::new(alloc)),
+        act: publication(1, Vec::new(alloc), Vec::new(alloc)),
     };
     publishes(rt, alloc, books, call, 0);
 }
@@ -124,8 +131,8 @@ fn other_publishes(rt: &impl Abort, alloc: Global, books: &mut LimitedBooks, poo
 fn rounds_stand_side_by_side(rt: &impl Abort, alloc: Global, books: &mut LimitedBooks) {
     let east = name(rt, b"EAST");
     let day = fill(rt, alloc, books);
-    opens(rt, alloc, books, 1, main_pool_name(), day);
-    opens(rt, alloc, books, 2, east, day);
+    opens(rt, alloc, books, 1, main_pool_name(), day, 1);
+    opens(rt, alloc, books, 2, east, day, 1);
     assert!(rt; books.open_rounds() == 2);
     other_publishes(rt, alloc, books, east);
     assert!(rt; books.open_rounds() == 1 && books.books().book(&east).open_round().is_none());

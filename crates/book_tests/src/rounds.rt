@@ -134,7 +134,7 @@ fn new_claim_goes_on(rt: &impl Abort, alloc: Global, book: &mut Book) {
         dispute(key, circle.a),
     ];
     replies(rt, book, 2, acts.expect(rt, "memory"), &[Reply::Done; 4]);
-    stands_at(rt, book, &key, Status::Disputed, 300);
+    stands_at(rt, book, &key, Status::Disputed, (300, 0));
 }
 
 #[test]

@@ -17,11 +17,12 @@ use Rattle.claim_history.specs.Acts.{is_publication}
 use Rattle.claim_history.specs.Facts.{is_registered, filing_of, claim_facts, account_facts}
 use Rattle.claim_history.specs.States.{OpenRound, State, state_of, after, is_in_cut, is_held}
 use Rattle.claim_history.specs.History.{answer, is_no_refusal, is_opening, IsReply, IsLegal, firm_refusals, file_refusals}
+use Rattle.claim_history.specs.Laws.{KeepAmounts}
 use Rattle.claim_history.proofs.Greatest.{reply_published}
 use Rattle.claim_history.proofs.Replies.{accepted_due}
 use Rattle.claim_history.proofs.Rows.{name_is, key_is}
 use Rattle.fact_tables.specs.Marks.{no_marks, claim_marks_after, account_marks_after, mark_at}
-use Rattle.fact_tables.specs.Tables.{with_status, with_receipt, claims_after, funded, drawn, limited, offered, accounts_after}
+use Rattle.fact_tables.specs.Tables.{restated, with_status, reduced, with_receipt, claims_after, funded, drawn, limited, offered, accounts_after}
 use Rattle.fact_tables.proofs.Keyed.{same_keys, if_same}
 use Rattle.fact_tables.proofs.Places.{find_no_place}
 use Rattle.claim_book.specs.Book.{is_abandoned, is_funded_round, is_party, frozen_in, parties_in}
@@ -67,10 +68,10 @@ firms_stay test step rows same = stay (λ (a : AccountFact). test a.firm) step r
 claims_marked : (test : Key → Bool) (a : Act) (rows : List ClaimFact) → ((key : Key) (debtor : List ℕ) (amount due : ℕ) → a ≡ act.File key debtor amount due → test key ≡ false)
     → claim_marks_after a (map (λ (c : ClaimFact). test c.key) rows) ≡ map (λ (c : ClaimFact). test c.key) (claims_after a rows)
 claims_marked test (act.File key debtor amount due) rows new = one_more (λ (c : ClaimFact). test c.key) rows _ (new key debtor amount due refl)
-claims_marked test (act.Confirm key debtor) rows new = keys_stay test (with_status key status.Confirmed) rows (λ c. if_same (λ (r : ClaimFact). r.key) (same_key key c.key) (record c { status = status.Confirmed }) c refl)
-claims_marked test (act.Dispute key debtor) rows new = keys_stay test (with_status key status.Disputed) rows (λ c. if_same (λ (r : ClaimFact). r.key) (same_key key c.key) (record c { status = status.Disputed }) c refl)
-claims_marked test (act.Withdraw key) rows new = keys_stay test (with_status key status.Withdrawn) rows (λ c. if_same (λ (r : ClaimFact). r.key) (same_key key c.key) (record c { status = status.Withdrawn }) c refl)
-claims_marked test (act.Receive key amount) rows new = keys_stay test (with_receipt key amount) rows (λ c. if_same (λ (r : ClaimFact). r.key) (same_key key c.key) (record c { left = _ }) c refl)
+claims_marked test (act.Confirm key debtor agreed) rows new = keys_stay test (with_status key status.Confirmed agreed) rows (λ c. if_same (λ (r : ClaimFact). r.key) (same_key key c.key) (restated status.Confirmed agreed c) c refl)
+claims_marked test (act.Dispute key debtor) rows new = keys_stay test (with_status key status.Disputed None) rows (λ c. if_same (λ (r : ClaimFact). r.key) (same_key key c.key) (restated status.Disputed None c) c refl)
+claims_marked test (act.Withdraw key) rows new = keys_stay test (with_status key status.Withdrawn None) rows (λ c. if_same (λ (r : ClaimFact). r.key) (same_key key c.key) (restated status.Withdrawn None c) c refl)
+claims_marked test (act.Receive key amount) rows new = keys_stay test (with_receipt key amount) rows (λ c. if_same (λ (r : ClaimFact). r.key) (same_key key c.key) (reduced amount c) c refl)
 claims_marked test a rows new = refl
 
 accounts_marked : (test : List ℕ → Bool) (a : Act) (rows : List AccountFact) → ((firm : List ℕ) → a ≡ act.Firm firm → test firm ≡ false)
@@ -101,34 +102,34 @@ MarksLeft s a r after =
     × ((if is_abandoned r then no_marks (if is_no_refusal r then accounts_after a (account_facts s.ledger) else account_facts s.ledger)
     else (if is_no_refusal r then account_marks_after a (parties_in s) else parties_in s)) ≡ parties_in after)
 
-module _ (s : State) (caller : ℕ) (a : Act) (known : Knows s) (is : IsSound s.ledger) (apart : is_publication a ≡ false) (good : is_no_refusal (answer s caller a) ≡ true) where
+module _ (s : State) (caller : ℕ) (a : Act) (known : Knows s) (is : IsSound s.ledger) (amounts : KeepAmounts s.ledger) (apart : is_publication a ≡ false) (good : is_no_refusal (answer s caller a) ≡ true) where
   claims_after_it : claim_marks_after a (frozen_in s) ≡ map (λ (c : ClaimFact). is_in_cut s.open_round c.key) (claim_facts (after caller a reply.Done s).ledger)
   claims_after_it =
       claims_marked (is_in_cut s.open_round) a (claim_facts s.ledger) (new_claim_unmarked s caller a known good)
-      ∙ ap (map (λ (c : ClaimFact). is_in_cut s.open_round c.key)) (sym (tables s caller a apart is good).1)
+      ∙ ap (map (λ (c : ClaimFact). is_in_cut s.open_round c.key)) (sym (tables s caller a apart is amounts good).1)
 
   accounts_after_it : account_marks_after a (parties_in s) ≡ map (λ (r : AccountFact). is_party s.open_round r.firm) (account_facts (after caller a reply.Done s).ledger)
   accounts_after_it =
       accounts_marked (is_party s.open_round) a (account_facts s.ledger) (new_firm_unmarked s caller a known good)
-      ∙ ap (map (λ (r : AccountFact). is_party s.open_round r.firm)) (sym (tables s caller a apart is good).0)
+      ∙ ap (map (λ (r : AccountFact). is_party s.open_round r.firm)) (sym (tables s caller a apart is amounts good).0)
 
   ended : MarksLeft s a (reply.Abandoned 0) (after caller a (reply.Abandoned 0) s)
-  ended = (ap no_marks (sym (tables s caller a apart is good).1), ap no_marks (sym (tables s caller a apart is good).0))
+  ended = (ap no_marks (sym (tables s caller a apart is amounts good).1), ap no_marks (sym (tables s caller a apart is amounts good).0))
 
-pub marks_left : (caller : ℕ) (a : Act) (r : Reply) (s : State) (counted : ℕ) → Knows s → IsSound s.ledger → is_publication a ≡ false → is_opening r ≡ false → IsReply counted (answer s caller a) r → MarksLeft s a r (after caller a r s)
-marks_left caller a (reply.Refused w) s counted known is apart closed legal = (refl, refl)
-marks_left caller a (reply.Opened round) s counted known is apart closed legal = absurd (true≢false closed)
-marks_left caller a (reply.Published total) s counted known is apart closed legal =
+pub marks_left : (caller : ℕ) (a : Act) (r : Reply) (s : State) (counted : ℕ) → Knows s → IsSound s.ledger → KeepAmounts s.ledger → is_publication a ≡ false → is_opening r ≡ false → IsReply counted (answer s caller a) r → MarksLeft s a r (after caller a r s)
+marks_left caller a (reply.Refused w) s counted known is amounts apart closed legal = (refl, refl)
+marks_left caller a (reply.Opened round) s counted known is amounts apart closed legal = absurd (true≢false closed)
+marks_left caller a (reply.Published total) s counted known is amounts apart closed legal =
     let p = reply_published s counted caller a (reply.Published total) total legal refl in
     absurd (true≢false (sym (ap is_publication p.asks) ∙ apart))
-marks_left caller a reply.Done s counted known is apart closed legal =
-    let good = ap is_no_refusal (accepted_due counted (answer s caller a) reply.Done legal refl) in (claims_after_it s caller a known is apart good, accounts_after_it s caller a known is apart good)
-marks_left caller a (reply.Position position) s counted known is apart closed legal =
-    let good = ap is_no_refusal (accepted_due counted (answer s caller a) (reply.Position position) legal refl) in (claims_after_it s caller a known is apart good, accounts_after_it s caller a known is apart good)
-marks_left caller a (reply.Continued round) s counted known is apart closed legal =
-    let good = ap is_no_refusal (accepted_due counted (answer s caller a) (reply.Continued round) legal refl) in (claims_after_it s caller a known is apart good, accounts_after_it s caller a known is apart good)
-marks_left caller a (reply.Abandoned round) s counted known is apart closed legal =
-    let good = ap is_no_refusal (accepted_due counted (answer s caller a) (reply.Abandoned round) legal refl) in ended s caller a known is apart good
+marks_left caller a reply.Done s counted known is amounts apart closed legal =
+    let good = ap is_no_refusal (accepted_due counted (answer s caller a) reply.Done legal refl) in (claims_after_it s caller a known is amounts apart good, accounts_after_it s caller a known is amounts apart good)
+marks_left caller a (reply.Position position) s counted known is amounts apart closed legal =
+    let good = ap is_no_refusal (accepted_due counted (answer s caller a) (reply.Position position) legal refl) in (claims_after_it s caller a known is amounts apart good, accounts_after_it s caller a known is amounts apart good)
+marks_left caller a (reply.Continued round) s counted known is amounts apart closed legal =
+    let good = ap is_no_refusal (accepted_due counted (answer s caller a) (reply.Continued round) legal refl) in (claims_after_it s caller a known is amounts apart good, accounts_after_it s caller a known is amounts apart good)
+marks_left caller a (reply.Abandoned round) s counted known is amounts apart closed legal =
+    let good = ap is_no_refusal (accepted_due counted (answer s caller a) (reply.Abandoned round) legal refl) in ended s caller a known is amounts apart good
 
 -- ---- what a mark tells
 

@@ -121,7 +121,11 @@ impl Book {
         match act {
             Act::Firm { firm } => answer_firm(self, firm),
             Act::File { key, debtor, .. } => answer_file(self, key, debtor),
-            Act::Confirm { key, debtor } => answer_confirm(self, key, debtor),
+            Act::Confirm {
+                key,
+                debtor,
+                agreed,
+            } => answer_confirm(self, key, debtor, *agreed),
             Act::Dispute { key, debtor } => answer_dispute(self, key, debtor),
             Act::Withdraw { key } => answer_withdraw(self, key),
             Act::Receive { key, amount } => answer_receive(self, key, *amount),
@@ -304,7 +308,8 @@ impl Book {
     /// The entries in order of time. It takes no memory.
     ///
     /// The history is legal, each of its acts is valid, every account is within its limits, no claim is received on and
-    /// discharged above its amount, and the cut of the open round is frozen. No more rounds were opened than there are entries.
+    /// discharged above its amount nor its part above what is open, and the cut of the open round is frozen. No more rounds were
+    /// opened than there are entries.
     pub fn history(&self) -> &[Entry]
         ensures entries { result.now ≡ self.now.history }
         ensures legal { IsLegal self.now.history }
@@ -317,12 +322,14 @@ impl Book {
         &self.entries
     }
 
-    /// Each filed claim, in order of filing. No open amount is above the amount as filed. It takes no memory.
+    /// Each filed claim, in order of filing. No open amount is above the amount as filed, and no part above the open amount. It
+    /// takes no memory.
     ///
     /// They are those of a legal history of valid acts.
     pub fn claims(&self) -> &[ClaimFact]
         ensures claims { result.now ≡ claim_facts (ledger_of self.now.history) }
         ensures amounts { All (λ c. c.left ≤ c.amount) result.now }
+        ensures parts { All (λ c. c.part ≤ c.left) result.now }
         ensures legal { IsLegal self.now.history }
         ensures valid { AreValid self.now.history }
     {

@@ -247,13 +247,13 @@ impl Books {
     }
 }
 
-// The place of the book of a pool; None where it has none.
+// The place of the book of a pool, which is looked for at the first place first; None where it has none.
 fn book_place(names: &NameIndex, books: &[PoolBook], pool: &Name) -> Option<usize>
     requires { names.now.names ≡ map (λ b. b.pool) books.now }
     ensures { result ≡ position (is_book pool.now) books.now }
 {
     let _ = books;
-    names.place(pool)
+    names.place_near(0, pool)
 }
 
 // The place of the book of a pool that has room.

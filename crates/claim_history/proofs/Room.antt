@@ -96,7 +96,7 @@ publish_no_device (Some round) caller number outcome = no_device (publish_refusa
 pub answer_no_device : (s : State) (caller : ℕ) (a : Act) → is_of_device (answer s caller a) ≡ false
 answer_no_device s caller (act.Firm firm) = no_device (firm_refusals s firm) reply.Done refl refl
 answer_no_device s caller (act.File key debtor amount due) = no_device (file_refusals s key debtor) reply.Done refl refl
-answer_no_device s caller (act.Confirm key debtor) = no_device (confirm_refusals s key debtor) reply.Done refl refl
+answer_no_device s caller (act.Confirm key debtor agreed) = no_device (confirm_refusals s key debtor agreed) reply.Done refl refl
 answer_no_device s caller (act.Dispute key debtor) = no_device (dispute_refusals s key debtor) reply.Done refl refl
 answer_no_device s caller (act.Withdraw key) = no_device (withdraw_refusals s key) reply.Done refl refl
 answer_no_device s caller (act.Receive key amount) = no_device (receive_refusals s key amount) reply.Done refl refl

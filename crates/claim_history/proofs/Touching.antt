@@ -1,7 +1,7 @@
 -- A firm that no later entry touches stays as it is.
-use Rattle.std.specs.Prelude.{reverse, filter, filter_map, sum, Some, None, is_some, cond, ℤ, pos, ◌-ℤ◌, ◌-◌, if◌then◌else◌}
+use Rattle.std.specs.Prelude.{reverse, filter, filter_map, sum, Some, None, is_some, cond, ℤ, pos, ◌-ℤ◌, if◌then◌else◌}
 use Rattle.std.specs.List.{cons_option}
-use Rattle.std.proofs.Common.{◌≡◌, ℕ, ◌+◌, Bool, true, false, ◌&&◌, ◌||◌, List, [], ◌∷◌, ◌++◌, All, sum_by, refl, sym, ◌∙◌, ap, ap₂, subst, true≢false, arith}
+use Rattle.std.proofs.Common.{◌≡◌, ℕ, ◌+◌, Bool, true, false, ◌||◌, List, [], ◌∷◌, ◌++◌, All, sum_by, refl, sym, ◌∙◌, ap, ap₂, subst, true≢false, arith}
 use Rattle.std.proofs.lemmas.Bool.{or_parts, false_from_ne_true}
 use Rattle.std.proofs.lemmas.List.Elements.{All-head, All-tail, All-weaker}
 use Rattle.std.proofs.lemmas.List.Sums.{sum_by-cons}
@@ -16,14 +16,13 @@ use Rattle.claim_history.specs.declared.entry.Reply.{Reply}
 use Rattle.claim_history.specs.declared.entry.Reply.TheVariants as reply
 use Rattle.claim_history.specs.declared.entry.Entry.{Entry}
 use Rattle.claim_history.specs.declared.fact.Limits.{Limits}
-use Rattle.claim_history.specs.declared.fact.Status.{Status}
-use Rattle.claim_history.specs.declared.fact.Status.TheVariants as status
-use Rattle.claim_history.specs.Facts.{Filing, Ledger, filings, filing_of, is_registered, account_fact, position_of, owed_of, receivable, payable, left_of, status_of, status_by, is_confirmed, amount_of, received_by, received, discharged, gained_by, spent_by, gained, spent, discharged_to, discharged_by, balance_of, limits_by, limits_of, offered_by, offer_of, first_or}
+use Rattle.claim_history.specs.Facts.{Filing, Ledger, filings, filing_of, is_registered, account_fact, position_of, owed_of, receivable, payable, part_of, gained_by, spent_by, gained, spent, discharged_to, discharged_by, balance_of, limits_by, limits_of, offered_by, offer_of, first_or}
 use Rattle.claim_history.specs.States.{State, after, open_as, state, with_act}
 use Rattle.claim_history.specs.History.{IsLegalPast}
 use Rattle.claim_history.specs.Touched.{is_debtor_of, is_side_of, is_of_firm, touches, touches_by, Stays, TouchLaw}
 use Rattle.claim_history.proofs.Pasts.{all_reverse}
 use Rattle.claim_history.proofs.Rows.{key_is, key_other}
+use Rattle.claim_history.proofs.Steps.{LeavesOthers, file_leaves, confirm_leaves, dispute_leaves, withdraw_leaves, receive_leaves}
 use Rattle.claim_history.proofs.Filed.{AreDistinct}
 use Rattle.claim_history.proofs.Opening.{each_filed, none_alike}
 use Rattle.claim_history.proofs.Net.{filed_open, new_filed}
@@ -32,33 +31,24 @@ use Rattle.claim_history.proofs.Net.{filed_open, new_filed}
 
 -- the filing counts alike by both ledgers, where it passes the test
 abbrev CountsAlike : Ledger → Ledger → (Filing → Bool) → Filing → Type 0
-CountsAlike l m test f = test f ≡ true → (status_of m f.key ≡ status_of l f.key) × (left_of m f.key ≡ left_of l f.key)
-
-and_false : (a b : Bool) → b ≡ false → (a && b) ≡ false
-and_false true b e = e
-and_false false b e = refl
+CountsAlike l m test f = test f ≡ true → part_of m f.key ≡ part_of l f.key
 
 first_in : (h : Filing → ℕ) (b : Bool) (x : Filing) (xs : List Filing) → sum_by h (cond b (x ∷ xs) xs) ≡ (if b then h x else 0) + sum_by h xs
 first_in h true x xs = sum_by-cons h x xs
 first_in h false x xs = omega arith
 
-one_alike : (l m : Ledger) (test : Filing → Bool) (f : Filing) (b : Bool) → test f ≡ b → CountsAlike l m test f
-    → (if is_confirmed (status_of m f.key) && test f then left_of m f.key else 0) ≡ (if is_confirmed (status_of l f.key) && test f then left_of l f.key else 0)
-one_alike l m test f true passes alike =
-    let same = alike passes in
-    ap₂ (λ s n. if is_confirmed s && test f then n else 0) same.0 same.1
-one_alike l m test f false fails alike =
-    ap (λ (b : Bool). if b then left_of m f.key else 0) (and_false (is_confirmed (status_of m f.key)) (test f) fails)
-    ∙ sym (ap (λ (b : Bool). if b then left_of l f.key else 0) (and_false (is_confirmed (status_of l f.key)) (test f) fails))
+one_alike : (b : Bool) (n o : ℕ) → (b ≡ true → n ≡ o) → (if b then n else 0) ≡ (if b then o else 0)
+one_alike true n o alike = alike refl
+one_alike false n o alike = refl
 
 owed_alike : (l m : Ledger) (test : Filing → Bool) (fs : List Filing) → All (CountsAlike l m test) fs → owed_of m test fs ≡ owed_of l test fs
 owed_alike l m test [] all = refl
 owed_alike l m test (f ∷ fs) all =
     omega (
       arith,
-      first_in (λ g. left_of m g.key) (is_confirmed (status_of m f.key) && test f) f (filter (λ g. is_confirmed (status_of m g.key) && test g) fs),
-      first_in (λ g. left_of l g.key) (is_confirmed (status_of l f.key) && test f) f (filter (λ g. is_confirmed (status_of l g.key) && test g) fs),
-      one_alike l m test f (test f) refl (All-head (CountsAlike l m test) f fs all),
+      first_in (λ g. part_of m g.key) (test f) f (filter test fs),
+      first_in (λ g. part_of l g.key) (test f) f (filter test fs),
+      one_alike (test f) (part_of m f.key) (part_of l f.key) (All-head (CountsAlike l m test) f fs all),
       owed_alike l m test fs (All-tail (CountsAlike l m test) f fs all),
     )
 
@@ -80,24 +70,19 @@ other_debtor l firm key f found apart mine =
     (λ same.
     true≢false (sym mine ∙ sym (ap (is_debtor_of firm) (sym (ap (filing_of l) (key_is f.key key same)) ∙ found)) ∙ (or_parts (same_name firm key.creditor) (is_debtor_of firm (filing_of l key)) apart).1))
 
--- the filings of a ledger are found in one that keeps them
-all_found : (l m : Ledger) → AreDistinct (filings l) → Keeps l m → All (λ (f : Filing). filing_of m f.key ≡ Some f) (filings l)
-all_found l m distinct keeps =
-    All-weaker (λ (f : Filing). filing_of l f.key ≡ Some f) (λ (f : Filing). filing_of m f.key ≡ Some f) (λ f found. keeps f.key f found) (filings l) (each_filed (filings l) distinct)
-
 -- where another key's claims stand as before, the firm's sums are as before
 module _ (l m last : Ledger) (firm : List ℕ) (key : Key)
     (distinct : AreDistinct (filings l)) (keeps : Keeps l last) (apart : is_side_of last firm key ≡ false)
-    (others : (f : Filing) → filing_of l f.key ≡ Some f → same_key f.key key ≡ false → (status_of m f.key ≡ status_of l f.key) × (left_of m f.key ≡ left_of l f.key)) where
+    (others : LeavesOthers l m key) where
   receivable_alike : owed_of m (λ f. same_name firm f.key.creditor) (filings l) ≡ receivable l firm
   receivable_alike =
       owed_alike l m (λ f. same_name firm f.key.creditor) (filings l)
-      (All-weaker (λ (f : Filing). filing_of l f.key ≡ Some f) (CountsAlike l m (λ f. same_name firm f.key.creditor)) (λ f found mine. others f found (other_creditor last firm key f apart mine)) (filings l) (each_filed (filings l) distinct))
+      (All-weaker (λ (f : Filing). filing_of l f.key ≡ Some f) (CountsAlike l m (λ f. same_name firm f.key.creditor)) (λ f found mine. (others f.key (other_creditor last firm key f apart mine)).1) (filings l) (each_filed (filings l) distinct))
 
   payable_alike : owed_of m (λ f. same_name firm f.debtor) (filings l) ≡ payable l firm
   payable_alike =
       owed_alike l m (λ f. same_name firm f.debtor) (filings l)
-      (All-weaker (λ (f : Filing). filing_of l f.key ≡ Some f) (CountsAlike l m (λ f. same_name firm f.debtor)) (λ f found mine. others f found (other_debtor last firm key f (keeps f.key f found) apart mine)) (filings l) (each_filed (filings l) distinct))
+      (All-weaker (λ (f : Filing). filing_of l f.key ≡ Some f) (CountsAlike l m (λ f. same_name firm f.debtor)) (λ f found mine. (others f.key (other_debtor last firm key f (keeps f.key f found) apart mine)).1) (filings l) (each_filed (filings l) distinct))
 
 -- ---- one more act
 
@@ -152,21 +137,12 @@ offer_stays l firm other amount e =
 new_position : (l : Ledger) (firm : List ℕ) (r p : ℕ) → r ≡ receivable l firm → p ≡ payable l firm → record (position_of l firm) { receivable = r; payable = p } ≡ position_of l firm
 new_position l firm r p owed owes = ap₂ (λ (r p : ℕ). record (position_of l firm) { receivable = r; payable = p }) owed owes
 
--- an act gives one claim another status
-status_stays : (l m last : Ledger) (firm : List ℕ) (key : Key) → AreDistinct (filings l) → Keeps l last → is_side_of last firm key ≡ false
-    → ((f : Filing) → filing_of l f.key ≡ Some f → same_key f.key key ≡ false → (status_of m f.key ≡ status_of l f.key) × (left_of m f.key ≡ left_of l f.key))
+-- an act on one claim leaves the position of a firm that is no side of it
+claim_stays : (l m last : Ledger) (firm : List ℕ) (key : Key) → AreDistinct (filings l) → Keeps l last → is_side_of last firm key ≡ false → LeavesOthers l m key
     → record (position_of l firm) { receivable = owed_of m (λ f. same_name firm f.key.creditor) (filings l); payable = owed_of m (λ f. same_name firm f.debtor) (filings l) } ≡ position_of l firm
-status_stays l m last firm key distinct keeps apart others =
+claim_stays l m last firm key distinct keeps apart others =
     new_position l firm (owed_of m (λ f. same_name firm f.key.creditor) (filings l)) (owed_of m (λ f. same_name firm f.debtor) (filings l))
     (receivable_alike l m last firm key distinct keeps apart others) (payable_alike l m last firm key distinct keeps apart others)
-
-status_kept : (l : Ledger) (k key : Key) (s : Status) → same_key k key ≡ false → first_or status.Filed (cons_option (if same_key k key then Some s else None) (filter_map (status_by k) l.acts)) ≡ status_of l k
-status_kept l k key s e = ap (first_or status.Filed) (skipped (same_key k key) s (filter_map (status_by k) l.acts) e)
-
-left_kept : (l : Ledger) (k key : Key) (amount : ℕ) → same_key k key ≡ false
-    → amount_of (filing_of l k) - (sum (cons_option (if same_key k key then Some amount else None) (filter_map (received_by k) l.acts)) + discharged l k) ≡ left_of l k
-left_kept l k key amount e =
-    ap (λ (xs : List ℕ). amount_of (filing_of l k) - (sum xs + discharged l k)) (skipped (same_key k key) amount (filter_map (received_by k) l.acts) e)
 
 unlike : {X : Type 0} (b : Bool) (x : X) (xs : List X) → b ≡ false → cond b (x ∷ xs) xs ≡ xs
 unlike true x xs e = absurd (true≢false e)
@@ -175,9 +151,7 @@ unlike false x xs e = refl
 -- a new filing that fails the test
 owed_new : (l m : Ledger) (test : Filing → Bool) (new : Filing) → test new ≡ false → All (CountsAlike l m test) (filings l) → owed_of m test (new ∷ filings l) ≡ owed_of l test (filings l)
 owed_new l m test new fails all =
-    ap (sum_by (λ (f : Filing). left_of m f.key))
-    (unlike (is_confirmed (status_of m new.key) && test new) new (filter (λ f. is_confirmed (status_of m f.key) && test f) (filings l)) (and_false (is_confirmed (status_of m new.key)) (test new) fails))
-    ∙ owed_alike l m test (filings l) all
+    ap (sum_by (λ (f : Filing). part_of m f.key)) (unlike (test new) new (filter test (filings l)) fails) ∙ owed_alike l m test (filings l) all
 
 module _ (l last : Ledger) (firm : List ℕ) (key : Key) (debtor : List ℕ) (amount due : ℕ) where
   abbrev m : Ledger
@@ -190,8 +164,7 @@ module _ (l last : Ledger) (firm : List ℕ) (key : Key) (debtor : List ℕ) (am
   older : (test : Filing → Bool) → is_some (filing_of l key) ≡ false → All (CountsAlike l m test) (filings l)
   older test none =
       All-weaker (λ (f : Filing). same_key key f.key ≡ false) (CountsAlike l m test)
-      (λ f other passes.
-      (refl, ap (λ (b : Bool). amount_of (cond b (Some new) (filing_of l f.key)) - (received l f.key + discharged l f.key)) (key_other key f.key other)))
+      (λ f other passes. (file_leaves l key debtor amount due f.key (key_other key f.key other)).1)
       (filings l) (none_alike key (filings l) none)
 
   file_stays : AreDistinct (filings m) → Keeps m last → is_side_of last firm key ≡ false → Stays l m firm
@@ -213,25 +186,25 @@ unchanged l firm = record { registered = refl; account = refl; position = refl }
 stays_with : (l : Ledger) (a : Act) (last : Ledger) (firm : List ℕ) → AreDistinct (filings (with_act a l)) → Keeps (with_act a l) last → is_of_firm last firm a ≡ false → Stays l (with_act a l) firm
 stays_with l (act.Firm other) last firm distinct keeps e = record { registered = ap (λ (b : Bool). b || is_registered l firm) e; account = refl; position = refl }
 stays_with l (act.File key debtor amount due) last firm distinct keeps e = file_stays l last firm key debtor amount due distinct keeps e
-stays_with l (act.Confirm key debtor) last firm distinct keeps e = record {
+stays_with l (act.Confirm key debtor agreed) last firm distinct keeps e = record {
   registered = refl;
   account = refl;
-  position = status_stays l (with_act (act.Confirm key debtor) l) last firm key distinct keeps e (λ f found other. (status_kept l f.key key status.Confirmed other, refl));
+  position = claim_stays l (with_act (act.Confirm key debtor agreed) l) last firm key distinct keeps e (confirm_leaves l key debtor agreed);
 }
 stays_with l (act.Dispute key debtor) last firm distinct keeps e = record {
   registered = refl;
   account = refl;
-  position = status_stays l (with_act (act.Dispute key debtor) l) last firm key distinct keeps e (λ f found other. (status_kept l f.key key status.Disputed other, refl));
+  position = claim_stays l (with_act (act.Dispute key debtor) l) last firm key distinct keeps e (dispute_leaves l key debtor);
 }
 stays_with l (act.Withdraw key) last firm distinct keeps e = record {
   registered = refl;
   account = refl;
-  position = status_stays l (with_act (act.Withdraw key) l) last firm key distinct keeps e (λ f found other. (status_kept l f.key key status.Withdrawn other, refl));
+  position = claim_stays l (with_act (act.Withdraw key) l) last firm key distinct keeps e (withdraw_leaves l key);
 }
 stays_with l (act.Receive key amount) last firm distinct keeps e = record {
   registered = refl;
   account = refl;
-  position = status_stays l (with_act (act.Receive key amount) l) last firm key distinct keeps e (λ f found other. (refl, left_kept l f.key key amount other));
+  position = claim_stays l (with_act (act.Receive key amount) l) last firm key distinct keeps e (receive_leaves l key amount);
 }
 stays_with l (act.Fund other amount) last firm distinct keeps e = fund_stays l firm other amount e
 stays_with l (act.Draw other amount) last firm distinct keeps e = draw_stays l firm other amount e

@@ -1,5 +1,5 @@
 -- Histories of several pools, at worked cases.
-use Rattle.std.specs.Prelude.{◌+◌, codes, drop, map, pos}
+use Rattle.std.specs.Prelude.{◌+◌, codes, drop, map, pos, Some}
 use Rattle.std.proofs.Common.{◌≡◌, ℕ, List, [], ◌∷◌, ◌++◌, refl}
 use Rattle.claim_history.specs.declared.act.Act.TheVariants as act
 use Rattle.claim_history.specs.declared.call.Call.{Call}
@@ -12,7 +12,7 @@ use Rattle.claim_history.specs.Pools.{main_pool, replay_of}
 use Rattle.claim_history.specs.PoolNeeds.{needed_bytes_of, needed_entries_of, pool_bytes, reserved_bytes_of, reserved_entries_of, used_bytes_of}
 use Rattle.claim_history.specs.PoolRounds.{ended}
 use Rattle.claim_history.proofs.Worked.{position}
-use Rattle.claim_history.proofs.WorkedRounds.{A, by, circle, circle_outcome, close_plain}
+use Rattle.claim_history.proofs.WorkedRounds.{A, B, by, key, circle, circle_outcome, close_plain}
 
 abbrev EAST : List ℕ
 EAST = codes "EAST"
@@ -34,6 +34,10 @@ firms_replies = refl
 -- the body of the second act
 east_body : body_length_of (act.Firm A) + pool_bytes EAST ≡ 13
 east_body = refl
+
+-- and of one that confirms a part
+part_body : body_length_of (act.Confirm (key B (codes "I-1")) A (Some 600)) + pool_bytes EAST ≡ 27
+part_body = refl
 
 -- ---- rounds of two pools side by side
 

@@ -24,7 +24,7 @@ is_side_of l firm key = same_name firm key.creditor || is_debtor_of firm (filing
 abbrev pub is_of_firm : Ledger → List ℕ → Act → Bool
 is_of_firm l firm (act.Firm other) = same_name firm other
 is_of_firm l firm (act.File key debtor amount due) = is_side_of l firm key
-is_of_firm l firm (act.Confirm key debtor) = is_side_of l firm key
+is_of_firm l firm (act.Confirm key debtor agreed) = is_side_of l firm key
 is_of_firm l firm (act.Dispute key debtor) = is_side_of l firm key
 is_of_firm l firm (act.Withdraw key) = is_side_of l firm key
 is_of_firm l firm (act.Receive key amount) = is_side_of l firm key

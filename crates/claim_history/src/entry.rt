@@ -6,7 +6,7 @@ ghost use Rattle.claim_history.specs.Needs.{is_of_device};
 use crate::act::Act;
 use crate::fact::Position;
 
-/// Why an act is refused. The refusals have the numbers 1 to 19 in this order.
+/// Why an act is refused. The refusals have the numbers 1 to 20 in this order.
 #[derive(Clone, Copy, PartialEq, Eq, Debug)]
 pub enum Why {
     /// The firm is registered.
@@ -48,6 +48,8 @@ pub enum Why {
     Device { before: u64, after: u64 },
     /// The prices do not prove the discharges for the cut of the round.
     NotProved,
+    /// The amount that is agreed to is above the claim's filed amount.
+    OverAmount,
 }
 
 /// What the bureau replies to an act.

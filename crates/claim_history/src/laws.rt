@@ -26,10 +26,11 @@ pub fn round_is_open_until_its_end()
     ensures none { NoneOpenLaw }
 {}
 
-/// After every legal history each account is within its limits, and of no claim is more received and discharged than
-/// its amount. Where the acts are valid too, every balance is within 10^15 cents of zero, and nobody is owed or owes
-/// more than 262,144 amounts of 999,999,999,999 cents, so the replies are in range. The limits, the windows of a cut,
-/// and the tests of the refusals that speak of them, are the formulas that they are named for.
+/// After every legal history each account is within its limits, of no claim is more received and discharged than its
+/// amount, and no part that is agreed to is above the open amount. Where the acts are valid too, every balance is within
+/// 10^15 cents of zero, and nobody is owed or owes more than 262,144 amounts of 999,999,999,999 cents, so the replies are
+/// in range. The limits, the windows of a cut, and the tests of the refusals that speak of them, are the formulas that
+/// they are named for.
 pub fn limits_hold()
     ensures limits { LimitsLaw }
     ensures sizes { SizesLaw }
@@ -43,8 +44,8 @@ pub fn untouched_firms_stay()
     ensures { TouchLaw }
 {}
 
-/// While a round is open, each claim of its cut is confirmed with the cut's amount open, and each window of its cut is
-/// today's.
+/// While a round is open, each claim of its cut is confirmed with the cut's amount as its part, and each window of its
+/// cut is today's.
 pub fn open_cut_is_frozen()
     ensures { FrozenLaw }
 {}

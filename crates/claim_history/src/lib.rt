@@ -8,6 +8,8 @@
 //! - The one reply to an act is given by rows of refusals, tried in order; where none applies, the act is accepted.
 //! - A history is legal where each reply is the one that is due, or tells that the device failed at an act that would
 //!   be accepted. A refusal changes nothing.
+//! - A debtor confirms a claim whole, or up to an amount. The part of a claim is what its debtor agrees to less what was
+//!   received and discharged. Rounds discharge parts, and positions count them; a receipt asks the open amount alone.
 //! - A CLOSE opens a round, whose cut is made of the entries before it. The round is open until a publication or an
 //!   Abandon is accepted. While it is open its cut is frozen: the claims of the cut, and in a FUNDED round the accounts
 //!   of its parties.

@@ -43,6 +43,7 @@ fn confirm(rt: &impl Abort, creditor: u8, invoice: &[u8], debtor: u8) -> Act {
     Act::Confirm {
         key: key_of(rt, creditor, invoice),
         debtor: firm(rt, debtor),
+        agreed: None,
     }
 }
 

@@ -32,6 +32,7 @@ why_name why.NoRound = codes "16 no-round"
 why_name (why.NotOwner round) = codes "17 not-owner"
 why_name (why.Device before after) = codes "18 device"
 why_name why.NotProved = codes "19 not-proved"
+why_name why.OverAmount = codes "20 over-amount"
 
 -- a number after a space
 abbrev pub spaced : ℕ → List ℕ

@@ -36,6 +36,7 @@ fn name_of(why: Why) -> &'static [u8]
         Why::NotOwner { .. } => b"17 not-owner",
         Why::Device { .. } => b"18 device",
         Why::NotProved => b"19 not-proved",
+        Why::OverAmount => b"20 over-amount",
     }
 }
 

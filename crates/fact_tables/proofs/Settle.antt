@@ -27,7 +27,7 @@ use Rattle.claim_history.specs.Laws.{IsWithin}
 use Rattle.claim_history.specs.Facts.{at_place, claim_place, flow_of, party_place}
 use Rattle.name_index.proofs.Pushed.{none_there, pushed_here, pushed_other}
 use Rattle.fact_tables.specs.Settling.{settled_claim, settled_account}
-use Rattle.fact_tables.specs.Tables.{with_receipt, funded, drawn, AreSmall, AreWithin}
+use Rattle.fact_tables.specs.Tables.{reduced, with_receipt, funded, drawn, AreSmall, AreWithin}
 use Rattle.fact_tables.proofs.Flowing.{flow_step, flow_small}
 use Rattle.fact_tables.proofs.Keyed.{same_keys, if_same}
 
@@ -39,7 +39,7 @@ not_one false d never = refl
 
 -- what the first claims of a cut leave of a claim
 abbrev pub claim_after : CutView → List ℕ → ℕ → ClaimFact → ClaimFact
-claim_after cut d i c = record c { left = c.left - at_place d (claim_place (take i cut.claims) c.key) }
+claim_after cut d i c = reduced (at_place d (claim_place (take i cut.claims) c.key)) c
 
 -- no claim of a cut before the one at i has its key
 no_earlier : (claims : List CutClaim) (i : ℕ) (x : CutClaim) → AllPairs (λ a b. a.key ≢ b.key) claims → i < length claims → x ≡ get_or claims i x → list_any (λ c. same_key x.key c.key) (take i claims) ≡ false
@@ -51,22 +51,26 @@ no_earlier claims i x apart lt is =
     not_one (same_key x.key c.key) (same_key_is x.key c.key) (λ same.
     apart k i d before lt (ap (λ (y : CutClaim). y.key) (sym (get_or-take i claims k d before)) ∙ sym same ∙ ap (λ (y : CutClaim). y.key) (is ∙ get_or_default claims i x d lt))))
 
-left_step : (left before now : ℕ) → before ≡ 0 → left - before - now ≡ left - now
-left_step left before now none = omega (arith, none)
+-- nothing is taken off
+pub reduced_none : (c : ClaimFact) → reduced 0 c ≡ c
+reduced_none c = ap₂ (λ (left part : ℕ). record c { left = left; part = part }) (none c.left) (none c.part)
+  where
+    none : (n : ℕ) → n - 0 ≡ n
+    none n = omega arith
 
 -- the next claim of the cut, by whether a claim is it
 claim_by : (cut : CutView) (d : List ℕ) (i : ℕ) (x : CutClaim) (c : ClaimFact) (b : Bool) → same_key x.key c.key ≡ b → length (take i cut.claims) ≡ i → list_any (λ y. same_key x.key y.key) (take i cut.claims) ≡ false
-    → (if b then record c { left = (claim_after cut d i c).left - slice_index d i } else claim_after cut d i c) ≡ record c { left = c.left - at_place d (claim_place (take i cut.claims ++ x ∷ []) c.key) }
+    → (if b then reduced (slice_index d i) (claim_after cut d i c) else claim_after cut d i c) ≡ reduced (at_place d (claim_place (take i cut.claims ++ x ∷ []) c.key)) c
 claim_by cut d i x c true same short none =
     let key : x.key ≡ c.key = (same_key_is x.key c.key).0 same in
     let test : list_any (λ y. same_key c.key y.key) (take i cut.claims) ≡ false = subst (λ (k : Key). list_any (λ y. same_key k y.key) (take i cut.claims) ≡ false) key none in
     let here : same_key c.key x.key ≡ true = (same_key_is c.key x.key).1 (sym key) in
     let before : at_place d (claim_place (take i cut.claims) c.key) ≡ 0 = ap (at_place d) (none_there (λ y. same_key c.key y.key) (take i cut.claims) test) in
     let after : at_place d (claim_place (take i cut.claims ++ x ∷ []) c.key) ≡ slice_index d i = ap (at_place d) (pushed_here (λ y. same_key c.key y.key) (take i cut.claims) x test here) ∙ ap (slice_index d) short in
-    ap (λ (n : ℕ). record c { left = n }) (left_step c.left (at_place d (claim_place (take i cut.claims) c.key)) (slice_index d i) before ∙ ap (λ (n : ℕ). c.left - n) (sym after))
+    ap (λ (n : ℕ). reduced (slice_index d i) (reduced n c)) before ∙ ap (reduced (slice_index d i)) (reduced_none c) ∙ ap (λ (n : ℕ). reduced n c) (sym after)
 claim_by cut d i x c false other short none =
     let not_here : same_key c.key x.key ≡ false = not_one (same_key c.key x.key) (same_key_is c.key x.key) (λ e. true≢false (sym ((same_key_is x.key c.key).1 (sym e)) ∙ other)) in
-    ap (λ (p : Option ℕ). record c { left = c.left - at_place d p }) (sym (pushed_other (λ y. same_key c.key y.key) (take i cut.claims) x not_here))
+    ap (λ (p : Option ℕ). reduced (at_place d p) c) (sym (pushed_other (λ y. same_key c.key y.key) (take i cut.claims) x not_here))
 
 pub claim_next : (cut : CutView) (d : List ℕ) (i : ℕ) (x : CutClaim) (amount : ℕ) → AllPairs (λ a b. a.key ≢ b.key) cut.claims → i < length cut.claims → x ≡ get_or cut.claims i x → amount ≡ slice_index d i → (c : ClaimFact)
     → with_receipt x.key amount (claim_after cut d i c) ≡ claim_after cut d (i + 1) c
@@ -75,7 +79,7 @@ claim_next cut d i x amount apart lt is due c =
     let grown : take i cut.claims ++ x ∷ [] ≡ take (i + 1) cut.claims = ap (λ y. take i cut.claims ++ y ∷ []) is ∙ sym (take-suc cut.claims i x lt) ∙ ap (λ n. take n cut.claims) next in
     ap (λ n. with_receipt x.key n (claim_after cut d i c)) due
     ∙ claim_by cut d i x c (same_key x.key c.key) refl (length-take-le i cut.claims (omega (arith, lt))) (no_earlier cut.claims i x apart lt is)
-    ∙ ap (λ (cs : List CutClaim). record c { left = c.left - at_place d (claim_place cs c.key) }) grown
+    ∙ ap (λ (cs : List CutClaim). reduced (at_place d (claim_place cs c.key)) c) grown
 
 -- a step of each row
 pub map_step : {X : Type 0} (f g h : X → X) (xs : List X) → ((x : X) → f (g x) ≡ h x) → map f (map g xs) ≡ map h xs
@@ -95,7 +99,7 @@ map_same f g (x ∷ xs) same = ap₂ (λ y ys. y ∷ ys) (same x) (map_same f g 
 pub claims_whole : (cut : CutView) (d : List ℕ) (i : ℕ) (facts : List ClaimFact) → length cut.claims ≤ i → map (claim_after cut d i) facts ≡ map (settled_claim (record { cut = cut; discharges = d })) facts
 claims_whole cut d i facts ge =
     map_same (claim_after cut d i) (settled_claim (record { cut = cut; discharges = d })) facts
-    (λ c. ap (λ (cs : List CutClaim). record c { left = c.left - at_place d (claim_place cs c.key) }) (take_all i cut.claims ge))
+    (λ c. ap (λ (cs : List CutClaim). reduced (at_place d (claim_place cs c.key)) c) (take_all i cut.claims ge))
 
 -- ---- accounts
 

@@ -1,5 +1,5 @@
 -- Running sums follow the claims.
-use Rattle.std.specs.Prelude.{is_some, map, filter, sum, sum_by, set, position, Option, Some, None, if◌then◌else◌, ◌&&◌, slice_index}
+use Rattle.std.specs.Prelude.{is_some, map, filter, sum, sum_by, set, position, Option, Some, None, if◌then◌else◌, slice_index}
 use Rattle.std.specs.List.{list_any}
 use Rattle.std.proofs.Common.{◌≡◌, ℕ, zero, suc, ◌+◌, ◌-◌, ◌<◌, ◌≤◌, ◌^◌, Bool, true, false, cond, List, [], ◌∷◌, ◌++◌, length, get_or, refl, sym, ◌∙◌, ap, subst, true≢false, arith}
 use Rattle.std.proofs.lemmas.Bool.{cond-true, cond-false, or_right}
@@ -12,7 +12,7 @@ use Rattle.setoff_model.specs.Same.{same_name}
 use Rattle.setoff_model.proofs.Lists.{position_none}
 use Rattle.setoff_model.proofs.SameNames.{same_name_is, name_same}
 use Rattle.claim_history.specs.declared.fact.ClaimFact.{ClaimFact}
-use Rattle.claim_history.specs.Facts.{at_place, is_confirmed}
+use Rattle.claim_history.specs.Facts.{at_place}
 use Rattle.name_index.proofs.Places.{position_any, or_left}
 use Rattle.name_index.proofs.Pushed.{none_there, pushed_here, pushed_other}
 use Rattle.fact_tables.specs.Sums.{SumsView, sum_of, has_sum, owed_at, AreSums}
@@ -97,22 +97,16 @@ still_known firms firm other known = list_any-append (same_name other) firms (fi
 
 -- ---- what a claim counts
 
--- what a claim counts: its open amount where it is confirmed
-abbrev pub counted : ClaimFact → ℕ
-counted c = cond (is_confirmed c.status) c.left 0
-
 -- what a claim counts for a firm
 abbrev pub weight : (ClaimFact → List ℕ) → List ℕ → ClaimFact → ℕ
-weight side firm c = cond (same_name firm (side c)) (counted c) 0
+weight side firm c = cond (same_name firm (side c)) c.part 0
 
-weigh_step : (a b : Bool) (left rest more : ℕ) → rest ≡ more → sum (cond (a && b) (left ∷ []) []) + rest ≡ cond b (cond a left 0) 0 + more
-weigh_step true true left rest more e = omega (arith, e)
-weigh_step true false left rest more e = omega (arith, e)
-weigh_step false true left rest more e = omega (arith, e)
-weigh_step false false left rest more e = omega (arith, e)
+weigh_step : (b : Bool) (part rest more : ℕ) → rest ≡ more → sum (cond b (part ∷ []) []) + rest ≡ cond b part 0 + more
+weigh_step true part rest more e = omega (arith, e)
+weigh_step false part rest more e = omega (arith, e)
 
-split_step : (a : Bool) (x : ClaimFact) (xs : List ClaimFact) → sum (map (λ c. c.left) (cond a (x ∷ xs) xs)) ≡ sum (cond a (x.left ∷ []) []) + sum (map (λ c. c.left) xs)
-split_step true x xs = sum_by-cons (λ n. n) x.left (map (λ c. c.left) xs) ∙ ap (λ (n : ℕ). n + sum (map (λ c. c.left) xs)) (more x.left)
+split_step : (a : Bool) (x : ClaimFact) (xs : List ClaimFact) → sum (map (λ c. c.part) (cond a (x ∷ xs) xs)) ≡ sum (cond a (x.part ∷ []) []) + sum (map (λ c. c.part) xs)
+split_step true x xs = sum_by-cons (λ n. n) x.part (map (λ c. c.part) xs) ∙ ap (λ (n : ℕ). n + sum (map (λ c. c.part) xs)) (more x.part)
   where
     more : (n : ℕ) → n ≡ sum (n ∷ [])
     more n = omega arith
@@ -121,19 +115,22 @@ split_step false x xs = omega arith
 pub weighed : (side : ClaimFact → List ℕ) (firm : List ℕ) (claims : List ClaimFact) → owed_at side firm claims ≡ sum_by (weight side firm) claims
 weighed side firm [] = refl
 weighed side firm (x ∷ xs) =
-    let p = λ (c : ClaimFact). is_confirmed c.status && same_name firm (side c) in
-    split_step (p x) x (filter p xs)
-    ∙ weigh_step (is_confirmed x.status) (same_name firm (side x)) x.left (owed_at side firm xs) (sum_by (weight side firm) xs) (weighed side firm xs)
+    split_step (same_name firm (side x)) x (filter (λ c. same_name firm (side c)) xs)
+    ∙ weigh_step (same_name firm (side x)) x.part (owed_at side firm xs) (sum_by (weight side firm) xs) (weighed side firm xs)
     ∙ sym (sum_by-cons (weight side firm) x xs)
 
-counted_le : (a : Bool) (n : ℕ) → cond a n 0 ≤ n
-counted_le true n = omega arith
-counted_le false n = omega arith
+cond_le : (a : Bool) (n : ℕ) → cond a n 0 ≤ n
+cond_le true n = omega arith
+cond_le false n = omega arith
 
-weight_le : (side : ClaimFact → List ℕ) (firm : List ℕ) (c : ClaimFact) → weight side firm c ≤ c.left
-weight_le side firm c = omega (arith, counted_le (same_name firm (side c)) (counted c), counted_le (is_confirmed c.status) c.left)
+weight_le : (side : ClaimFact → List ℕ) (firm : List ℕ) (c : ClaimFact) → weight side firm c ≤ c.part
+weight_le side firm c = cond_le (same_name firm (side c)) c.part
 
 -- ---- a claim changed
+
+-- where a part does not grow, the parts together do not
+pub total_kept : (xs : List ClaimFact) (i : ℕ) (x y : ClaimFact) → i < length xs → x ≡ get_or xs i x → y.part ≤ x.part → sum_by (λ c. c.part) (set xs i y) ≤ sum_by (λ c. c.part) xs
+total_kept xs i x y lt is le = omega (arith, le, ap (λ (z : ClaimFact). z.part) is, sum_by-set (λ (c : ClaimFact). c.part) xs i y x lt)
 
 -- the sum of the firm of the claim at i
 module _ (side : ClaimFact → List ℕ) (xs : List ClaimFact) (s : SumsView) (i : ℕ) (x y : ClaimFact) (are : AreSums side xs s) (lt : i < length xs) (is : x ≡ get_or xs i x) (same : side y ≡ side x) where
@@ -143,51 +140,47 @@ module _ (side : ClaimFact → List ℕ) (xs : List ClaimFact) (s : SumsView) (i
   pub firm_known : has_sum s (side y) ≡ true
   firm_known = ap (has_sum s) (same ∙ ap side is) ∙ are.known i x lt
 
-  own : counted x ≡ weight side (side y) x
-  own = sym (cond-true (same_name (side y) (side x)) (counted x) 0 here)
+  own : x.part ≡ weight side (side y) x
+  own = sym (cond-true (same_name (side y) (side x)) x.part 0 here)
 
   summed : sum_of s (side y) ≡ sum_by (weight side (side y)) xs
   summed = are.sums (side y) ∙ weighed side (side y) xs
 
-  pub enough : counted x ≤ sum_of s (side y)
+  pub enough : x.part ≤ sum_of s (side y)
   enough = omega (arith, own, ap (weight side (side y)) is, get_or-le-sum_by (weight side (side y)) xs i x lt, summed)
 
   replaced : (firm : List ℕ) → sum_by (weight side firm) (set xs i y) + weight side firm x ≡ sum_by (weight side firm) xs + weight side firm y
   replaced firm = ap (λ (z : ClaimFact). sum_by (weight side firm) (set xs i y) + weight side firm z) is ∙ sum_by-set (weight side firm) xs i y x lt
 
-  own_new : weight side (side y) y ≡ counted y
-  own_new = cond-true (same_name (side y) (side y)) (counted y) 0 (name_same (side y))
+  own_new : weight side (side y) y ≡ y.part
+  own_new = cond-true (same_name (side y) (side y)) y.part 0 (name_same (side y))
 
-  new_is : sum_of s (side y) - counted x + counted y ≡ sum_by (weight side (side y)) (set xs i y)
+  new_is : sum_of s (side y) - x.part + y.part ≡ sum_by (weight side (side y)) (set xs i y)
   new_is = omega (arith, summed, own, own_new, replaced (side y), enough)
 
-  -- the open amounts together do not grow
-  pub total_kept : y.left ≤ x.left → sum_by (λ c. c.left) (set xs i y) ≤ sum_by (λ c. c.left) xs
-  total_kept le = omega (arith, le, ap (λ (z : ClaimFact). z.left) is, sum_by-set (λ (c : ClaimFact). c.left) xs i y x lt)
+  pub fits : sum_by (λ c. c.part) (set xs i y) < 2 ^ 64 → sum_of s (side y) - x.part + y.part < 2 ^ 64
+  fits small = omega (arith, new_is, small, sum_by-le-sum_by (weight side (side y)) (λ c. c.part) (set xs i y) (weight_le side (side y)))
 
-  pub fits : y.left ≤ x.left → sum_by (λ c. c.left) xs < 2 ^ 64 → sum_of s (side y) - counted x + counted y < 2 ^ 64
-  fits le small = omega (arith, new_is, total_kept le, small, sum_by-le-sum_by (weight side (side y)) (λ c. c.left) (set xs i y) (weight_le side (side y)))
-
-  pub sums_follow : (t : SumsView) → ((other : List ℕ) → has_sum t other ≡ has_sum s other) → ((other : List ℕ) → sum_of t other ≡ (if same_name (side y) other then sum_of s other - counted x + counted y else sum_of s other))
+  pub sums_follow : (t : SumsView) → ((other : List ℕ) → has_sum t other ≡ has_sum s other) → ((other : List ℕ) → sum_of t other ≡ (if same_name (side y) other then sum_of s other - x.part + y.part else sum_of s other))
       → AreSums side (set xs i y) t
   sums_follow t known changed = record {
     known = All-set (λ c. has_sum t (side c) ≡ true) xs i y (known (side y) ∙ firm_known) (λ k d less. known (side (get_or xs k d)) ∙ are.known k d less);
     sums = λ firm. changed firm ∙ by firm (same_name (side y) firm) refl ∙ sym (weighed side firm (set xs i y));
   }
     where
-      by : (firm : List ℕ) (b : Bool) → same_name (side y) firm ≡ b → (if b then sum_of s firm - counted x + counted y else sum_of s firm) ≡ sum_by (weight side firm) (set xs i y)
+      by : (firm : List ℕ) (b : Bool) → same_name (side y) firm ≡ b → (if b then sum_of s firm - x.part + y.part else sum_of s firm) ≡ sum_by (weight side firm) (set xs i y)
       by firm true e =
           let name : side y ≡ firm = (same_name_is (side y) firm).0 e in
-          subst (λ (n : List ℕ). sum_of s n - counted x + counted y ≡ sum_by (weight side n) (set xs i y)) name new_is
+          subst (λ (n : List ℕ). sum_of s n - x.part + y.part ≡ sum_by (weight side n) (set xs i y)) name new_is
       by firm false e =
           let differ : same_name firm (side y) ≡ false = not_one (same_name firm (side y)) (same_name_is firm (side y)) (λ e'. true≢false (sym ((same_name_is (side y) firm).1 (sym e')) ∙ e)) in
-          let no_x : weight side firm x ≡ 0 = cond-false (same_name firm (side x)) (counted x) 0 (ap (same_name firm) (sym same) ∙ differ) in
-          let no_y : weight side firm y ≡ 0 = cond-false (same_name firm (side y)) (counted y) 0 differ in
+          let no_x : weight side firm x ≡ 0 = cond-false (same_name firm (side x)) x.part 0 (ap (same_name firm) (sym same) ∙ differ) in
+          let no_y : weight side firm y ≡ 0 = cond-false (same_name firm (side y)) y.part 0 differ in
           omega (arith, are.sums firm, weighed side firm xs, replaced firm, no_x, no_y)
 
 -- ---- a claim filed
 
-pub sums_filed : (side : ClaimFact → List ℕ) (xs : List ClaimFact) (s t : SumsView) (y : ClaimFact) → AreSums side xs s → counted y ≡ 0 → has_sum t (side y) ≡ true → ((other : List ℕ) → has_sum s other ≡ true → has_sum t other ≡ true)
+pub sums_filed : (side : ClaimFact → List ℕ) (xs : List ClaimFact) (s t : SumsView) (y : ClaimFact) → AreSums side xs s → y.part ≡ 0 → has_sum t (side y) ≡ true → ((other : List ℕ) → has_sum s other ≡ true → has_sum t other ≡ true)
     → ((other : List ℕ) → sum_of t other ≡ sum_of s other) → AreSums side (xs ++ y ∷ []) t
 sums_filed side xs s t y are none begun known sums = record {
   known = All-push (λ c. has_sum t (side c) ≡ true) xs y (λ k d lt. known (side (get_or xs k d)) (are.known k d lt)) begun;
@@ -195,7 +188,7 @@ sums_filed side xs s t y are none begun known sums = record {
 }
   where
     nothing : (firm : List ℕ) → sum_by (weight side firm) (y ∷ []) ≡ 0
-    nothing firm = omega (arith, sum_by-cons (weight side firm) y [], counted_le (same_name firm (side y)) (counted y), none)
+    nothing firm = omega (arith, sum_by-cons (weight side firm) y [], cond_le (same_name firm (side y)) y.part, none)
 
     more : (firm : List ℕ) → sum_by (weight side firm) xs ≡ sum_by (weight side firm) (xs ++ y ∷ [])
     more firm = omega (arith, sum_by-append (weight side firm) xs (y ∷ []), nothing firm)

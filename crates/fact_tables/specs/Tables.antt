@@ -1,5 +1,5 @@
 -- The tables of claims and accounts, and how an entry changes them.
-use Rattle.std.specs.Prelude.{◌≡◌, ℕ, Bool, length, ◌-◌, ◌≤◌, count_by, All, ◌∷◌, ◌++◌, [], List, map, pos, ◌+ℤ◌, ◌-ℤ◌, if◌then◌else◌}
+use Rattle.std.specs.Prelude.{◌≡◌, ℕ, Bool, length, ◌-◌, ◌≤◌, count_by, All, ◌∷◌, ◌++◌, [], List, map, Option, None, pos, ◌+ℤ◌, ◌-ℤ◌, if◌then◌else◌}
 use Rattle.setoff_model.specs.declared.name.Key.{Key}
 use Rattle.setoff_model.specs.declared.limits.TheConstants.{FIRST_CEILING}
 use Rattle.setoff_model.specs.Same.{same_name, same_key}
@@ -10,6 +10,7 @@ use Rattle.claim_history.specs.declared.fact.Status.{Status}
 use Rattle.claim_history.specs.declared.fact.Status.TheVariants as status
 use Rattle.claim_history.specs.declared.fact.ClaimFact.{ClaimFact}
 use Rattle.claim_history.specs.declared.fact.AccountFact.{AccountFact}
+use Rattle.claim_history.specs.Facts.{amount_or, is_confirmed}
 use Rattle.claim_history.specs.History.{is_accepted}
 use Rattle.claim_history.specs.Laws.{IsWithin}
 
@@ -71,22 +72,35 @@ accounts_with e accounts = if is_accepted e then accounts_after e.act accounts e
 
 -- a claim that was just filed
 abbrev pub new_claim : Key → List ℕ → ℕ → ℕ → ClaimFact
-new_claim key debtor amount due = record { key = key; debtor = debtor; status = status.Filed; amount = amount; left = amount; due = due }
+new_claim key debtor amount due = record { key = key; debtor = debtor; status = status.Filed; amount = amount; left = amount; part = 0; due = due }
+
+-- what is open of the amount that is agreed to, or of all where none is named: what was paid counts against it first; 0 in another
+-- status
+abbrev pub part_in : Status → Option ℕ → ClaimFact → ℕ
+part_in to agreed c = if is_confirmed to then amount_or c.amount agreed - (c.amount - c.left) else 0
+
+-- the claim with a new status, and what is agreed to in it
+abbrev pub restated : Status → Option ℕ → ClaimFact → ClaimFact
+restated to agreed c = record c { status = to; part = part_in to agreed c }
 
 -- the key's row with a new status
-abbrev pub with_status : Key → Status → ClaimFact → ClaimFact
-with_status key to c = if same_key key c.key then record c { status = to } else c
+abbrev pub with_status : Key → Status → Option ℕ → ClaimFact → ClaimFact
+with_status key to agreed c = if same_key key c.key then restated to agreed c else c
+
+-- the claim with an amount taken off what is open and off the part that is agreed to
+abbrev pub reduced : ℕ → ClaimFact → ClaimFact
+reduced amount c = record c { left = c.left - amount; part = c.part - amount }
 
 -- the key's row with the amount received
 abbrev pub with_receipt : Key → ℕ → ClaimFact → ClaimFact
-with_receipt key amount c = if same_key key c.key then record c { left = c.left - amount } else c
+with_receipt key amount c = if same_key key c.key then reduced amount c else c
 
 -- the claims after an accepted act
 abbrev pub claims_after : Act → List ClaimFact → List ClaimFact
 claims_after (act.File key debtor amount due) claims = claims ++ new_claim key debtor amount due ∷ []
-claims_after (act.Confirm key debtor) claims = map (with_status key status.Confirmed) claims
-claims_after (act.Dispute key debtor) claims = map (with_status key status.Disputed) claims
-claims_after (act.Withdraw key) claims = map (with_status key status.Withdrawn) claims
+claims_after (act.Confirm key debtor agreed) claims = map (with_status key status.Confirmed agreed) claims
+claims_after (act.Dispute key debtor) claims = map (with_status key status.Disputed None) claims
+claims_after (act.Withdraw key) claims = map (with_status key status.Withdrawn None) claims
 claims_after (act.Receive key amount) claims = map (with_receipt key amount) claims
 claims_after _ claims = claims
 

@@ -1,10 +1,9 @@
 //! The claims of a book.
-ghost use Rattle.std.specs.Prelude.{Bool, ◌≡◌, ◌+◌, ◌<◌, ◌≤◌, ◌++◌, ◌∷◌, [], false, ◌&&◌, ◌||◌, sum, filter, find, position, map, set, length, get_or, OnOk, OnErr, if◌then◌else◌};
+ghost use Rattle.std.specs.Prelude.{Bool, ◌≡◌, ◌+◌, ◌<◌, ◌≤◌, ◌^◌, ◌++◌, ◌∷◌, [], false, ◌||◌, sum, sum_by, filter, find, position, map, set, length, get_or, OnOk, OnErr};
 ghost use Rattle.setoff_model.specs.CutView.{WellFormed};
 ghost use Rattle.setoff_model.specs.Same.{same_name, same_key};
-ghost use Rattle.claim_history.specs.Facts.{is_confirmed as confirmed};
 ghost use Rattle.fact_tables.specs.Settling.{settled_claim};
-ghost use Rattle.fact_tables.specs.Tables.{new_claim, with_status, with_receipt, claims_with};
+ghost use Rattle.fact_tables.specs.Tables.{new_claim, part_in, with_status, with_receipt, claims_with};
 ghost use Rattle.fact_tables.specs.Sums.{MayStand};
 ghost use Rattle.claim_history.specs.declared.fact.ClaimFact.{ClaimFact};
 ghost use Rattle.fact_tables.specs.Marks.{claims_in, no_marks, claim_marks_with, mark_at};
@@ -17,7 +16,7 @@ use setoff_model::{Cut, CutClaim, Key, Name};
 use std::alloc::{AllocError, Global};
 use std::marker::Model;
 
-/// The claims in order of filing, with their status and open amount, and a mark for each. No key is there twice.
+/// The claims in order of filing, with their status, open amount and part, and a mark for each. No key is there twice.
 ///
 /// Beside them stands the room: how many claims may be filed without taking memory.
 #[derive(Drop)]
@@ -96,16 +95,16 @@ impl ClaimTable {
         }
     }
 
-    /// What a firm is owed on its confirmed claims, in cents.
+    /// What a firm is owed, in cents: the sum of the parts of its claims.
     pub fn owed_to(&self, firm: &Name) -> u64
-        ensures { result ≡ sum (map (λ c. c.left) (filter (λ c. confirmed c.status && same_name firm.now c.key.creditor) self.now.facts)) }
+        ensures { result ≡ sum (map (λ c. c.part) (filter (λ c. same_name firm.now c.key.creditor) self.now.facts)) }
     {
         self.receivables.sum(firm)
     }
 
-    /// What a firm owes on confirmed claims, in cents.
+    /// What a firm owes, in cents: the sum of the parts of the claims on it.
     pub fn owed_by(&self, firm: &Name) -> u64
-        ensures { result ≡ sum (map (λ c. c.left) (filter (λ c. confirmed c.status && same_name firm.now c.debtor) self.now.facts)) }
+        ensures { result ≡ sum (map (λ c. c.part) (filter (λ c. same_name firm.now c.debtor) self.now.facts)) }
     {
         self.payables.sum(firm)
     }
@@ -144,8 +143,8 @@ impl ClaimTable {
         self.marks.fill(false);
     }
 
-    /// Changes the claims as an entry says, where it is accepted. There is room for one more, no key is filed twice, and the open
-    /// amounts together stay below 2^64 cents. It takes no memory.
+    /// Changes the claims as an entry says, where it is accepted. There is room for one more, no key is filed twice, and the parts
+    /// together stay below 2^64 cents. It takes no memory.
     pub fn apply(&mut self, entry: &Entry)
         requires room { 0 < self.old.room }
         requires stand { MayStand (claims_with entry.now self.old.facts) }
@@ -163,9 +162,9 @@ impl ClaimTable {
                 amount,
                 due,
             } => self.add_claim(key, debtor, *amount, due),
-            Act::Confirm { key, .. } => self.set_status(key, Status::Confirmed),
-            Act::Dispute { key, .. } => self.set_status(key, Status::Disputed),
-            Act::Withdraw { key } => self.set_status(key, Status::Withdrawn),
+            Act::Confirm { key, agreed, .. } => self.set_status(key, Status::Confirmed, *agreed),
+            Act::Dispute { key, .. } => self.set_status(key, Status::Disputed, None),
+            Act::Withdraw { key } => self.set_status(key, Status::Withdrawn, None),
             Act::Receive { key, amount } => self.receive(key, *amount),
             Act::Firm { .. }
             | Act::Fund { .. }
@@ -253,6 +252,7 @@ impl ClaimTable {
             status: Status::Filed,
             amount,
             left: amount,
+            part: 0,
             due: *due,
         });
     }
@@ -264,14 +264,22 @@ impl ClaimTable {
         self.keys.place(key)
     }
 
-    fn set_status(&mut self, key: &Key, status: Status)
-        ensures facts { self.new.facts ≡ map (with_status key.now status) self.old.facts }
+    // Gives a claim a status, and the part that is open of what is agreed to.
+    fn set_status(&mut self, key: &Key, status: Status, agreed: Option<u64>)
+        requires { MayStand (map (with_status key.now status agreed) self.old.facts) }
+        ensures facts { self.new.facts ≡ map (with_status key.now status agreed) self.old.facts }
         ensures marks { self.new.marks ≡ self.old.marks }
         ensures room { self.new.room ≡ self.old.room }
     {
         if let Some(place) = self.keys.place(key) {
             let claim = self.facts[place];
-            let _ = self.put(place, Sides::new(), ClaimFact { status, ..claim });
+            let part = part_of(&claim, status, agreed);
+            let restated = ClaimFact {
+                status,
+                part,
+                ..claim
+            };
+            let _ = self.put(place, Sides::new(), restated);
         }
     }
 
@@ -284,7 +292,7 @@ impl ClaimTable {
         let _ = self.receive_at(found, Sides::new(), key, amount);
     }
 
-    // Takes an amount off the claim that was found, if any was.
+    // Takes an amount off the claim that was found, if any was: off what is open, and off the part that is agreed to.
     fn receive_at(&mut self, found: Option<usize>, sides: Sides, key: &Key, amount: u64) -> Sides
         requires { found ≡ position (λ c. same_key key.now c.key) self.old.facts }
         ensures facts { self.new.facts ≡ map (with_receipt key.now amount) self.old.facts }
@@ -297,25 +305,33 @@ impl ClaimTable {
             Some(place) => {
                 let claim = self.facts[place];
                 let left = claim.left.saturating_sub(amount);
-                self.put(place, sides, ClaimFact { left, ..claim })
+                let part = claim.part.saturating_sub(amount);
+                self.put(
+                    place,
+                    sides,
+                    ClaimFact {
+                        left,
+                        part,
+                        ..claim
+                    },
+                )
             }
         }
     }
 
-    // Puts a claim of the same key and debtor at a place, with no more open. Gives where its two firms have their sums, which are
-    // looked for at some sides first.
+    // Puts a claim of the same key and debtor at a place, where the parts together still fit. Gives where its two firms have their
+    // sums, which are looked for at some sides first.
     fn put(&mut self, place: usize, sides: Sides, claim: ClaimFact) -> Sides
         requires within { place < length self.old.facts }
         requires key { claim.key ≡ (get_or self.old.facts place claim).key }
         requires debtor { claim.debtor ≡ (get_or self.old.facts place claim).debtor }
-        requires left { claim.left ≤ (get_or self.old.facts place claim).left }
+        requires small { sum_by (λ c. c.part) (set self.old.facts place claim) < 2 ^ 64 }
         ensures facts { self.new.facts ≡ set self.old.facts place claim }
         ensures marks { self.new.marks ≡ self.old.marks }
         ensures room { self.new.room ≡ self.old.room }
     {
-        let old = self.facts[place];
-        let less = counted(&old);
-        let more = counted(&claim);
+        let less = self.facts[place].part;
+        let more = claim.part;
         let creditor = self
             .receivables
             .change(sides.creditor, &claim.key.creditor, less, more);
@@ -327,12 +343,15 @@ impl ClaimTable {
     }
 }
 
-// What a claim counts in the sums: its open amount where it is confirmed.
-fn counted(claim: &ClaimFact) -> u64
-    ensures { result ≡ (if confirmed claim.now.status then claim.now.left else 0) }
+// The part of a claim that is open in a status, of an amount that is agreed to, or of all where none is named.
+fn part_of(claim: &ClaimFact, status: Status, agreed: Option<u64>) -> u64
+    ensures { result ≡ part_in status agreed claim.now }
 {
-    match claim.status {
-        Status::Confirmed => claim.left,
+    match status {
+        Status::Confirmed => {
+            let paid = claim.amount.saturating_sub(claim.left);
+            agreed.unwrap_or(claim.amount).saturating_sub(paid)
+        }
         Status::Filed | Status::Disputed | Status::Withdrawn => 0,
     }
 }

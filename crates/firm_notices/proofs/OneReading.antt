@@ -112,7 +112,7 @@ is_good fields (act.File key debtor amount due) why valid e bad =
     let names = and_parts (is_name key.creditor) (is_name key.invoice) debtors.0 in
     no_cause fields why key.creditor key.invoice debtor amount due (ap fields_after e) names.0 names.1 debtors.1 amounts.1 days.1 bad
 is_good fields (act.Firm firm) why valid e _ = let clash : 76 ≡ 82 = letter 2 _ _ e in absurd (omega (arith, clash))
-is_good fields (act.Confirm key debtor) why valid e _ = let clash : 70 ≡ 67 = letter 0 _ _ e in absurd (omega (arith, clash))
+is_good fields (act.Confirm key debtor agreed) why valid e _ = let clash : 70 ≡ 67 = letter 0 _ _ e in absurd (omega (arith, clash))
 is_good fields (act.Dispute key debtor) why valid e _ = let clash : 70 ≡ 68 = letter 0 _ _ e in absurd (omega (arith, clash))
 is_good fields (act.Withdraw key) why valid e _ = let clash : 70 ≡ 87 = letter 0 _ _ e in absurd (omega (arith, clash))
 is_good fields (act.Receive key amount) why valid e _ = let clash : 70 ≡ 82 = letter 0 _ _ e in absurd (omega (arith, clash))

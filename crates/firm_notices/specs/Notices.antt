@@ -23,13 +23,13 @@ is_open claim = not (is_withdrawn claim.status) && nat_lt 0 claim.left
 -- the names of the fields
 abbrev pub notice_names : List (List ℕ)
 notice_names = codes "debtor" ∷ codes "creditor" ∷ codes "invoice" ∷ codes "status" ∷ codes "amount" ∷ codes "open"
-    ∷ codes "due" ∷ codes "overdue" ∷ []
+    ∷ codes "part" ∷ codes "due" ∷ codes "overdue" ∷ []
 
 -- the fields of a claim; the last is the number of days from the due day to today, 0 where it is not past
 abbrev pub notice_fields : ℕ → ClaimFact → List (List ℕ)
 notice_fields today claim =
     claim.debtor ∷ claim.key.creditor ∷ claim.key.invoice ∷ status_text claim.status ∷ cents_text claim.amount ∷ cents_text claim.left
-    ∷ day_text claim.due ∷ decimal (today - claim.due) ∷ []
+    ∷ cents_text claim.part ∷ day_text claim.due ∷ decimal (today - claim.due) ∷ []
 
 -- the names, and a row for each open claim in order of filing
 abbrev pub notice_rows : ℕ → List ClaimFact → List (List (List ℕ))

@@ -28,6 +28,7 @@ pub fn notices(alloc: Global, book: &Book, today: Day) -> Result<Vec<u8>, AllocE
             b"status",
             b"amount",
             b"open",
+            b"part",
             b"due",
             b"overdue",
         ],
@@ -52,6 +53,7 @@ fn is_open(claim: &ClaimFact) -> bool
 struct Figures {
     amount: Vec<u8>,
     open: Vec<u8>,
+    part: Vec<u8>,
     due: Vec<u8>,
     overdue: Vec<u8>,
 }
@@ -68,6 +70,7 @@ fn put_notice(
     let figures = Figures {
         amount: cents_field(alloc, claim.amount)?,
         open: cents_field(alloc, claim.left)?,
+        part: cents_field(alloc, claim.part)?,
         due: day_field(alloc, claim.due)?,
         overdue: overdue_field(alloc, claim.due, today)?,
     };
@@ -82,7 +85,8 @@ fn put_claim<'a>(
 ) -> Result<(), AllocError>
     ensures { OnOk result ((text : List ℕ) → HoldsText table.old text
         → HoldsText table.new (text ++ row_text default_writer (claim.now.debtor ∷ claim.now.key.creditor ∷ claim.now.key.invoice
-        ∷ status.now ∷ figures.now.amount.items ∷ figures.now.open.items ∷ figures.now.due.items ∷ figures.now.overdue.items ∷ []))) }
+        ∷ status.now ∷ figures.now.amount.items ∷ figures.now.open.items ∷ figures.now.part.items ∷ figures.now.due.items
+        ∷ figures.now.overdue.items ∷ []))) }
 {
     put_row(
         table,
@@ -93,6 +97,7 @@ fn put_claim<'a>(
             status,
             &figures.amount,
             &figures.open,
+            &figures.part,
             &figures.due,
             &figures.overdue,
         ],

@@ -18,6 +18,11 @@ const FILE: [u8; 25] = [
 
 const CONFIRM: [u8; 13] = [0, 0, 0, 1, 3, 1, 0x42, 3, 0x49, 0x2d, 0x31, 1, 0x41];
 
+// `1 CONFIRM B I-1 A 6.00`.
+const AGREE: [u8; 21] = [
+    0, 0, 0, 1, 16, 1, 0x42, 3, 0x49, 0x2d, 0x31, 1, 0x41, 0, 0, 0, 0, 0, 0, 2, 0x58,
+];
+
 const CLOSE: [u8; 10] = [0, 0, 0, 1, 12, 0, 0, 0, 0x4f, 0xe5];
 
 const PUBLISH: [u8; 53] = [
@@ -31,6 +36,12 @@ const ABANDON: [u8; 5] = [0, 0, 0, 0, 13];
 const FIRM_IN_EAST: [u8; 13] = [0, 0, 0, 1, 15, 4, 0x45, 0x41, 0x53, 0x54, 1, 1, 0x41];
 
 const ABANDON_IN_EAST: [u8; 11] = [0, 0, 0, 0, 15, 4, 0x45, 0x41, 0x53, 0x54, 13];
+
+// `1 @EAST CONFIRM B I-1 A 6.00`.
+const AGREE_IN_EAST: [u8; 27] = [
+    0, 0, 0, 1, 15, 4, 0x45, 0x41, 0x53, 0x54, 16, 1, 0x42, 3, 0x49, 0x2d, 0x31, 1, 0x41, 0, 0, 0,
+    0, 0, 0, 2, 0x58,
+];
 
 // What names B's claim I-1.
 fn key(rt: &impl Abort) -> Key {
@@ -50,10 +61,12 @@ fn file(rt: &impl Abort) -> Act {
     }
 }
 
-fn confirm(rt: &impl Abort) -> Act {
+// Its confirmation by A.
+fn confirm(rt: &impl Abort, agreed: Option<u64>) -> Act {
     Act::Confirm {
         key: key(rt),
         debtor: name(rt, b"A"),
+        agreed,
     }
 }
 
@@ -91,7 +104,8 @@ fn bodies_are_written(rt: HostRuntime) {
     let firm = name(&rt, b"A");
     is_written(&rt, &in_main(1, Act::Firm { firm }), &FIRM);
     is_written(&rt, &in_main(1, file(&rt)), &FILE);
-    is_written(&rt, &in_main(1, confirm(&rt)), &CONFIRM);
+    is_written(&rt, &in_main(1, confirm(&rt, None)), &CONFIRM);
+    is_written(&rt, &in_main(1, confirm(&rt, Some(600))), &AGREE);
     is_written(&rt, &in_main(1, close(&rt)), &CLOSE);
     is_written(&rt, &in_main(1, publish(&rt)), &PUBLISH);
     is_written(&rt, &in_main(0, Act::Abandon), &ABANDON);
@@ -102,6 +116,11 @@ fn another_pool_than_main_is_named(rt: HostRuntime) {
     let firm = name(&rt, b"A");
     is_written(&rt, &in_east(&rt, 1, Act::Firm { firm }), &FIRM_IN_EAST);
     is_written(&rt, &in_east(&rt, 0, Act::Abandon), &ABANDON_IN_EAST);
+    is_written(
+        &rt,
+        &in_east(&rt, 1, confirm(&rt, Some(600))),
+        &AGREE_IN_EAST,
+    );
     let opened = in_east(&rt, 0, Act::Firm { firm });
     assert!(rt; !can_be_kept(&opened));
     drop(opened);
@@ -117,10 +136,11 @@ fn is_read_back(rt: &(impl Abort + AllocGlobal), bytes: &[u8]) {
 
 #[test]
 fn bodies_are_read_back(rt: HostRuntime) {
-    let bodies: [&[u8]; 21] = [
+    let bodies: [&[u8]; 24] = [
         &FIRM,
         &FILE,
         &CONFIRM,
+        &AGREE,
         &CLOSE,
         &PUBLISH,
         &ABANDON,
@@ -134,6 +154,8 @@ fn bodies_are_read_back(rt: HostRuntime) {
         b"\0\0\0\x01\x09\x01A\0\0\0\0\0\0\0\0\0\0\0\0\0\0\0\x01",
         b"\0\0\0\x01\x0a\x01A\0\0\0\0\0\0\0\0",
         b"\0\0\0\x01\x0b\x10ABCDEFGHIJKLMNOP",
+        // a confirmation of 9999999999.99
+        b"\0\0\0\x01\x10\x01B\x03I-1\x01A\0\0\0\xe8\xd4\xa5\x0f\xff",
         // a FUNDED round up to 9999-12-31
         b"\0\0\0\x01\x0c\x01\0\x2c\xc0\xa0",
         // no claims and no parties; one party with the price -1
@@ -142,6 +164,7 @@ fn bodies_are_read_back(rt: HostRuntime) {
         // in the pool EAST, and a publication in one with a name of 16 bytes
         &FIRM_IN_EAST,
         &ABANDON_IN_EAST,
+        &AGREE_IN_EAST,
         b"\0\0\0\x01\x0f\x01E\x0c\0\0\0\x4f\xe5",
         b"\0\0\0\x01\x0f\x10ABCDEFGHIJKLMNOP\x0e\0\0\0\x01\0\0\0\0\0\0\0\0",
     ];
@@ -152,7 +175,7 @@ fn bodies_are_read_back(rt: HostRuntime) {
 
 #[test]
 fn other_bytes_are_no_bodies(rt: HostRuntime) {
-    let refused: [&[u8]; 29] = [
+    let refused: [&[u8]; 34] = [
         b"",
         b"\0\0\0\x01",
         b"\0\0\0\x01\0",
@@ -171,6 +194,13 @@ fn other_bytes_are_no_bodies(rt: HostRuntime) {
         // funds of 0.00 and of 10000000000.00
         b"\0\0\0\x01\x07\x01A\0\0\0\0\0\0\0\0",
         b"\0\0\0\x01\x07\x01A\0\0\0\xe8\xd4\xa5\x10\0",
+        // a confirmation of 0.00, of 10000000000.00, and of a part of an amount; one without and one with an amount by the
+        // tag of the other
+        b"\0\0\0\x01\x10\x01B\x03I-1\x01A\0\0\0\0\0\0\0\0",
+        b"\0\0\0\x01\x10\x01B\x03I-1\x01A\0\0\0\xe8\xd4\xa5\x10\0",
+        &AGREE[..20],
+        b"\0\0\0\x01\x10\x01B\x03I-1\x01A",
+        b"\0\0\0\x01\x03\x01B\x03I-1\x01A\0\0\0\0\0\0\x02\x58",
         // a kind that is none, and the day after 9999-12-31
         b"\0\0\0\x01\x0c\x02\0\0\x4f\xe5",
         b"\0\0\0\x01\x0c\0\0\x2c\xc0\xa1",

@@ -38,7 +38,7 @@ fn key_of(creditor: Name, invoice: Name) -> Key {
     Key { creditor, invoice }
 }
 
-// Two firms, a claim of B against A, and its confirmation: 81 bytes of a journal.
+// Two firms, a claim of B against A of 10.00, and its confirmation up to 6.00: 89 bytes of a journal.
 fn four_acts(rt: &(impl Abort + AllocGlobal)) -> Vec<Act> {
     let (a, b, invoice) = (name(rt, b"A"), name(rt, b"B"), name(rt, b"I-1"));
     let due = day(rt, 20_119);
@@ -53,7 +53,8 @@ fn four_acts(rt: &(impl Abort + AllocGlobal)) -> Vec<Act> {
         },
         Act::Confirm {
             key: key_of(b, invoice),
-            debtor: a
+            debtor: a,
+            agreed: Some(600)
         },
     ];
     acts.expect(rt, "memory")
@@ -104,14 +105,14 @@ fn viewed(rt: &(impl Abort + AllocGlobal), disk: &mut MemoryDisk) -> u64 {
 #[test]
 fn acts_are_on_the_disk(rt: HostRuntime) {
     let mut disk = four_kept(&rt);
-    assert!(rt; disk.bytes().len() == 81);
+    assert!(rt; disk.bytes() == AGREED);
     let desk = desk_on(&rt, disk.bytes(), 0);
     assert!(rt; counts(&desk) == (4, 4));
     assert!(rt; desk.rounds().is_empty());
     assert!(rt; desk.faults() == 0);
-    assert!(rt; closed(desk) == 81);
+    assert!(rt; closed(desk) == 89);
     assert!(rt; viewed(&rt, &mut disk) == 4);
-    assert!(rt; disk.bytes().len() == 81);
+    assert!(rt; disk.bytes() == AGREED);
     drop(disk);
 }
 
@@ -246,6 +247,29 @@ fn a_close_that_continues_a_round_gets_full(rt: HostRuntime) {
     assert!(rt; closed(desk) == 39);
 }
 
+// A journal on which a desk opens with four acts and which it leaves as it is; what is left of the one claim, and the part of it.
+fn is_claim(rt: &(impl Abort + AllocGlobal), bytes: &[u8], due: (u64, u64)) {
+    let desk = desk_on(rt, bytes, 0);
+    assert!(rt; counts(&desk) == (4, 4));
+    assert!(rt; claim_of(&desk) == Some(due));
+    let disk = desk.close();
+    assert!(rt; disk.bytes() == bytes);
+    drop(disk);
+}
+
+// What is left of the first claim of the pool MAIN, and the part of it.
+fn claim_of(desk: &Desk<MemoryDisk>) -> Option<(u64, u64)> {
+    let claim = desk.books().book(&main_pool_name()).claims().first()?;
+    Some((claim.left, claim.part))
+}
+
+// A confirmation without an amount is of the whole claim.
+#[test]
+fn a_part_is_confirmed_or_the_whole(rt: HostRuntime) {
+    is_claim(&rt, AGREED, (1000, 600));
+    is_claim(&rt, CONFIRMED, (1000, 1000));
+}
+
 // Whatever the moment of a crash, and whichever writes it leaves, a desk opens on it.
 #[test]
 fn every_crash_opens(rt: HostRuntime) {
@@ -255,7 +279,7 @@ fn every_crash_opens(rt: HostRuntime) {
             let image = disk.image(rt.alloc(), moment, pick).expect(&rt, "memory");
             let desk = desk_on(&rt, &image, 0);
             assert!(rt; desk.opened_with() <= 4);
-            assert!(rt; closed(desk) <= 81);
+            assert!(rt; closed(desk) <= 89);
         }
     }
     drop(disk);
@@ -343,7 +367,8 @@ fn one_cent(
         },
         Act::Confirm {
             key: key_of(creditor, invoice),
-            debtor
+            debtor,
+            agreed: None
         },
     ];
     acts.expect(rt, "memory")
@@ -382,6 +407,14 @@ fn a_round_of_many_claims_is_read_again(rt: HostRuntime) {
     assert!(rt; are_settled(&desk));
     assert!(rt; closed(desk) == 1_235_638);
 }
+
+// Two firms, a claim of B against A of 10.00, and its confirmation up to 6.00.
+const AGREED: &[u8] =
+    b"BUREAUJ2\x01\x00\x00\x00\x07\x00\x00\x00\x01\x01\x01A\x01\x00\x00\x00\x07\x00\x00\x00\x01\x01\x01B\x01\x00\x00\x00\x19\x00\x00\x00\x01\x02\x01B\x03I-1\x01A\x00\x00\x00\x00\x00\x00\x03\xe8\x00\x00\x4e\x97\x01\x00\x00\x00\x15\x00\x00\x00\x01\x10\x01B\x03I-1\x01A\x00\x00\x00\x00\x00\x00\x02\x58\x00";
+
+// The same in a journal that was made before there were pools, where all of the claim is confirmed.
+const CONFIRMED: &[u8] =
+    b"BUREAUJ1\x01\x00\x00\x00\x07\x00\x00\x00\x01\x01\x01A\x01\x00\x00\x00\x07\x00\x00\x00\x01\x01\x01B\x01\x00\x00\x00\x19\x00\x00\x00\x01\x02\x01B\x03I-1\x01A\x00\x00\x00\x00\x00\x00\x03\xe8\x00\x00\x4e\x97\x01\x00\x00\x00\x0d\x00\x00\x00\x01\x03\x01B\x03I-1\x01A\x00";
 
 // The header, and the record of FIRM A by caller 1.
 const ONE_FIRM: &[u8] = b"BUREAUJ2\x01\x00\x00\x00\x07\x00\x00\x00\x01\x01\x01A\x00";
@@ -442,4 +475,71 @@ fn an_opening_is_refused(rt: HostRuntime) {
     for (bytes, fails, cause) in cases {
         assert!(rt; refused_for(&rt, bytes, fails) == cause);
     }
+}
+
+// After each number of acts of the run below: where its journal's last gate stands, and how many rounds are open.
+const STAGES: [(usize, u64); 13] = [
+    (8, 0),
+    (20, 0),
+    (32, 0),
+    (62, 0),
+    (80, 0),
+    (110, 0),
+    (128, 0),
+    (143, 1),
+    (164, 2),
+    (185, 2),
+    (213, 1),
+    (228, 1),
+    (274, 0),
+];
+
+// A Close by caller 1 opens or continues a round of the pool MAIN.
+fn closes(rt: &impl Abort, desk: &mut Desk<MemoryDisk>) {
+    let reply = desk.cut(1, main_pool_name(), Kind::Plain, day(rt, 20_453));
+    let frozen = matches!(&reply, Ok(CutReply::Frozen(_)));
+    drop(reply);
+    assert!(rt; frozen);
+}
+
+// A round of two claims is opened in the pool MAIN and one without claims in EAST, and both are published, each behind a Close
+// that continues it.
+fn two_rounds(rt: &(impl Abort + AllocGlobal)) -> MemoryDisk {
+    let east = name(rt, b"EAST");
+    let mut desk = desk_on(rt, b"", 0);
+    owe_each_other(rt, &mut desk, 1);
+    closes(rt, &mut desk);
+    is_frozen_in(rt, &mut desk, east);
+    let reply = publish_all(rt, &mut desk, east);
+    assert!(rt; reply == PublishReply::Published { total: 0 });
+    let reply = publish_all(rt, &mut desk, main_pool_name());
+    assert!(rt; reply == PublishReply::Published { total: 2 });
+    desk.close()
+}
+
+// An image of a moment holds some first acts of a journal, with all that were answered by then: the opening has four calls, and
+// each act four. The rounds that they leave open are abandoned.
+fn is_stage(rt: &(impl Abort + AllocGlobal), journal: &[u8], moment: u64, image: &[u8]) {
+    let desk = desk_on(rt, image, 0);
+    let (acts, entries) = counts(&desk);
+    drop(desk.close());
+    let (gate, open) = *STAGES.get(acts as usize).expect(rt, "a stage");
+    let kept = journal.get(..gate).expect(rt, "the records");
+    assert!(rt; entries.checked_sub(acts) == Some(open));
+    assert!(rt; acts >= (moment / 8).saturating_sub(1));
+    assert!(rt; acts == 0 || image.starts_with(kept));
+}
+
+// A crash at any moment of a run with two open rounds, before and after they are published.
+#[test]
+fn every_crash_of_two_rounds_opens(rt: HostRuntime) {
+    let disk = two_rounds(&rt);
+    assert!(rt; disk.bytes().len() == 275);
+    for moment in 0..=disk.moment() {
+        for pick in 0..4 {
+            let image = disk.image(rt.alloc(), moment, pick).expect(&rt, "memory");
+            is_stage(&rt, disk.bytes(), moment, &image);
+        }
+    }
+    drop(disk);
 }

@@ -6,6 +6,8 @@
 #[cfg(test)]
 mod bodies;
 #[cfg(test)]
+mod damages;
+#[cfg(test)]
 mod desks;
 #[cfg(test)]
 mod disks;

@@ -113,7 +113,11 @@ fn file(creditor: Name, invoice: Name, debtor: Name, amount: u64, due: Day) -> A
 
 fn confirm(creditor: Name, invoice: Name, debtor: Name) -> Act {
     let key = Key { creditor, invoice };
-    Act::Confirm { key, debtor }
+    Act::Confirm {
+        key,
+        debtor,
+        agreed: None,
+    }
 }
 
 // A owes B 10.00, B owes C 7.00, and C owes A 12.00; a round is opened.

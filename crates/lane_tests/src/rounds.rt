@@ -45,6 +45,7 @@ fn confirm(rt: &impl Abort, creditor: Name, invoice: &[u8], debtor: Name) -> Act
     Act::Confirm {
         key: key_of(rt, creditor, invoice),
         debtor,
+        agreed: None,
     }
 }
 

@@ -66,7 +66,7 @@ fn expect_table<R: Abort + Threads + Wait + Sync>(
 const TABLES: [(&[&str], &[u8]); 2] = [
     (
         &["notices", "2026-01-10"],
-        b"debtor,creditor,invoice,status,amount,open,due,overdue\nA,B,I-1,confirmed,10.00,3.00,2025-01-31,344\nC,A,I-3,confirmed,12.00,5.00,2025-01-31,344\n",
+        b"debtor,creditor,invoice,status,amount,open,part,due,overdue\nA,B,I-1,confirmed,10.00,3.00,3.00,2025-01-31,344\nC,A,I-3,confirmed,12.00,5.00,5.00,2025-01-31,344\n",
     ),
     (
         &["positions"],
@@ -105,11 +105,11 @@ const POOL_TABLES: [(&[&str], &[u8]); 7] = [
     ),
     (
         &["notices", "2026-01-09", "EAST"],
-        b"debtor,creditor,invoice,status,amount,open,due,overdue\nA,B,I-1,confirmed,10.00,10.00,2025-01-31,343\n",
+        b"debtor,creditor,invoice,status,amount,open,part,due,overdue\nA,B,I-1,confirmed,10.00,10.00,10.00,2025-01-31,343\n",
     ),
     (
         &["notices", "2026-01-09"],
-        b"debtor,creditor,invoice,status,amount,open,due,overdue\n",
+        b"debtor,creditor,invoice,status,amount,open,part,due,overdue\n",
     ),
     (&["audit"], b"yes acts 5 rounds 0\n"),
 ];

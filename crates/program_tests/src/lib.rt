@@ -12,4 +12,6 @@ mod journals;
 #[cfg(test)]
 mod lanes;
 #[cfg(test)]
+mod parts;
+#[cfg(test)]
 mod runs;

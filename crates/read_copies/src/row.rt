@@ -6,6 +6,6 @@ use claim_history::{AccountFact, Position};
 pub struct Row {
     /// Balance, limits and offer.
     pub account: AccountFact,
-    /// What is owed to it and by it on confirmed claims.
+    /// Its position: the balance, and the parts of claims that are owed to it and by it.
     pub position: Position,
 }

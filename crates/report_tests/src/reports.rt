@@ -266,7 +266,7 @@ const TABLES: [(bool, &[u8], u64, u8, &[u8]); 6] = [
         ONE_RECORD,
         0,
         0,
-        b"debtor,creditor,invoice,status,amount,open,due,overdue\n",
+        b"debtor,creditor,invoice,status,amount,open,part,due,overdue\n",
     ),
     (
         true,

@@ -1,7 +1,9 @@
 -- A line with a cause asks nothing.
-use Rattle.std.proofs.Common.{◌≡◌, ℕ, zero, suc, Bool, true, false, inl, inr, List, [], ◌∷◌, length, drop, get_or, refl, sym, ap, ◌∙◌, subst, decimal, arith, if◌then◌else◌}
-use Rattle.std.specs.Prelude.{◌⊎◌, ◌&&◌, ◌++◌, bytes_eq, codes}
+use Rattle.std.proofs.Common.{◌≡◌, ◌≤◌, ℕ, zero, suc, Bool, true, false, inl, inr, List, [], ◌∷◌, length, drop, get_or, refl, sym, ap, ◌∙◌, subst, decimal, arith, if◌then◌else◌}
+use Rattle.std.specs.Prelude.{◌⊎◌, ◌&&◌, ◌++◌, bytes_eq, codes, Some, None}
+use Rattle.std.specs.List.{sum_by}
 use Rattle.std.proofs.lemmas.Bool.{and_parts}
+use Rattle.std.proofs.lemmas.List.Sums.{sum_by-cons}
 use Rattle.setoff_model.specs.declared.name.Key.{Key}
 use Rattle.setoff_model.specs.Names.{is_name}
 use Rattle.text_lines.specs.Fields.{fields}
@@ -17,7 +19,7 @@ use Rattle.request_text.specs.declared.verb.Verb.{Verb}
 use Rattle.request_text.specs.declared.verb.Verb.TheVariants as verbs
 use Rattle.request_text.specs.Lanes.{IsLane}
 use Rattle.request_text.specs.Pools.{IsOtherPool, pool_field, pool_fields}
-use Rattle.request_text.specs.Causes.{BeginsAt, BeginsElsewhere, Form, HasForm, verb_text, forms_of, IsFirstBadField, HasArgsCause, HasVerbCause, HasPoolCause, HasCause}
+use Rattle.request_text.specs.Causes.{AreCounted, BeginsAt, BeginsElsewhere, Form, HasForm, verb_text, forms_of, needed, IsFirstBadField, HasArgsCause, HasVerbCause, HasPoolCause, HasCause, named, some_cents, cents_or_none, any_cents, of_kind, on_day}
 use Rattle.request_text.specs.Grammar.{IsLine, line_fields}
 use Rattle.request_text.proofs.Words.{cut_fields}
 
@@ -26,7 +28,7 @@ use Rattle.request_text.proofs.Words.{cut_fields}
 abbrev AreInForm : List Form → List (List ℕ) → Type 0
 AreInForm [] [] = Unit {0}
 AreInForm [] (field ∷ args) = ⊥
-AreInForm (form ∷ forms) [] = ⊥
+AreInForm (form ∷ forms) [] = sum_by needed (form ∷ forms) ≡ 0
 AreInForm (form ∷ forms) (field ∷ args) = HasForm form field × AreInForm forms args
 
 pub record IsInForm (after : List (List ℕ)) : Type 0 where
@@ -46,10 +48,16 @@ in_form (act.File key debtor amount due) h =
     let r = and_parts (is_key key) (is_name debtor) q.0 in
     let k = key_parts key r.0 in
     record { verb = verbs.File; args = _; spelled = refl; good = (k.0, (k.1, (r.1, ((amount, (q.1, refl)), ((due, (p.1, refl)), tt))))) }
-in_form (act.Confirm key debtor) h =
-    let r = and_parts (is_key key) (is_name debtor) h in
+in_form (act.Confirm key debtor None) h =
+    let p = and_parts (is_key key && is_name debtor) true h in
+    let r = and_parts (is_key key) (is_name debtor) p.0 in
     let k = key_parts key r.0 in
-    record { verb = verbs.Confirm; args = _; spelled = refl; good = (k.0, (k.1, (r.1, tt))) }
+    record { verb = verbs.Confirm; args = _; spelled = refl; good = (k.0, (k.1, (r.1, refl))) }
+in_form (act.Confirm key debtor (Some agreed)) h =
+    let p = and_parts (is_key key && is_name debtor) (is_claim_amount agreed) h in
+    let r = and_parts (is_key key) (is_name debtor) p.0 in
+    let k = key_parts key r.0 in
+    record { verb = verbs.Confirm; args = _; spelled = refl; good = (k.0, (k.1, (r.1, ((agreed, (p.1, refl)), tt)))) }
 in_form (act.Dispute key debtor) h =
     let r = and_parts (is_key key) (is_name debtor) h in
     let k = key_parts key r.0 in
@@ -117,11 +125,21 @@ same_verb v w args others e = sym (verb_again v) ∙ ap verb_at (ap (λ (fs : Li
 
 -- ---- what has a cause is no act's
 
-same_count : (forms : List Form) (args : List (List ℕ)) → AreInForm forms args → length args ≡ length forms
-same_count [] [] h = refl
-same_count [] (field ∷ args) h = absurd h
-same_count (form ∷ forms) [] h = absurd h
-same_count (form ∷ forms) (field ∷ args) h = ap suc (same_count forms args h.1)
+one_at_most : (form : Form) → needed form ≤ 1
+one_at_most named = omega arith
+one_at_most some_cents = omega arith
+one_at_most cents_or_none = omega arith
+one_at_most any_cents = omega arith
+one_at_most of_kind = omega arith
+one_at_most on_day = omega arith
+
+counted : (forms : List Form) (args : List (List ℕ)) → AreInForm forms args → AreCounted forms args
+counted [] [] h = (omega arith, omega arith)
+counted [] (field ∷ args) h = absurd h
+counted (form ∷ forms) [] h = (omega (arith, h), omega arith)
+counted (form ∷ forms) (field ∷ args) h =
+    let rest = counted forms args h.1 in
+    (omega (arith, rest.0, one_at_most form, sum_by-cons needed form forms), omega (arith, rest.1))
 
 none_bad : (forms : List Form) (args : List (List ℕ)) (k : ℕ) → AreInForm forms args → IsFirstBadField forms args k → ⊥
 none_bad [] args k h b = b
@@ -134,7 +152,7 @@ no_args : (forms : List Form) (args : List (List ℕ)) (cause : LineCause) → A
 no_args forms args causes.Lane h c = c
 no_args forms args causes.Pool h c = c
 no_args forms args causes.Verb h c = c
-no_args forms args causes.Fields h c = c (same_count forms args h)
+no_args forms args causes.Fields h c = c (counted forms args h)
 no_args forms args (causes.Field k) h c = none_bad forms args k h c.1
 
 -- the cause is in the fields after a verb
@@ -160,7 +178,7 @@ pub first_byte : (field name : List ℕ) (fs others : List (List ℕ)) → Begin
 first_byte field name fs others e = ap (λ (l : List (List ℕ)). get_or (get_or l 0 []) 0 0) e
 
 -- no verb begins with `@`
-no_sign : (verb : Verb) (args : List (List ℕ)) → BeginsElsewhere (verb_text verb ∷ args)
+pub no_sign : (verb : Verb) (args : List (List ℕ)) → BeginsElsewhere (verb_text verb ∷ args)
 no_sign verbs.Firm args = λ name others e. absurd (omega (arith, first_byte (verb_text verbs.Firm) name args others e))
 no_sign verbs.File args = λ name others e. absurd (omega (arith, first_byte (verb_text verbs.File) name args others e))
 no_sign verbs.Confirm args = λ name others e. absurd (omega (arith, first_byte (verb_text verbs.Confirm) name args others e))
@@ -194,15 +212,15 @@ after_pool false pool fs cause f (inl h) = h.0 pool fs refl
 after_pool false pool fs cause f (inr h) = no_verb fs cause f (subst (λ (l : List (List ℕ)). HasVerbCause l cause) (sym (same_pool pool h.0 fs h.1.0 h.1.1.1).1) h.1.1.2)
 
 bad_pool : (b : Bool) (pool : List ℕ) (fs : List (List ℕ)) → is_main pool ≡ b → is_name pool ≡ true → IsInForm fs → HasPoolCause ((if b then [] else pool_field pool ∷ []) ++ fs) causes.Pool → ⊥
-bad_pool true pool fs main named f h = begins_elsewhere fs f h.0 h.1.0 h.1.1.0
-bad_pool false pool fs main named f h = h.1.1.1 (subst IsOtherPool (same_pool pool h.0 fs h.1.0 h.1.1.0).0 (named, main))
+bad_pool true pool fs main is_named f h = begins_elsewhere fs f h.0 h.1.0 h.1.1.0
+bad_pool false pool fs main is_named f h = h.1.1.1 (subst IsOtherPool (same_pool pool h.0 fs h.1.0 h.1.1.0).0 (is_named, main))
 
 no_pool : (pool : List ℕ) (fs : List (List ℕ)) (cause : LineCause) → is_name pool ≡ true → IsInForm fs → HasPoolCause (pool_fields pool ++ fs) cause → ⊥
-no_pool pool fs causes.Lane named f c = after_pool (is_main pool) pool fs causes.Lane f c
-no_pool pool fs causes.Pool named f c = bad_pool (is_main pool) pool fs refl named f c
-no_pool pool fs causes.Verb named f c = after_pool (is_main pool) pool fs causes.Verb f c
-no_pool pool fs causes.Fields named f c = after_pool (is_main pool) pool fs causes.Fields f c
-no_pool pool fs (causes.Field k) named f c = after_pool (is_main pool) pool fs (causes.Field k) f c
+no_pool pool fs causes.Lane is_named f c = after_pool (is_main pool) pool fs causes.Lane f c
+no_pool pool fs causes.Pool is_named f c = bad_pool (is_main pool) pool fs refl is_named f c
+no_pool pool fs causes.Verb is_named f c = after_pool (is_main pool) pool fs causes.Verb f c
+no_pool pool fs causes.Fields is_named f c = after_pool (is_main pool) pool fs causes.Fields f c
+no_pool pool fs (causes.Field k) is_named f c = after_pool (is_main pool) pool fs (causes.Field k) f c
 
 -- the cause is in the fields after a lane
 abbrev IsAfterLane : List (List ℕ) → LineCause → Type 0

@@ -1,6 +1,6 @@
 -- A line and its fields.
 use Rattle.std.proofs.Common.{◌≡◌, ℕ, ◌<◌, ◌≤◌, ◌+◌, ◌/◌, ◌%◌, ◌^◌, Bool, true, false, if◌then◌else◌, List, [], ◌∷◌, ◌++◌, refl, sym, ap, ◌∙◌, subst, arith, decimal}
-use Rattle.std.specs.Prelude.{◌&&◌, nat_le, codes, Result, Ok, Err, IfOk, IfErr}
+use Rattle.std.specs.Prelude.{◌&&◌, nat_le, codes, Option, Some, None, Result, Ok, Err, IfOk, IfErr}
 use Rattle.std.specs.List.{AllByRecursion}
 use Rattle.std.proofs.lemmas.Bool.{leb-true, and_parts}
 use Rattle.setoff_model.specs.declared.limits.TheConstants.{MOST_AMOUNT}
@@ -17,7 +17,7 @@ use Rattle.claim_history.specs.declared.act.Act.{Act}
 use Rattle.claim_history.specs.declared.act.Act.TheVariants as act
 use Rattle.claim_history.specs.Pools.{is_main}
 use Rattle.claim_history.specs.Days.{day_text, date_of, two_digits}
-use Rattle.claim_history.specs.Acts.{is_request, is_key, is_amount, is_claim_amount, is_day, act_fields}
+use Rattle.claim_history.specs.Acts.{is_request, is_key, is_agreed, is_amount, is_claim_amount, is_day, agreed_fields, act_fields}
 use Rattle.request_text.specs.declared.error.LineCause.{LineCause}
 use Rattle.request_text.specs.Lanes.{IsLane}
 use Rattle.request_text.specs.Pools.{pool_field, pool_fields}
@@ -64,6 +64,10 @@ amount_visible law cents h = law.cents cents (omega (arith, leb-true cents MOST_
 claim_amount_visible : VisibleLaw → (cents : ℕ) → is_claim_amount cents ≡ true → IsVisible (cents_text cents)
 claim_amount_visible law cents h = amount_visible law cents (and_parts (nat_le 1 cents) (is_amount cents) h).1
 
+agreed_visible : VisibleLaw → (agreed : Option ℕ) → is_agreed agreed ≡ true → AllByRecursion IsVisible (agreed_fields agreed)
+agreed_visible law None h = tt
+agreed_visible law (Some cents) h = (claim_amount_visible law cents h, tt)
+
 kind_visible : (kind : Kind) → IsVisible (kind_text kind)
 kind_visible Plain = known (codes "PLAIN") refl
 kind_visible Funded = known (codes "FUNDED") refl
@@ -76,10 +80,11 @@ fields_visible law (act.File key debtor amount due) h =
     let r = and_parts (is_key key) (is_name debtor) q.0 in
     let k = r.0 in
     (known (codes "FILE") refl, ((key_visible law key k).0, ((key_visible law key k).1, (law.names debtor r.1, (claim_amount_visible law amount q.1, (day_visible due, tt))))))
-fields_visible law (act.Confirm key debtor) h =
-    let r = and_parts (is_key key) (is_name debtor) h in
+fields_visible law (act.Confirm key debtor agreed) h =
+    let p = and_parts (is_key key && is_name debtor) (is_agreed agreed) h in
+    let r = and_parts (is_key key) (is_name debtor) p.0 in
     let k = r.0 in
-    (known (codes "CONFIRM") refl, ((key_visible law key k).0, ((key_visible law key k).1, (law.names debtor r.1, tt))))
+    (known (codes "CONFIRM") refl, ((key_visible law key k).0, ((key_visible law key k).1, (law.names debtor r.1, agreed_visible law agreed p.1))))
 fields_visible law (act.Dispute key debtor) h =
     let r = and_parts (is_key key) (is_name debtor) h in
     let k = r.0 in
@@ -125,7 +130,7 @@ no_spaces (f ∷ fs) h = (no_space_of f h.0, no_spaces fs h.1)
 pub has_verb : (a : Act) → (verb : List ℕ) × ((args : List (List ℕ)) × (act_fields a ≡ verb ∷ args))
 has_verb (act.Firm firm) = (_, (_, refl))
 has_verb (act.File key debtor amount due) = (_, (_, refl))
-has_verb (act.Confirm key debtor) = (_, (_, refl))
+has_verb (act.Confirm key debtor agreed) = (_, (_, refl))
 has_verb (act.Dispute key debtor) = (_, (_, refl))
 has_verb (act.Withdraw key) = (_, (_, refl))
 has_verb (act.Receive key amount) = (_, (_, refl))

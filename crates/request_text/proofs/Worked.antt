@@ -1,10 +1,11 @@
 -- The definitions at worked cases.
-use Rattle.std.specs.Prelude.{codes, decimal}
-use Rattle.std.proofs.Common.{◌≡◌, ℕ, ◌+◌, ◌<◌, ◌≤◌, inl, inr, true≢false, List, [], ◌∷◌, ◌++◌, drop, refl, sym, ap, arith}
+use Rattle.std.specs.Prelude.{codes, decimal, Some, None}
+use Rattle.std.proofs.Common.{◌≡◌, ℕ, ◌+◌, ◌<◌, ◌≤◌, inl, inr, true≢false, List, [], ◌∷◌, ◌++◌, drop, refl, sym, ap, ap₂, arith}
 use Rattle.std.proofs.lemmas.Fmt.{decimal_digit}
 use Rattle.claim_history.specs.Pools.{main_pool}
 use Rattle.claim_history.specs.declared.act.Act.{Act}
 use Rattle.claim_history.specs.declared.act.Act.TheVariants as act
+use Rattle.setoff_model.specs.declared.name.Key.{Key}
 use Rattle.setoff_model.specs.Texts.{cents_text}
 use Rattle.text_lines.specs.Fields.{fields}
 use Rattle.request_text.specs.declared.error.LineCause.TheVariants as causes
@@ -54,9 +55,38 @@ unfolding filing
 zero_amount =
     let one : codes "1" ≡ decimal 1 = sym (decimal_digit 1 (omega arith)) in
     let zero : codes "0.00" ≡ cents_text 0 = ap (λ (text : List ℕ). text ++ codes "." ++ codes "00") (sym (decimal_digit 0 (omega arith))) in
-    let bad : HasArgsCause (forms_of verbs.File) (drop 2 filing) (causes.Field 4) = (refl, (refl, (refl, (refl, nothing (codes "0.00") 0 refl zero)))) in
+    let bad : HasArgsCause (forms_of verbs.File) (drop 2 filing) (causes.Field 4) = ((omega arith, omega arith), (refl, (refl, (refl, nothing (codes "0.00") 0 refl zero)))) in
     let elsewhere : BeginsElsewhere (drop 1 filing) = λ name others e. absurd (omega (arith, first_byte (codes "FILE") name (drop 2 filing) others e)) in
     (1, (drop 1 filing, ((omega arith, omega arith), ap (λ (field : List ℕ). field ∷ drop 1 filing) one, inl (elsewhere, (verbs.File, (drop 2 filing, (refl, bad)))))))
+
+-- a CONFIRM agrees to all of the claim, or to an amount
+claim : Key
+claim = record { creditor = codes "B"; invoice = codes "I-1" }
+
+confirmed : (lane : ℕ) → 1 ≤ lane → lane < 10 → IsLine ((48 + lane) ∷ codes " CONFIRM B I-1 A") lane main_pool (act.Confirm claim (codes "A") None)
+unfolding claim
+confirmed lane some small = record { by = (some, omega arith); named = refl; valid = refl; spelled = sym (ap (λ (text : List ℕ). text ++ codes " CONFIRM B I-1 A") (decimal_digit lane small)) }
+
+part_confirmed : (lane : ℕ) → 1 ≤ lane → lane < 10 → IsLine ((48 + lane) ∷ codes " CONFIRM B I-1 A 6.00") lane main_pool (act.Confirm claim (codes "A") (Some 600))
+unfolding claim
+part_confirmed lane some small = record {
+  by = (some, omega arith);
+  named = refl;
+  valid = refl;
+  spelled = sym (ap₂ (λ (text digit : List ℕ). text ++ (codes " CONFIRM B I-1 A " ++ (digit ++ codes "." ++ codes "00"))) (decimal_digit lane small) (decimal_digit 6 (omega arith)));
+}
+
+-- that amount is not 0.00, and there is no field behind it
+no_part : HasArgsCause (forms_of verbs.Confirm) (fields (codes "B I-1 A 0.00")) (causes.Field 4)
+no_part =
+    let zero : codes "0.00" ≡ cents_text 0 = ap (λ (text : List ℕ). text ++ codes "." ++ codes "00") (sym (decimal_digit 0 (omega arith))) in
+    ((omega arith, omega arith), (refl, (refl, (refl, nothing (codes "0.00") 0 refl zero))))
+
+part_twice : HasArgsCause (forms_of verbs.Confirm) (fields (codes "B I-1 A 6.00 6.00")) causes.Fields
+part_twice = λ h. omega (arith, h.1)
+
+no_debtor : HasArgsCause (forms_of verbs.Confirm) (fields (codes "B I-1")) causes.Fields
+no_debtor = λ h. omega (arith, h.0)
 
 -- MAIN is never named, nor is a pool without a name; behind a pool there is a verb
 one : codes "1" ≡ decimal 1

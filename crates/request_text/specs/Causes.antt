@@ -1,5 +1,6 @@
 -- What is wrong with a line: the first of the causes that applies.
-use Rattle.std.specs.Prelude.{◌≡◌, ◌⊎◌, ℕ, zero, suc, true, List, [], ◌∷◌, length, codes, decimal}
+use Rattle.std.specs.Prelude.{◌≡◌, ◌≤◌, ◌⊎◌, ℕ, zero, suc, true, List, [], ◌∷◌, length, codes, decimal}
+use Rattle.std.specs.List.{sum_by}
 use Rattle.setoff_model.specs.Names.{is_name}
 use Rattle.setoff_model.specs.Texts.{cents_text, kind_text}
 use Rattle.setoff_model.specs.declared.kind.Kind.{Kind}
@@ -13,18 +14,25 @@ use Rattle.request_text.specs.declared.verb.Verb.TheVariants as verbs
 use Rattle.request_text.specs.Lanes.{IsLane, fence}
 use Rattle.request_text.specs.Pools.{IsOtherPool, pool_field}
 
--- what a field after a verb is: a name, an amount from 0.01 on, an amount from 0.00 on, a kind, or a date
+-- what a field after a verb is: a name, an amount from 0.01 on, the same where it may be left out, an amount from 0.00 on, a kind, or
+-- a date
 pub data Form : Type 0 where
   named : Form
   some_cents : Form
+  cents_or_none : Form
   any_cents : Form
   of_kind : Form
   on_day : Form
 
+-- an amount from 0.01 on
+abbrev pub IsSomeCents : List ℕ → Type 0
+IsSomeCents field = (cents : ℕ) × ((is_claim_amount cents ≡ true) × (field ≡ cents_text cents))
+
 -- the field is in its grammar and range
 abbrev pub HasForm : Form → List ℕ → Type 0
 HasForm named field = is_name field ≡ true
-HasForm some_cents field = (cents : ℕ) × ((is_claim_amount cents ≡ true) × (field ≡ cents_text cents))
+HasForm some_cents field = IsSomeCents field
+HasForm cents_or_none field = IsSomeCents field
 HasForm any_cents field = (cents : ℕ) × ((is_amount cents ≡ true) × (field ≡ cents_text cents))
 HasForm of_kind field = (kind : Kind) × (field ≡ kind_text kind)
 HasForm on_day field = (day : ℕ) × ((is_day day ≡ true) × (field ≡ day_text day))
@@ -44,11 +52,11 @@ verb_text verbs.Position = codes "POSITION"
 verb_text verbs.Close = codes "CLOSE"
 verb_text verbs.Abandon = codes "ABANDON"
 
--- what the fields after a verb are
+-- what the fields after a verb are; none but the last may be left out
 abbrev pub forms_of : Verb → List Form
 forms_of verbs.Firm = named ∷ []
 forms_of verbs.File = named ∷ named ∷ named ∷ some_cents ∷ on_day ∷ []
-forms_of verbs.Confirm = named ∷ named ∷ named ∷ []
+forms_of verbs.Confirm = named ∷ named ∷ named ∷ cents_or_none ∷ []
 forms_of verbs.Dispute = named ∷ named ∷ named ∷ []
 forms_of verbs.Withdraw = named ∷ named ∷ []
 forms_of verbs.Receive = named ∷ named ∷ some_cents ∷ []
@@ -60,6 +68,15 @@ forms_of verbs.Position = named ∷ []
 forms_of verbs.Close = of_kind ∷ on_day ∷ []
 forms_of verbs.Abandon = []
 
+-- how many of the fields have to stand
+abbrev pub needed : Form → ℕ
+needed cents_or_none = 0
+needed form = 1
+
+-- the number of the fields is the verb's: those that have to stand do, and there are no others than those that may
+abbrev pub AreCounted : List Form → List (List ℕ) → Type 0
+AreCounted forms args = (sum_by needed forms ≤ length args) × (length args ≤ length forms)
+
 -- the k-th field, from 1, is the first that is not in its grammar and range
 abbrev pub IsFirstBadField : List Form → List (List ℕ) → ℕ → Type 0
 IsFirstBadField [] args k = ⊥
@@ -70,8 +87,8 @@ IsFirstBadField (form ∷ forms) (field ∷ args) (suc (suc k)) = HasForm form f
 
 -- the number of the fields after the verb is not the verb's; or it is, and the k-th is the first that is not in its grammar and range
 abbrev pub HasArgsCause : List Form → List (List ℕ) → LineCause → Type 0
-HasArgsCause forms args causes.Fields = length args ≡ length forms → ⊥
-HasArgsCause forms args (causes.Field k) = (length args ≡ length forms) × IsFirstBadField forms args k
+HasArgsCause forms args causes.Fields = AreCounted forms args → ⊥
+HasArgsCause forms args (causes.Field k) = AreCounted forms args × IsFirstBadField forms args k
 HasArgsCause forms args _ = ⊥
 
 -- there is no field, or the first is no verb; or it is one, and the cause is in the fields after it

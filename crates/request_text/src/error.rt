@@ -16,7 +16,7 @@ pub enum LineCause {
     /// There is no second field, or it is no verb. Where it is a pool, the same of the third.
     #[error("verb")]
     Verb,
-    /// The number of fields after the verb is not the verb's.
+    /// The number of fields after the verb is not the verb's, or neither of a CONFIRM's two.
     #[error("fields")]
     Fields,
     /// This field after the verb, counted from 1, is the first that is not in its grammar or range.

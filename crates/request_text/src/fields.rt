@@ -154,8 +154,39 @@ fn confirm_act(args: &[&[u8]]) -> Result<Act, LineCause>
     ensures found { IfOk result (AreArgs (codes "CONFIRM") (map (λ f. f.now) args.now)) }
     ensures bad { IfErr result (HasArgsCause (forms_of verbs.Confirm) (map (λ f. f.now) args.now)) }
 {
+    if let [creditor, invoice, debtor, amount] = args {
+        return confirmed(creditor, invoice, debtor, amount);
+    }
     let (key, debtor) = key_and_debtor(args)?;
-    Ok(Act::Confirm { key, debtor })
+    Ok(Act::Confirm {
+        key,
+        debtor,
+        agreed: None,
+    })
+}
+
+// The act of a CONFIRM's fields with an amount.
+fn confirmed(
+    creditor: &[u8],
+    invoice: &[u8],
+    debtor: &[u8],
+    amount: &[u8],
+) -> Result<Act, LineCause>
+    ensures found { IfOk result (AreArgs (codes "CONFIRM") (creditor.now ∷ invoice.now ∷ debtor.now ∷ amount.now ∷ [])) }
+    ensures bad { IfErr result (HasArgsCause (forms_of verbs.Confirm) (creditor.now ∷ invoice.now ∷ debtor.now ∷ amount.now ∷ [])) }
+{
+    let key = key_at(creditor, invoice)?;
+    let Some(debtor) = Name::of(debtor) else {
+        return Err(LineCause::Field(3));
+    };
+    let Some(amount) = amount_at(amount) else {
+        return Err(LineCause::Field(4));
+    };
+    Ok(Act::Confirm {
+        key,
+        debtor,
+        agreed: Some(amount),
+    })
 }
 
 // The act of a DISPUTE's fields.

@@ -20,7 +20,6 @@ use Rattle.setoff_model.specs.Same.{same_name}
 use Rattle.claim_history.specs.declared.fact.Status.TheVariants as status
 use Rattle.claim_history.specs.declared.fact.ClaimFact.{ClaimFact}
 use Rattle.claim_history.specs.declared.fact.AccountFact.{AccountFact}
-use Rattle.claim_history.specs.Facts.{is_confirmed}
 use Rattle.claim_history.specs.Cut.{distinct}
 use Rattle.claim_history.specs.Laws.{IsWithin}
 use Rattle.claim_history.proofs.Rows.{name_is}
@@ -108,12 +107,10 @@ name_at name firms e =
     let lt = any_within (same_name name) firms e in
     sym (name_is name (get_or firms (position_or_len (same_name name) firms) []) (passes_at_first (same_name name) firms [] lt))
 
-part_left : (horizon : ℕ) (c : ClaimFact) → takes_part horizon c ≡ true → 1 ≤ c.left
-part_left horizon c e =
-    let first = and_parts (is_confirmed c.status && nat_le 1 c.left) (nat_le c.due horizon) e in
-    leb-true 1 c.left (and_parts (is_confirmed c.status) (nat_le 1 c.left) first.0).1
+some_part : (horizon : ℕ) (c : ClaimFact) → takes_part horizon c ≡ true → 1 ≤ c.part
+some_part horizon c e = leb-true 1 c.part (and_parts (nat_le 1 c.part) (nat_le c.due horizon) e).0
 
-claim_formed : (accounts : List AccountFact) (kind : Kind) (firms : List (List ℕ)) (c : ClaimFact) → AreAmong firms c → IsClaimOf accounts c → 1 ≤ c.left → IsClaimAmong (map (party_in accounts kind) firms) (claim_among firms c)
+claim_formed : (accounts : List AccountFact) (kind : Kind) (firms : List (List ℕ)) (c : ClaimFact) → AreAmong firms c → IsClaimOf accounts c → 1 ≤ c.part → IsClaimAmong (map (party_in accounts kind) firms) (claim_among firms c)
 claim_formed accounts kind firms c among of some =
     let long : length (map (party_in accounts kind) firms) ≡ length firms = length-map firms (party_in accounts kind) in
     let by = any_within (same_name c.debtor) firms among.0 in
@@ -124,11 +121,11 @@ claim_formed accounts kind firms c among of some =
       apart = λ e. of.apart (sym (name_at c.debtor firms among.0) ∙ ap (λ (i : ℕ). get_or firms i []) e ∙ name_at c.key.creditor firms among.1);
       named = λ none. firm_at accounts kind firms (position_or_len (same_name c.key.creditor) firms) none to ∙ name_at c.key.creditor firms among.1;
       some = some;
-      limit = of.left;
+      limit = omega (arith, of.part, of.left);
     }
 
 no_claim : ClaimFact
-no_claim = record { key = no_key; debtor = []; status = status.Filed; amount = 0; left = 0; due = 0 }
+no_claim = record { key = no_key; debtor = []; status = status.Filed; amount = 0; left = 0; part = 0; due = 0 }
 
 -- ---- the cut
 
@@ -145,6 +142,6 @@ formed round claims accounts kind horizon facts =
       firms = pairs_map (λ (p q : Party). p.firm ≢ q.firm) (party_in accounts kind) firms [] differ;
       keys = pairs_map (λ (c d : CutClaim). c.key ≢ d.key) (claim_among firms) due no_claim (AllPairs-filter (λ (c d : ClaimFact). c.key ≢ d.key) (takes_part horizon) claims facts.keys);
       claims = All-map (IsClaimAmong (map (party_in accounts kind) firms)) (claim_among firms) due (λ k d lt.
-          claim_formed accounts kind firms (slice_index_or due k d) (all_among due k d lt) (each k d lt) (part_left horizon (slice_index_or due k d) (filter_passes (takes_part horizon) claims k d lt)));
+          claim_formed accounts kind firms (slice_index_or due k d) (all_among due k d lt) (each k d lt) (some_part horizon (slice_index_or due k d) (filter_passes (takes_part horizon) claims k d lt)));
       windows = windows_small accounts kind firms facts.each_account;
     }

@@ -78,7 +78,7 @@ name_stays n a b xs e =
     ∙ place_stays (same_name n) (list_any (same_name a) xs) xs a e
 
 abbrev among_at : ClaimFact → ℕ → ℕ → CutClaim
-among_at c debtor creditor = record { key = c.key; debtor = debtor; creditor = creditor; amount = c.left }
+among_at c debtor creditor = record { key = c.key; debtor = debtor; creditor = creditor; amount = c.part }
 
 claim_stays : (a b : List ℕ) (xs : List (List ℕ)) (c : ClaimFact) → AreAmong xs c → claim_among (with_name b (with_name a xs)) c ≡ claim_among xs c
 claim_stays a b xs c h = ap₂ (among_at c) (name_stays c.debtor a b xs h.0) (name_stays c.key.creditor a b xs h.1)

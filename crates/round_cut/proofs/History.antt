@@ -22,10 +22,11 @@ use Rattle.claim_history.specs.declared.entry.Entry.{Entry}
 use Rattle.claim_history.specs.declared.fact.ClaimFact.{ClaimFact}
 use Rattle.claim_history.specs.declared.fact.AccountFact.{AccountFact}
 use Rattle.claim_history.specs.Acts.{is_valid}
-use Rattle.claim_history.specs.Facts.{Ledger, Filing, firms, filings, filing_of, amount_of, left_of, gained, spent, balance_of, limits_of, offer_of, claim_fact, claim_facts, account_fact, account_facts}
+use Rattle.claim_history.specs.Facts.{Ledger, Filing, firms, filings, filing_of, amount_of, left_of, part_of, gained, spent, balance_of, limits_of, offer_of, claim_fact, claim_facts, account_fact, account_facts}
 use Rattle.claim_history.specs.Cut.{distinct, is_due, due_claims, firms_of, party_of, cut_claim, cut_of}
 use Rattle.claim_history.specs.States.{state_of}
 use Rattle.claim_history.specs.History.{IsLegal, AreValid}
+use Rattle.claim_history.specs.Laws.{KeepAmounts}
 use Rattle.claim_history.proofs.Rows.{name_is}
 use Rattle.claim_history.proofs.Formulas.{formulas_law}
 use Rattle.claim_history.proofs.Histories.{limits_law}
@@ -107,8 +108,8 @@ found_amount : (p : Filing → Bool) (fs : List Filing) (m : ℕ) → All (λ (f
 found_amount p [] m all = omega arith
 found_amount p (f ∷ fs) m all = amount_step (p f) f (find p fs) m (All-head (λ (g : Filing). g.amount ≤ m) f fs all) (found_amount p fs m (All-tail (λ (g : Filing). g.amount ≤ m) f fs all))
 
-claim_is : (l : Ledger) (f : Filing) → IsFiling (firms l) f → left_of l f.key ≤ MOST_AMOUNT → IsClaimOf (account_facts l) (claim_fact l f)
-claim_is l f is left = record { debtor = accounts_are l f.debtor ∙ is.debtor; creditor = accounts_are l f.key.creditor ∙ is.creditor; apart = is.apart; left = left }
+claim_is : (l : Ledger) (f : Filing) → IsFiling (firms l) f → left_of l f.key ≤ MOST_AMOUNT → part_of l f.key ≤ left_of l f.key → IsClaimOf (account_facts l) (claim_fact l f)
+claim_is l f is left part = record { debtor = accounts_are l f.debtor ∙ is.debtor; creditor = accounts_are l f.key.creditor ∙ is.creditor; apart = is.apart; left = left; part = part }
 
 no_filing : Filing
 no_filing = record { key = record { creditor = []; invoice = [] }; debtor = []; amount = 0; due = 0 }
@@ -118,8 +119,8 @@ no_filing = record { key = record { creditor = []; invoice = [] }; debtor = []; 
 abbrev Limited : Ledger → Type 0
 Limited l = (firm : List ℕ) → KeepsLimits (account_fact l firm)
 
-facts_are : (l : Ledger) → IsRegister (firms l) (filings l) → Limited l → AreFacts (claim_facts l) (account_facts l)
-facts_are l is limited =
+facts_are : (l : Ledger) → IsRegister (firms l) (filings l) → Limited l → KeepAmounts l → AreFacts (claim_facts l) (account_facts l)
+facts_are l is limited amounts =
     let claims = reverse (filings l) in
     let names = reverse (firms l) in
     let each : All (IsFiling (firms l)) claims = all_reverse (IsFiling (firms l)) (filings l) is.each in
@@ -130,7 +131,7 @@ facts_are l is limited =
       firms = pairs_map (λ (a b : AccountFact). a.firm ≢ b.firm) (account_fact l) names [] (pairs_reverse (λ (f g : List ℕ). f ≢ g) (λ f g apart e. apart (sym e)) (firms l) is.firms);
       each_claim = All-map (IsClaimOf (account_facts l)) (claim_fact l) claims (λ k d lt.
           let f = slice_index_or claims k d in
-          claim_is l f (each k d lt) (left_le l f.key MOST_AMOUNT (found_amount (λ g. same_key f.key g.key) (filings l) MOST_AMOUNT (λ i e within. (is.each i e within).amount))));
+          claim_is l f (each k d lt) (left_le l f.key MOST_AMOUNT (found_amount (λ g. same_key f.key g.key) (filings l) MOST_AMOUNT (λ i e within. (is.each i e within).amount))) (amounts f.key).1);
       each_account = All-map KeepsLimits (account_fact l) names (λ k d lt. limited (slice_index_or names k d));
     }
 
@@ -186,7 +187,7 @@ limited history legal valid firm = record {
 }
 
 pub facts_law : FactsLaw
-facts_law history legal valid = facts_are (state_of history).ledger (history_orderly history legal valid).0 (limited history legal valid)
+facts_law history legal valid = facts_are (state_of history).ledger (history_orderly history legal valid).0 (limited history legal valid) (limits_law history legal).1
 
 pub cut_law : BuiltCutLaw
 cut_law history round kind horizon legal valid = cut_is (state_of history).ledger round kind horizon (history_orderly history legal valid).0.each

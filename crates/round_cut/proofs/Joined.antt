@@ -47,11 +47,11 @@ place_new p found ps none is = place_last (is_party p.firm) ps p (new_one p foun
 -- the claim's debtor was placed before its creditor was joined
 pub both_placed : (accounts : List AccountFact) (kind : Kind) (c : ClaimFact) (old mid new : List Party) (debtor creditor : ℕ)
     → mid ≡ with_party (party_in accounts kind c.debtor) old → new ≡ with_party (party_in accounts kind c.key.creditor) mid → debtor ≡ position_or_len (is_party c.debtor) mid → creditor ≡ position_or_len (is_party c.key.creditor) new
-    → record { key = c.key; debtor = debtor; creditor = creditor; amount = c.left } ≡ placed new c
+    → record { key = c.key; debtor = debtor; creditor = creditor; amount = c.part } ≡ placed new c
 both_placed accounts kind c old mid new debtor creditor first second by to =
     let q : Party → Bool = is_party c.debtor in
     let p : Party = party_in accounts kind c.debtor in
     let r : Party = party_in accounts kind c.key.creditor in
     let there : list_any q mid ≡ true = ap (list_any q) first ∙ any_joined q (list_any (is_party p.firm) old) old p refl (name_same c.debtor) in
     let stays : position_or_len q new ≡ position_or_len q mid = ap (position_or_len q) second ∙ place_stays q (list_any (is_party r.firm) mid) mid r there in
-    ap₂ (λ (a b : ℕ). record { key = c.key; debtor = a; creditor = b; amount = c.left }) (by ∙ sym stays) to
+    ap₂ (λ (a b : ℕ). record { key = c.key; debtor = a; creditor = b; amount = c.part }) (by ∙ sym stays) to

@@ -37,9 +37,9 @@ owing_window = refl
 
 -- ---- the triangle
 
--- a claim of a creditor, with its invoice, status, debtor, amount, open amount and due day
-abbrev claim : List ℕ → List ℕ → Status → List ℕ → ℕ → ℕ → ℕ → ClaimFact
-claim creditor invoice st debtor amount left due = record { key = record { creditor = creditor; invoice = invoice }; debtor = debtor; status = st; amount = amount; left = left; due = due }
+-- a claim of a creditor, with its invoice, status, debtor, amount, open amount, part and due day
+abbrev claim : List ℕ → List ℕ → Status → List ℕ → ℕ → ℕ → ℕ → ℕ → ClaimFact
+claim creditor invoice st debtor amount left part due = record { key = record { creditor = creditor; invoice = invoice }; debtor = debtor; status = st; amount = amount; left = left; part = part; due = due }
 
 abbrev placed : List ℕ → List ℕ → ℕ → ℕ → ℕ → CutClaim
 placed firm invoice debtor creditor amount = record { key = record { creditor = firm; invoice = invoice }; debtor = debtor; creditor = creditor; amount = amount }
@@ -53,9 +53,9 @@ accounts = account C 6000 (10 ^ 15) 6000 ∷ account B 0 100 0 ∷ account A 500
 
 abbrev triangle : List ClaimFact
 triangle =
-    claim B (codes "I-1") status.Confirmed A 1000 1000 20119
-    ∷ claim C (codes "I-2") status.Confirmed B 700 700 20119
-    ∷ claim A (codes "I-3") status.Confirmed C 1200 1200 20119
+    claim B (codes "I-1") status.Confirmed A 1000 1000 1000 20119
+    ∷ claim C (codes "I-2") status.Confirmed B 700 700 700 20119
+    ∷ claim A (codes "I-3") status.Confirmed C 1200 1200 1200 20119
     ∷ []
 
 triangle_cut : cut_of_facts 1 triangle accounts Plain 20119 ≡ record {
@@ -66,13 +66,13 @@ triangle_cut : cut_of_facts 1 triangle accounts Plain 20119 ≡ record {
 }
 triangle_cut = refl
 
--- after a round of 7.00 on each claim, with one more of A to B
+-- after a round of 7.00 on each claim, with one more of A to B, of which A agrees to 2.00
 abbrev later : List ClaimFact
 later =
-    claim B (codes "I-1") status.Confirmed A 1000 300 20119
-    ∷ claim C (codes "I-2") status.Confirmed B 700 0 20119
-    ∷ claim A (codes "I-3") status.Confirmed C 1200 500 20119
-    ∷ claim B (codes "I-4") status.Confirmed A 200 200 20119
+    claim B (codes "I-1") status.Confirmed A 1000 300 300 20119
+    ∷ claim C (codes "I-2") status.Confirmed B 700 0 0 20119
+    ∷ claim A (codes "I-3") status.Confirmed C 1200 500 500 20119
+    ∷ claim B (codes "I-4") status.Confirmed A 250 250 200 20119
     ∷ []
 
 later_cut : cut_of_facts 2 later accounts Funded 20119 ≡ record {
@@ -87,11 +87,12 @@ later_cut = refl
 
 abbrev left_out : List ClaimFact
 left_out =
-    claim B (codes "I-1") status.Filed A 1000 1000 20119
-    ∷ claim B (codes "I-2") status.Disputed A 1000 1000 20119
-    ∷ claim B (codes "I-3") status.Withdrawn A 1000 1000 20119
-    ∷ claim B (codes "I-4") status.Confirmed A 1000 0 20119
-    ∷ claim B (codes "I-5") status.Confirmed A 1000 1 20120
+    claim B (codes "I-1") status.Filed A 1000 1000 0 20119
+    ∷ claim B (codes "I-2") status.Disputed A 1000 1000 0 20119
+    ∷ claim B (codes "I-3") status.Withdrawn A 1000 1000 0 20119
+    ∷ claim B (codes "I-4") status.Confirmed A 1000 0 0 20119
+    ∷ claim B (codes "I-5") status.Confirmed A 1000 2 1 20120
+    ∷ claim B (codes "I-6") status.Confirmed A 1000 300 0 20119
     ∷ []
 
 empty_cut : cut_of_facts 1 left_out accounts Funded 20119 ≡ record { round = 1; kind = Funded; parties = []; claims = [] }

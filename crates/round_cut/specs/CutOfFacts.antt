@@ -9,16 +9,15 @@ use Rattle.setoff_model.specs.CutView.{CutView}
 use Rattle.setoff_model.specs.Same.{same_name}
 use Rattle.claim_history.specs.declared.fact.ClaimFact.{ClaimFact}
 use Rattle.claim_history.specs.declared.fact.AccountFact.{AccountFact}
-use Rattle.claim_history.specs.Facts.{is_confirmed}
 use Rattle.claim_history.specs.Cut.{distinct}
 use Rattle.setoff_model.specs.Windows.{Window}
 use Rattle.round_cut.specs.Windows.{KeepsLimits, window_of}
 
 -- ---- the claims
 
--- the claim is confirmed, has an open amount, and is due on or before the horizon
+-- the claim has a part that is agreed to and open, and is due on or before the horizon
 abbrev pub takes_part : ℕ → ClaimFact → Bool
-takes_part horizon c = is_confirmed c.status && nat_le 1 c.left && nat_le c.due horizon
+takes_part horizon c = nat_le 1 c.part && nat_le c.due horizon
 
 -- the claims that take part, in their order
 abbrev pub claims_due : ℕ → List ClaimFact → List ClaimFact
@@ -49,13 +48,13 @@ party_in accounts kind firm = record {
 
 -- ---- the cut
 
--- the claim with its open amount, and the places of its debtor and its creditor among the firms
+-- the claim with its part, and the places of its debtor and its creditor among the firms
 abbrev pub claim_among : List (List ℕ) → ClaimFact → CutClaim
 claim_among firms c = record {
   key = c.key;
   debtor = position_or_len (same_name c.debtor) firms;
   creditor = position_or_len (same_name c.key.creditor) firms;
-  amount = c.left;
+  amount = c.part;
 }
 
 -- the parties of claims, each with the window of its account
@@ -81,12 +80,13 @@ cut_of_facts round claims accounts kind horizon = record {
 abbrev pub has_account : List AccountFact → List ℕ → Bool
 has_account accounts firm = list_any (λ a. same_name firm a.firm) accounts
 
--- the claim is between two firms with accounts, and its open amount is one of a request
+-- the claim is between two firms with accounts, its open amount is one of a request, and its part is at most that
 pub record IsClaimOf (accounts : List AccountFact) (c : ClaimFact) : Type 0 where
   pub debtor : has_account accounts c.debtor ≡ true
   pub creditor : has_account accounts c.key.creditor ≡ true
   pub apart : c.debtor ≢ c.key.creditor
   pub left : c.left ≤ MOST_AMOUNT
+  pub part : c.part ≤ c.left
 
 -- claims with their own keys, between firms that each have one account
 pub record AreFacts (claims : List ClaimFact) (accounts : List AccountFact) : Type 0 where

@@ -22,11 +22,11 @@ abbrev pub with_parties_of : List AccountFact → Kind → ClaimFact → List Pa
 with_parties_of accounts kind c parties = with_party (party_in accounts kind c.key.creditor)
     (with_party (party_in accounts kind c.debtor) parties)
 
--- the claim with its open amount, and the places of its debtor and its creditor among the parties
+-- the claim with its part, and the places of its debtor and its creditor among the parties
 abbrev pub placed : List Party → ClaimFact → CutClaim
 placed parties c = record {
   key = c.key;
   debtor = position_or_len (is_party c.debtor) parties;
   creditor = position_or_len (is_party c.key.creditor) parties;
-  amount = c.left;
+  amount = c.part;
 }

@@ -6,13 +6,13 @@ ghost use Rattle.round_cut.specs.CutOfFacts.{takes_part, cut_of_facts, AreFacts}
 ghost use Rattle.round_cut.specs.Growing.{with_parties_of, placed};
 
 use crate::parties::{firms_of, place_of};
-use claim_history::{AccountFact, ClaimFact, Day, Status};
+use claim_history::{AccountFact, ClaimFact, Day};
 use name_index::NameIndex;
 use setoff_model::{Cut, CutClaim, Kind, Party};
 use std::alloc::{AllocError, Global};
 
-/// Makes the cut of a round of this number and kind: the claims that are confirmed, have an open amount and are due on
-/// or before the horizon, in their order, each with its open amount, and the firms that they name with their windows.
+/// Makes the cut of a round of this number and kind: the claims that have a part which is agreed to and open, and are due
+/// on or before the horizon, in their order, each with that part, and the firms that they name with their windows.
 ///
 /// The parties stand in order of first appearance, the debtor of a claim before its creditor. Each claim is looked at
 /// once, and firms are found by an index, so the time grows with the claims and the accounts. An error is want of memory.
@@ -48,14 +48,12 @@ pub fn build_cut(
     Ok(Cut::new(round, kind, parties, due))
 }
 
-/// Whether the claim takes part in a round of this horizon: it is confirmed, has an open amount, and is due on or before that day.
+/// Whether the claim takes part in a round of this horizon: its part is above 0, and it is due on or before that day.
 /// Takes no memory.
 pub fn is_due(claim: &ClaimFact, horizon: Day) -> bool
     ensures { result ≡ takes_part horizon claim.now }
 {
-    matches!(claim.status, Status::Confirmed)
-        && 1 <= claim.left
-        && claim.due.number() <= horizon.number()
+    1 <= claim.part && claim.due.number() <= horizon.number()
 }
 
 // Adds a claim that takes part, and its firms to the parties where they are not among them.
@@ -83,7 +81,7 @@ fn add_claim(
         key: claim.key,
         debtor,
         creditor,
-        amount: claim.left,
+        amount: claim.part,
     })?;
     Ok(())
 }

@@ -42,7 +42,12 @@ short_record (act.File key debtor amount due) h =
     let m = and_parts (is_key key && is_name debtor) (is_claim_amount amount) n.0 in
     let s = short_claim key debtor m.0 in
     omega (arith, s.0, s.1, s.2)
-short_record (act.Confirm key debtor) h = let s = short_claim key debtor h in omega (arith, s.0, s.1, s.2)
+short_record (act.Confirm key debtor None) h =
+    let s = short_claim key debtor (and_parts (is_key key && is_name debtor) true h).0 in
+    omega (arith, s.0, s.1, s.2)
+short_record (act.Confirm key debtor (Some agreed)) h =
+    let s = short_claim key debtor (and_parts (is_key key && is_name debtor) (is_claim_amount agreed) h).0 in
+    omega (arith, s.0, s.1, s.2)
 short_record (act.Dispute key debtor) h = let s = short_claim key debtor h in omega (arith, s.0, s.1, s.2)
 short_record (act.Withdraw key) h = let s = short_key key h in omega (arith, s.0, s.1)
 short_record (act.Receive key amount) h = let s = short_key key (and_parts (is_key key) (is_claim_amount amount) h).0 in omega (arith, s.0, s.1)

@@ -128,6 +128,10 @@ const REPLIES: &[(Reply, &[u8])] = &[
         Reply::Refused(Why::NotProved),
         b"0 ABANDON = refused 19 not-proved\n",
     ),
+    (
+        Reply::Refused(Why::OverAmount),
+        b"0 ABANDON = refused 20 over-amount\n",
+    ),
 ];
 
 #[test]

@@ -46,10 +46,11 @@ fn file(parts: &Parts, amount: u64) -> Act {
     }
 }
 
-fn confirm(parts: &Parts) -> Act {
+fn confirm(parts: &Parts, agreed: Option<u64>) -> Act {
     Act::Confirm {
         key: parts.key,
         debtor: parts.a,
+        agreed,
     }
 }
 
@@ -110,7 +111,8 @@ fn acts(rt: &impl Abort, alloc: Global, parts: &Parts) -> Vec<Act> {
     let acts = vec![in alloc;
         Act::Firm { firm },
         file(parts, 1_000),
-        confirm(parts),
+        confirm(parts, None),
+        confirm(parts, Some(600)),
         dispute(parts),
         Act::Withdraw { key },
         receive(parts, 400),
@@ -127,10 +129,11 @@ fn acts(rt: &impl Abort, alloc: Global, parts: &Parts) -> Vec<Act> {
     acts.expect(rt, "memory")
 }
 
-const TEXTS: [&[u8]; 15] = [
+const TEXTS: [&[u8]; 16] = [
     b"FIRM A",
     b"FILE B I-1 A 10.00 2025-01-31",
     b"CONFIRM B I-1 A",
+    b"CONFIRM B I-1 A 6.00",
     b"DISPUTE B I-1 A",
     b"WITHDRAW B I-1",
     b"RECEIVE B I-1 4.00",
@@ -164,6 +167,8 @@ fn acts_in_range(rt: &impl Abort, alloc: Global, parts: &Parts) -> Vec<Act> {
     let acts = vec![in alloc;
         file(parts, 1),
         file(parts, 999_999_999_999),
+        confirm(parts, Some(1)),
+        confirm(parts, Some(999_999_999_999)),
         limit(parts.a, 0, 0),
         limit(parts.a, 999_999_999_999, 0),
         Act::Abandon,
@@ -176,6 +181,8 @@ fn acts_out_of_range(rt: &impl Abort, alloc: Global, parts: &Parts) -> Vec<Act> 
     let acts = vec![in alloc;
         file(parts, 0),
         file(parts, 1_000_000_000_000),
+        confirm(parts, Some(0)),
+        confirm(parts, Some(1_000_000_000_000)),
         fund(parts.a, 0),
         limit(parts.a, 0, 1_000_000_000_000),
         publication(rt, alloc, 1_000_000_000_000, 1),

@@ -60,7 +60,7 @@ fn are_told(
 
 #[test]
 fn nothing_is_told_of_nobody(rt: HostRuntime) {
-    let noticed = b"debtor,creditor,invoice,status,amount,open,due,overdue\n";
+    let noticed = b"debtor,creditor,invoice,status,amount,open,part,due,overdue\n";
     let positioned = b"firm,balance,credit,ceiling,offer,receivable,payable\n";
     are_told(&rt, rt.alloc(), b"", b"2026-01-10", noticed, positioned);
 }
@@ -74,9 +74,9 @@ fn triangle_is_told(rt: HostRuntime) {
         1 FILE A I-3 C 12.00 2025-01-31\n\
         1 CONFIRM B I-1 A\n1 CONFIRM C I-2 B\n1 CONFIRM A I-3 C\n\
         1 RECEIVE B I-1 7.00\n1 RECEIVE C I-2 7.00\n1 RECEIVE A I-3 7.00\n";
-    let noticed = b"debtor,creditor,invoice,status,amount,open,due,overdue\n\
-        A,B,I-1,confirmed,10.00,3.00,2025-01-31,344\n\
-        C,A,I-3,confirmed,12.00,5.00,2025-01-31,344\n";
+    let noticed = b"debtor,creditor,invoice,status,amount,open,part,due,overdue\n\
+        A,B,I-1,confirmed,10.00,3.00,3.00,2025-01-31,344\n\
+        C,A,I-3,confirmed,12.00,5.00,5.00,2025-01-31,344\n";
     let positioned = b"firm,balance,credit,ceiling,offer,receivable,payable\n\
         A,0.00,0.00,10000000000000.00,0.00,5.00,3.00\n\
         B,0.00,0.00,10000000000000.00,0.00,3.00,0.00\n\
@@ -91,7 +91,7 @@ fn triangle_is_told(rt: HostRuntime) {
     );
 }
 
-// A claim of each status, of which one is due on the day and one after it, and an account below zero.
+// Claims of each status, of which one is due on the day and some after it, one with a part, and an account below zero.
 #[test]
 fn statuses_and_accounts_are_told(rt: HostRuntime) {
     let requests = b"1 FIRM B\n1 FIRM A-1\n\
@@ -99,15 +99,18 @@ fn statuses_and_accounts_are_told(rt: HostRuntime) {
         1 FILE B I-2 A-1 2.00 2025-12-31\n\
         1 FILE B I-3 A-1 3.00 2026-01-01\n\
         1 FILE B I-4 A-1 4.00 2025-01-01\n\
+        1 FILE B I-5 A-1 5.00 2026-01-01\n\
         1 CONFIRM B I-2 A-1\n1 DISPUTE B I-3 A-1\n1 WITHDRAW B I-4\n\
+        1 CONFIRM B I-5 A-1 3.00\n1 RECEIVE B I-5 1.00\n\
         1 LIMIT A-1 50.00 100.00\n1 DRAW A-1 49.99\n1 OFFER A-1 0.07\n";
-    let noticed = b"debtor,creditor,invoice,status,amount,open,due,overdue\n\
-        A-1,B,I-1,filed,1.00,1.00,2025-12-30,1\n\
-        A-1,B,I-2,confirmed,2.00,2.00,2025-12-31,0\n\
-        A-1,B,I-3,disputed,3.00,3.00,2026-01-01,0\n";
+    let noticed = b"debtor,creditor,invoice,status,amount,open,part,due,overdue\n\
+        A-1,B,I-1,filed,1.00,1.00,0.00,2025-12-30,1\n\
+        A-1,B,I-2,confirmed,2.00,2.00,2.00,2025-12-31,0\n\
+        A-1,B,I-3,disputed,3.00,3.00,0.00,2026-01-01,0\n\
+        A-1,B,I-5,confirmed,5.00,4.00,2.00,2026-01-01,0\n";
     let positioned = b"firm,balance,credit,ceiling,offer,receivable,payable\n\
-        B,0.00,0.00,10000000000000.00,0.00,2.00,0.00\n\
-        A-1,-49.99,50.00,100.00,0.07,0.00,2.00\n";
+        B,0.00,0.00,10000000000000.00,0.00,4.00,0.00\n\
+        A-1,-49.99,50.00,100.00,0.07,0.00,4.00\n";
     are_told(
         &rt,
         rt.alloc(),

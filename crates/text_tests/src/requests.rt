@@ -46,6 +46,35 @@ fn lines_name_pools(rt: HostRuntime) {
     }
 }
 
+// The amount that the only line of an input agrees to.
+fn agreed_to(rt: &impl Abort, alloc: Global, line: &[u8]) -> Option<u64> {
+    let batches = read(rt, alloc, line);
+    match &only_one(rt, batches.first()).act {
+        Act::Confirm { agreed, .. } => *agreed,
+        _ => {
+            assert!(rt; false);
+            None
+        }
+    }
+}
+
+// Lines, and the amount that each agrees to, in cents.
+const AGREED: &[(&[u8], Option<u64>)] = &[
+    (b"1 CONFIRM B I-1 A", None),
+    (b"1 CONFIRM B I-1 A 0.01", Some(1)),
+    (b"1 CONFIRM B I-1 A 6.00\r\n", Some(600)),
+    (b"1 CONFIRM B I-1 A 9999999999.99", Some(999_999_999_999)),
+    (b"16 @EAST CONFIRM B I-1 A 6.00", Some(600)),
+    (b"16 @EAST CONFIRM B I-1 A", None),
+];
+
+#[test]
+fn parts_are_agreed_to(rt: HostRuntime) {
+    for (line, agreed) in AGREED {
+        assert!(rt; agreed_to(&rt, rt.alloc(), line) == *agreed);
+    }
+}
+
 // Inputs, how many batches each has, and how many requests the first and the last of them.
 const FENCED: &[(&[u8], usize, usize, usize)] = &[
     (b"", 1, 0, 0),
@@ -134,6 +163,10 @@ const BAD_LINES: &[(LineCause, &[&[u8]])] = &[
             b"1 @EAST FIRM",
             b"1 @EAST FIRM A @EAST",
             b"1 CONFIRM B I-1",
+            b"1 CONFIRM B I-1 A 6.00 6.00",
+            b"1 CONFIRM B I-1 A 6.00 ",
+            b"1 @EAST CONFIRM B I-1 A 0.00 6.00",
+            b"1 DISPUTE B I-1 A 6.00",
         ],
     ),
     (
@@ -164,6 +197,8 @@ const BAD_LINES: &[(LineCause, &[&[u8]])] = &[
             b"1 RECEIVE B I-1 0.00",
             b"1 LIMIT A 0.00 10000000000.00",
             b"1 FILE B I-1 a 10.00 2025-01-31",
+            b"1 CONFIRM B I-1 6.00",
+            b"1 CONFIRM B I-1 6.00 A",
         ],
     ),
     (
@@ -172,6 +207,11 @@ const BAD_LINES: &[(LineCause, &[&[u8]])] = &[
             b"1 FILE B I-1 A 0.00 2025-01-31",
             b"1 FILE B I-1 A 01.00 2025-01-31",
             b"1 FILE B I-1 A 10000000000.00 2025-02-30",
+            b"1 CONFIRM B I-1 A 0.00",
+            b"1 CONFIRM B I-1 A 10000000000.00",
+            b"1 CONFIRM B I-1 A 10.1",
+            b"1 CONFIRM B I-1 A ",
+            b"1 @EAST CONFIRM B I-1 A 0.00",
         ],
     ),
 ];
@@ -225,6 +265,8 @@ const LINES: &[&[u8]] = &[
     b"1 FIRM A\n",
     b"16 FILE B I-1 A 9999999999.99 9999-12-31\n",
     b"1 CONFIRM B I-1 A\n",
+    b"1 CONFIRM B I-1 A 0.01\n",
+    b"16 @EAST CONFIRM B I-1 A 9999999999.99\n",
     b"10 DISPUTE B I-1 A\n",
     b"1 WITHDRAW B I-1\n",
     b"1 RECEIVE B I-1 0.01\n",

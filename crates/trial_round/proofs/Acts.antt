@@ -1,4 +1,5 @@
 -- No act before the last opens or ends a round.
+use Rattle.std.specs.Prelude.{None}
 use Rattle.std.proofs.Common.{◌≡◌, ◌∙◌, ℕ, zero, suc, ◌+◌, false, List, [], ◌∷◌, map, refl, ap, All}
 use Rattle.std.proofs.lemmas.List.Elements.{All-append, All-nil, All-cons, All-head, All-tail, All-weaker}
 use Rattle.claim_history.specs.declared.act.Act.{Act}
@@ -23,7 +24,7 @@ firms_of_none (suc number) = All-append OfNoRound (firm_acts number) (act.Firm (
 claim_of_none : (firms seed claim : ℕ) → All OfNoRound (filed_and_confirmed firms seed claim)
 unfolding filed_and_confirmed
 claim_of_none firms seed claim =
-    let confirmation = act.Confirm (claim_key firms seed claim) (firm_name (debtor_place firms seed claim + 1)) in
+    let confirmation = act.Confirm (claim_key firms seed claim) (firm_name (debtor_place firms seed claim + 1)) None in
     All-cons OfNoRound (act.File (claim_key firms seed claim) (firm_name (debtor_place firms seed claim + 1)) (claim_cents seed claim) DUE_DAY) (confirmation ∷ []) refl
     (All-cons OfNoRound confirmation [] refl (All-nil OfNoRound))
 

@@ -1,6 +1,6 @@
 -- Each act of a trial can be asked for.
-use Rattle.std.proofs.Common.{◌≡◌, ℕ, zero, suc, ◌+◌, ◌-◌, ◌*◌, ◌%◌, ◌<◌, ◌≤◌, Bool, true, false, [], ◌∷◌, ◌++◌, map, refl, ap₂, arith, All}
-use Rattle.std.specs.Prelude.{◌&&◌, nat_le, if◌then◌else◌}
+use Rattle.std.proofs.Common.{◌≡◌, ℕ, zero, suc, ◌+◌, ◌-◌, ◌*◌, ◌%◌, ◌<◌, ◌≤◌, Bool, true, false, [], ◌∷◌, ◌++◌, map, refl, ap, ap₂, arith, All}
+use Rattle.std.specs.Prelude.{◌&&◌, nat_le, None, if◌then◌else◌}
 use Rattle.std.proofs.lemmas.List.Elements.{All-append, All-nil, All-cons, All-map}
 use Rattle.setoff_model.specs.declared.limits.TheConstants.{MOST_CLAIMS, MOST_FIRMS}
 use Rattle.setoff_model.specs.Names.{is_name}
@@ -54,9 +54,9 @@ claim_asked firms seed claim some few small =
     let named : (is_name (firm_name (creditor_place firms seed claim + 1)) && is_name (invoice_name claim) && is_name (firm_name (debtor_place firms seed claim + 1))) ≡ true =
     ap₂ (λ (a b : Bool). a && b) (ap₂ (λ (a b : Bool). a && b) creditor invoice) debtor in
     let filing = act.File (claim_key firms seed claim) (firm_name (debtor_place firms seed claim + 1)) (claim_cents seed claim) DUE_DAY in
-    let confirmation = act.Confirm (claim_key firms seed claim) (firm_name (debtor_place firms seed claim + 1)) in
+    let confirmation = act.Confirm (claim_key firms seed claim) (firm_name (debtor_place firms seed claim + 1)) None in
     All-cons IsAskable filing (confirmation ∷ []) (ap₂ (λ (a b : Bool). a && b && true) named (cents_valid seed claim (claim_cents seed claim) refl))
-    (All-cons IsAskable confirmation [] named (All-nil IsAskable))
+    (All-cons IsAskable confirmation [] (ap (λ (b : Bool). b && true) named) (All-nil IsAskable))
 
 claims_asked : (firms seed claims : ℕ) → 2 ≤ firms → firms ≤ MOST_FIRMS → claims ≤ MOST_CLAIMS → All IsAskable (claim_acts firms seed claims)
 unfolding claim_acts

@@ -1,4 +1,5 @@
 -- The lines of acts.
+use Rattle.std.specs.Prelude.{None}
 use Rattle.std.proofs.Common.{◌≡◌, ◌∙◌, ℕ, suc, ◌+◌, List, [], ◌∷◌, ◌++◌, map, refl, sym, ap, ap₂, add-one, append_assoc}
 use Rattle.std.proofs.lemmas.List.{append-nil, map-append}
 use Rattle.std.proofs.lemmas.List.Concat.{flat_map-append}
@@ -58,18 +59,18 @@ claims_more old text firms seed claims is =
 
 pub claim_text : (old text : List ℕ) (firms seed number cents : ℕ) (key : Key) (debtor : List ℕ)
     → key ≡ claim_key firms seed number → debtor ≡ firm_name (debtor_place firms seed number + 1) → cents ≡ claim_cents seed number
-    → text ≡ old ++ request_line 1 main_pool (act.File key debtor cents DUE_DAY) ++ request_line 1 main_pool (act.Confirm key debtor)
+    → text ≡ old ++ request_line 1 main_pool (act.File key debtor cents DUE_DAY) ++ request_line 1 main_pool (act.Confirm key debtor None)
     → text ≡ old ++ text_of_acts (filed_and_confirmed firms seed number)
 unfolding filed_and_confirmed
 claim_text old text firms seed number cents key debtor is_key is_debtor is_cents is =
     let filing = act.File key debtor cents DUE_DAY in
-    let confirmation = act.Confirm key debtor in
+    let confirmation = act.Confirm key debtor None in
     is
     ∙ append_assoc old (request_line 1 main_pool filing) (request_line 1 main_pool confirmation)
     ∙ ap (λ (t : List ℕ). old ++ t) (sym (two_lines filing confirmation))
-    ∙ ap (λ (k : Key). old ++ text_of_acts (act.File k debtor cents DUE_DAY ∷ act.Confirm k debtor ∷ [])) is_key
-    ∙ ap (λ (d : List ℕ). old ++ text_of_acts (act.File (claim_key firms seed number) d cents DUE_DAY ∷ act.Confirm (claim_key firms seed number) d ∷ [])) is_debtor
-    ∙ ap (λ (n : ℕ). old ++ text_of_acts (act.File (claim_key firms seed number) (firm_name (debtor_place firms seed number + 1)) n DUE_DAY ∷ act.Confirm (claim_key firms seed number) (firm_name (debtor_place firms seed number + 1)) ∷ [])) is_cents where
+    ∙ ap (λ (k : Key). old ++ text_of_acts (act.File k debtor cents DUE_DAY ∷ act.Confirm k debtor None ∷ [])) is_key
+    ∙ ap (λ (d : List ℕ). old ++ text_of_acts (act.File (claim_key firms seed number) d cents DUE_DAY ∷ act.Confirm (claim_key firms seed number) d None ∷ [])) is_debtor
+    ∙ ap (λ (n : ℕ). old ++ text_of_acts (act.File (claim_key firms seed number) (firm_name (debtor_place firms seed number + 1)) n DUE_DAY ∷ act.Confirm (claim_key firms seed number) (firm_name (debtor_place firms seed number + 1)) None ∷ [])) is_cents where
       two_lines : (a b : Act) → text_of_acts (a ∷ b ∷ []) ≡ request_line 1 main_pool a ++ request_line 1 main_pool b
       two_lines a b = text_append (a ∷ []) (b ∷ []) ∙ ap₂ (λ (s t : List ℕ). s ++ t) (text_one a) (text_one b)
 

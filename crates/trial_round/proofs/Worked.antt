@@ -1,7 +1,7 @@
 -- The trial of two firms and two claims from the seed 1, worked out: F-1 owes F-2 330.47, F-2 owes F-1 242.17, and so 242.17 of each
 -- is set off.
 use Rattle.std.proofs.Common.{◌≡◌, ◌∙◌, ℕ, List, [], ◌∷◌, ◌++◌, refl, ap, ap₂, arith, decimal}
-use Rattle.std.specs.Prelude.{codes, map, ℤ, pos}
+use Rattle.std.specs.Prelude.{codes, map, None, ℤ, pos}
 use Rattle.std.proofs.lemmas.Fmt.{decimal_digit}
 use Rattle.setoff_model.specs.declared.kind.Kind.TheVariants.{Plain}
 use Rattle.setoff_model.specs.CutView.{CutView, obligations}
@@ -30,9 +30,9 @@ worked_acts one two =
     act.Firm (codes "F-" ++ one)
     ∷ act.Firm (codes "F-" ++ two)
     ∷ act.File (record { creditor = codes "F-" ++ two; invoice = codes "I-" ++ one }) (codes "F-" ++ one) 33047 20089
-    ∷ act.Confirm (record { creditor = codes "F-" ++ two; invoice = codes "I-" ++ one }) (codes "F-" ++ one)
+    ∷ act.Confirm (record { creditor = codes "F-" ++ two; invoice = codes "I-" ++ one }) (codes "F-" ++ one) None
     ∷ act.File (record { creditor = codes "F-" ++ one; invoice = codes "I-" ++ two }) (codes "F-" ++ two) 24217 20089
-    ∷ act.Confirm (record { creditor = codes "F-" ++ one; invoice = codes "I-" ++ two }) (codes "F-" ++ two)
+    ∷ act.Confirm (record { creditor = codes "F-" ++ one; invoice = codes "I-" ++ two }) (codes "F-" ++ two) None
     ∷ []
 
 one_digit : decimal 1 ≡ codes "1"

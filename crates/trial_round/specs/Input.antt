@@ -1,6 +1,6 @@
 -- The input of a trial: firms are registered, claims among them are drawn, filed and confirmed, and a round is closed, all in the pool
 -- MAIN.
-use Rattle.std.specs.Prelude.{ℕ, zero, suc, ◌+◌, ◌-◌, ◌*◌, ◌%◌, nat_le, List, [], ◌∷◌, ◌++◌, map, codes, decimal, if◌then◌else◌}
+use Rattle.std.specs.Prelude.{ℕ, zero, suc, ◌+◌, ◌-◌, ◌*◌, ◌%◌, nat_le, List, [], ◌∷◌, ◌++◌, map, codes, decimal, None, if◌then◌else◌}
 use Rattle.setoff_model.specs.declared.name.Key.{Key}
 use Rattle.setoff_model.specs.declared.kind.Kind.TheVariants.{Plain}
 use Rattle.claim_history.specs.declared.act.Act.{Act}
@@ -47,11 +47,11 @@ unfoldable pub firm_acts : ℕ → List Act
 firm_acts zero = []
 firm_acts (suc number) = firm_acts number ++ act.Firm (firm_name (suc number)) ∷ []
 
--- a claim is filed and confirmed
+-- a claim is filed, and all of it is confirmed
 unfoldable pub filed_and_confirmed : ℕ → ℕ → ℕ → List Act
 filed_and_confirmed firms seed claim =
     act.File (claim_key firms seed claim) (firm_name (debtor_place firms seed claim + 1)) (claim_cents seed claim) DUE_DAY
-    ∷ act.Confirm (claim_key firms seed claim) (firm_name (debtor_place firms seed claim + 1))
+    ∷ act.Confirm (claim_key firms seed claim) (firm_name (debtor_place firms seed claim + 1)) None
     ∷ []
 
 -- so are the first claims

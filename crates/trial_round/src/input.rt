@@ -1,5 +1,5 @@
 //! The input of a trial: firms, claims that are drawn among them, and a round, all in the pool MAIN.
-ghost use Rattle.std.specs.Prelude.{◌≡◌, ◌+◌, ◌-◌, ◌*◌, ◌<◌, ◌≤◌, ◌^◌, ◌++◌, ◌∷◌, decimal, true, OnOk, IfOk, vec_capacity};
+ghost use Rattle.std.specs.Prelude.{◌≡◌, ◌+◌, ◌-◌, ◌*◌, ◌<◌, ◌≤◌, ◌^◌, ◌++◌, ◌∷◌, decimal, true, None, OnOk, IfOk, vec_capacity};
 ghost use Rattle.setoff_model.specs.declared.limits.TheConstants.{MOST_CLAIMS, MOST_FIRMS};
 ghost use Rattle.setoff_model.specs.Names.{is_letter, is_name};
 ghost use Rattle.claim_history.specs.Acts.{is_claim_amount, is_key, is_request};
@@ -118,7 +118,7 @@ fn write_filed(text: &mut Vec<u8>, claim: DrawnClaim) -> Result<(), AllocError>
     requires debtor { is_name claim.debtor ≡ true }
     requires amount { is_claim_amount claim.amount ≡ true }
     ensures { OnOk result (text.new.items ≡ text.old.items ++ request_line 1 main_pool (acts.File claim.key claim.debtor claim.amount DUE_DAY)
-        ++ request_line 1 main_pool (acts.Confirm claim.key claim.debtor)) }
+        ++ request_line 1 main_pool (acts.Confirm claim.key claim.debtor None)) }
 {
     let Some(due) = Day::of_number(DUE_DAY) else {
         unreachable!()
@@ -133,6 +133,7 @@ fn write_filed(text: &mut Vec<u8>, claim: DrawnClaim) -> Result<(), AllocError>
     let confirmation = Act::Confirm {
         key: claim.key,
         debtor: claim.debtor,
+        agreed: None,
     };
     write_line(text, &confirmation)
 }

@@ -1,14 +1,12 @@
 use Rattle.std.specs.Prelude.{map, slice_index}
-use Rattle.std.proofs.Common.{◌≡◌, ℕ, List, ◌-◌, ◌<◌, ◌≤◌, length, get_or, ◌∙◌, ap, subst, refl, arith}
+use Rattle.std.proofs.Common.{List, ◌<◌, ◌≤◌, length, get_or, ◌∙◌, ap, subst, refl, arith}
 use Rattle.setoff_model.specs.declared.cut.CutClaim.{CutClaim}
 use Rattle.fact_tables.specs.Tables.{with_receipt}
-use Rattle.fact_tables.proofs.Settle.{claim_after, claim_next, claims_whole, map_step, map_start}
+use Rattle.fact_tables.proofs.Settle.{claim_after, claim_next, claims_whole, map_step, map_start, reduced_none}
 use Rattle.fact_tables.proofs.claim_table.ClaimTable.discharge.Goals as goal
 
 pub loop-i-init : goal.loop-i-init
-loop-i-init c =
-    let none : (n : ℕ) → n - 0 ≡ n = λ n. omega arith in
-    record { facts = map_start (claim_after c.args.cut.now c.args.discharges.now 0) c.args.self.now.facts (λ x. ap (λ (n : ℕ). record x { left = n }) (none x.left)); marks = refl; room = refl }
+loop-i-init c = record { facts = map_start (claim_after c.args.cut.now c.args.discharges.now 0) c.args.self.now.facts reduced_none; marks = refl; room = refl }
 
 pub loop-i-preserved : goal.loop-i-preserved
 loop-i-preserved c =

@@ -1,13 +1,11 @@
-use Rattle.std.specs.Prelude.{set, if◌then◌else◌, ℕ}
-use Rattle.std.proofs.Common.{◌+◌, ◌-◌, sym, ◌∙◌, ap₂, arith}
+use Rattle.std.specs.Prelude.{set}
+use Rattle.std.proofs.Common.{sym, ◌∙◌}
 use Rattle.std.proofs.Math.Seq.{map-set_same}
 use Rattle.std.proofs.lemmas.List.{length-set}
-use Rattle.setoff_model.specs.Same.{same_name}
 use Rattle.claim_history.specs.declared.fact.ClaimFact.{ClaimFact}
-use Rattle.fact_tables.specs.Sums.{sum_of}
 use Rattle.fact_tables.proofs.Keyed.{keys_once}
 use Rattle.fact_tables.proofs.Putting.{put_for}
-use Rattle.fact_tables.proofs.Summed.{enough, fits, total_kept, sums_follow}
+use Rattle.fact_tables.proofs.Summed.{enough, fits, sums_follow}
 use Rattle.fact_tables.proofs.claim_table.ClaimTable.put.Goals as goal
 
 pub change-creditor-requires-clause-enough : goal.change-creditor-requires-clause-enough
@@ -17,9 +15,8 @@ change-creditor-requires-clause-enough c =
     let y = c.args.claim in
     let place = c.args.place in
     let put = put_for _ _ c.args.place c.index.result.now c.args.claim c.self.view_is c.requires.within c.requires.key c.requires.debtor
-    c.requires.left c.index.ensures in
-    rw c.counted-less.ensures
-    (enough (λ (r : ClaimFact). r.key.creditor) facts c.self.inside.receivables place x y c.self.invariant.owed_to put.within c.index.ensures put.creditor)
+    c.requires.small c.index.ensures in
+    enough (λ (r : ClaimFact). r.key.creditor) facts c.self.inside.receivables place x y c.self.invariant.owed_to put.within c.index.ensures put.creditor
 
 pub change-creditor-requires-clause-fits : goal.change-creditor-requires-clause-fits
 change-creditor-requires-clause-fits c =
@@ -28,10 +25,9 @@ change-creditor-requires-clause-fits c =
     let y = c.args.claim in
     let place = c.args.place in
     let put = put_for _ _ c.args.place c.index.result.now c.args.claim c.self.view_is c.requires.within c.requires.key c.requires.debtor
-    c.requires.left c.index.ensures in
-    rw (c.counted-less.ensures, c.counted-more.ensures)
-    (fits (λ (r : ClaimFact). r.key.creditor) facts c.self.inside.receivables place x y c.self.invariant.owed_to put.within c.index.ensures
-    put.creditor put.left c.self.invariant.stand.small)
+    c.requires.small c.index.ensures in
+    fits (λ (r : ClaimFact). r.key.creditor) facts c.self.inside.receivables place x y c.self.invariant.owed_to put.within c.index.ensures
+    put.creditor put.small
 
 pub change-debtor-requires-clause-enough : goal.change-debtor-requires-clause-enough
 change-debtor-requires-clause-enough c =
@@ -40,9 +36,8 @@ change-debtor-requires-clause-enough c =
     let y = c.args.claim in
     let place = c.args.place in
     let put = put_for _ _ c.args.place c.index.result.now c.args.claim c.self.view_is c.requires.within c.requires.key c.requires.debtor
-    c.requires.left c.index.ensures in
-    rw c.counted-less.ensures
-    (enough (λ (r : ClaimFact). r.debtor) facts c.self.inside.payables place x y c.self.invariant.owed_by put.within c.index.ensures put.debtor)
+    c.requires.small c.index.ensures in
+    enough (λ (r : ClaimFact). r.debtor) facts c.self.inside.payables place x y c.self.invariant.owed_by put.within c.index.ensures put.debtor
 
 pub change-debtor-requires-clause-fits : goal.change-debtor-requires-clause-fits
 change-debtor-requires-clause-fits c =
@@ -51,10 +46,9 @@ change-debtor-requires-clause-fits c =
     let y = c.args.claim in
     let place = c.args.place in
     let put = put_for _ _ c.args.place c.index.result.now c.args.claim c.self.view_is c.requires.within c.requires.key c.requires.debtor
-    c.requires.left c.index.ensures in
-    rw (c.counted-less.ensures, c.counted-more.ensures)
-    (fits (λ (r : ClaimFact). r.debtor) facts c.self.inside.payables place x y c.self.invariant.owed_by put.within c.index.ensures
-    put.debtor put.left c.self.invariant.stand.small)
+    c.requires.small c.index.ensures in
+    fits (λ (r : ClaimFact). r.debtor) facts c.self.inside.payables place x y c.self.invariant.owed_by put.within c.index.ensures
+    put.debtor put.small
 
 pub invariant_of-self : goal.invariant_of-self
 invariant_of-self c =
@@ -63,28 +57,17 @@ invariant_of-self c =
     let y = c.args.claim in
     let place = c.args.place in
     let put = put_for _ _ c.args.place c.index.result.now c.args.claim c.self.view_is c.requires.within c.requires.key c.requires.debtor
-    c.requires.left c.index.ensures in
+    c.requires.small c.index.ensures in
     let keys = map-set_same (λ (r : ClaimFact). r.key) facts place y y put.key in
     record {
       keys_are = c.self.invariant.keys_are ∙ sym keys;
       one_each = c.self.invariant.one_each ∙ sym (length-set facts place y);
       stand = record {
         once = keys_once facts (set facts place y) (sym keys) c.self.invariant.stand.once;
-        small = omega (
-          arith,
-          c.self.invariant.stand.small,
-          total_kept (λ (r : ClaimFact). r.debtor) facts c.self.inside.payables place x y c.self.invariant.owed_by put.within c.index.ensures
-              put.debtor put.left,
-        );
+        small = put.small;
       };
       owed_to = sums_follow (λ (r : ClaimFact). r.key.creditor) facts c.self.inside.receivables place x y c.self.invariant.owed_to put.within
-          c.index.ensures put.creditor c.change-creditor.new.self c.change-creditor.ensures.known
-          (λ other. c.change-creditor.ensures.sums other
-          ∙ ap₂ (λ (less more : ℕ). if same_name y.key.creditor other then sum_of c.self.inside.receivables other - less + more
-          else sum_of c.self.inside.receivables other) c.counted-less.ensures c.counted-more.ensures);
+          c.index.ensures put.creditor c.change-creditor.new.self c.change-creditor.ensures.known c.change-creditor.ensures.sums;
       owed_by = sums_follow (λ (r : ClaimFact). r.debtor) facts c.self.inside.payables place x y c.self.invariant.owed_by put.within
-          c.index.ensures put.debtor c.change-debtor.new.self c.change-debtor.ensures.known
-          (λ other. c.change-debtor.ensures.sums other
-          ∙ ap₂ (λ (less more : ℕ). if same_name y.debtor other then sum_of c.self.inside.payables other - less + more
-          else sum_of c.self.inside.payables other) c.counted-less.ensures c.counted-more.ensures);
+          c.index.ensures put.debtor c.change-debtor.new.self c.change-debtor.ensures.known c.change-debtor.ensures.sums;
     }
