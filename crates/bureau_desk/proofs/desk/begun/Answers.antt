@@ -13,6 +13,7 @@ use Rattle.bureau_desk.specs.Opening.{IsNotBegun}
 use Rattle.bureau_desk.proofs.Cuts.{desk_begun}
 use Rattle.bureau_desk.proofs.Endings.{IsTaken, all_accepted}
 use Rattle.bureau_desk.proofs.Opened.{begin_fault}
+use Rattle.bureau_desk.proofs.Stopped.{has_stopped}
 use Rattle.bureau_desk.proofs.desk.begun.Goals as goal
 
 pub begin-requires : goal.begin-requires
@@ -32,6 +33,7 @@ returns-in-Err-clause-err g c =
     subst (λ (d : g.row.D.Denot). IsNotBegun g.D.Disk.seen c.args.kept d c.abandon_cause.result) (sym c.close.ensures)
     (record {
       has = begin_fault g.D.Disk.seen c.args.kept.recorder.journal.disk c.abandon.new.self.recorder.journal.disk _ c.abandon_cause.result c.in-Err.ensures.cause c.abandon_cause.ensures;
+      stopped = has_stopped g.D.Disk.seen c.args.kept c.abandon.new.self _ c.abandon_cause.result c.in-Err.ensures.stopped c.abandon_cause.ensures c.abandon.ensures.later c.books-books.ensures.records;
       crash = c.abandon.ensures.crash;
       same = c.abandon.ensures.later.same;
       later = c.abandon.ensures.later.counts;
