@@ -31,5 +31,5 @@ pub(crate) const PUBLISH: u8 = 14;
 /// The tag before the name of a pool, which no act has.
 pub(crate) const POOL: u8 = 15;
 
-/// That of a Confirm which names an amount. `CONFIRM` is that of one which names none.
+/// That of a confirmation of a part, which names an amount. One of the whole names none: its tag is `CONFIRM`.
 pub(crate) const AGREE: u8 = 16;

@@ -1,7 +1,8 @@
 //! The cut of a round, made of what is known of claims and accounts.
 //!
-//! A *cut* has the claims that take part in a round, each with the part of it that is agreed to and open, and the *parties*,
-//! which are the firms that these claims name. The *window* of a party says by how much its balance may fall in the round, the spend, and rise, the room.
+//! A *cut* has the claims that take part in a round, each with the part of it that is agreed to and open, and the
+//! *parties*, which are the firms that these claims name. The *window* of a party says by how much its balance may fall
+//! in the round, the spend, and rise, the room.
 //!
 //! Rules: a claim takes part where its part is above 0 and it is due on or before the horizon. In a plain round no balance
 //! changes. The cut of what a legal history says of claims and accounts is the history's cut.
