@@ -12,33 +12,35 @@ use std::alloc::{AllocError, Global};
 // arcs at a node.
 const MOST: usize = 32;
 
-const MOST_WEIGHTED: usize = 128;
+pub(crate) const MOST_WEIGHTED: usize = 128;
 
 const FEW: usize = 4;
 
 // From so many levels on it is asked whether they get on, or from few where there are at most five halves at a node.
 const ASKED: usize = 16;
 
-// Goes from one level of prices to the next while they get on.
+// Goes from one level of prices to the next while they get on, up to a level or to the last that is tried at first. It is given
+// what was left before each level, and goes on after these.
 pub(crate) fn first_levels(
     alloc: Global,
     state: &mut State,
     advice: &mut Advice,
+    past: &mut Vec<u128>,
+    last: usize,
 ) -> Result<(), AllocError>
     requires { IsState state.old }
     ensures { OnOk result (IsNoWorse state.old state.new) }
 {
     let halves = advice.halves().len();
-    let most = most_levels(state, halves);
+    let most = most_levels(state, halves).min(last);
     let asked = if halves / 5 <= state.excess.len() {
         FEW
     } else {
         ASKED
     };
-    let mut past = Vec::with_capacity(alloc, most)?;
-    for _ in 0..most {
+    for _ in past.len()..most {
         let left = surplus_of(&state.excess);
-        if left == 0 || is_stalled(&past, left, asked) {
+        if left == 0 || is_stalled(past, left, asked) {
             return Ok(());
         }
         past.push(left)?;

@@ -3,14 +3,17 @@ ghost use Rattle.std.specs.Prelude.{◌<◌, ℕ, OnOk, length, pos, ◌≤ℤ�
 ghost use Rattle.residual_state.specs.Excesses.{excess_of};
 ghost use Rattle.residual_state.specs.States.{IsState, StaysOn};
 
-use crate::levels::{all_levels, first_levels};
+use crate::levels::{MOST_WEIGHTED, all_levels, first_levels};
 use level_engine::{Advice, Halves};
 use residual_state::{State, adopt, surplus_of};
-use simplex_engine::{Position, Solution, seek_solution};
+use simplex_engine::{Position, Solution, seek_cold, seek_solution};
 use std::alloc::{AllocError, Global};
 
 // After so many turns, each of twice as much work, the levels go on alone.
 const TURNS: u32 = 8;
+
+// After so many levels the whole is sought once from where nothing is set off.
+const LEVELS_BEFORE_COLD: usize = 2;
 
 /// Moves excess until no node of the state has any above 0: one level of prices after another, and the rest at once where levels
 /// stall.
@@ -33,20 +36,48 @@ pub fn settle_within(alloc: Global, state: &mut State, turns: u32) -> Result<(),
     ensures rest { OnOk result ((v : ℕ) → v < length state.new.excess.items → excess_of state.new.excess.items v ≤ℤ pos 0) }
 {
     let windows = window_flows(alloc, state)?;
-    let halves = levels_at_first(alloc, state)?;
+    let halves = levels_at_first(alloc, state, &windows, turns)?;
     take_solution(alloc, state, &halves, &windows, turns)?;
     drop(halves);
     levels_to_the_end(alloc, state)
 }
 
 // Goes from one level of prices to the next while they get on. The halves of the arcs; the other lists of the advice make room.
-fn levels_at_first(alloc: Global, state: &mut State) -> Result<Halves, AllocError>
+fn levels_at_first(
+    alloc: Global,
+    state: &mut State,
+    windows: &[u64],
+    turns: u32,
+) -> Result<Halves, AllocError>
     requires { IsState state.old }
     ensures { OnOk result (StaysOn state.old state.new) }
 {
     let mut advice = Advice::new(alloc, &state.edges, state.excess.len())?;
-    first_levels(alloc, state, &mut advice)?;
+    let mut past = Vec::with_capacity(alloc, MOST_WEIGHTED)?;
+    first_levels(alloc, state, &mut advice, &mut past, LEVELS_BEFORE_COLD)?;
+    take_cold(alloc, state, advice.halves(), windows, turns)?;
+    first_levels(alloc, state, &mut advice, &mut past, usize::MAX)?;
     Ok(advice.into_halves())
+}
+
+// Takes a whole solution that is found from where nothing is set off, where any excess is left and there are turns.
+fn take_cold(
+    alloc: Global,
+    state: &mut State,
+    halves: &Halves,
+    windows: &[u64],
+    turns: u32,
+) -> Result<(), AllocError>
+    requires { IsState state.old }
+    ensures { OnOk result (StaysOn state.old state.new) }
+{
+    if turns == 0 || surplus_of(&state.excess) == 0 {
+        return Ok(());
+    }
+    if let Some(Solution { flows, prices }) = found_cold(alloc, state, halves, windows)? {
+        let _ = adopt(alloc, state, flows, prices)?;
+    }
+    Ok(())
 }
 
 // Goes from one level of prices to the next until no node has an excess above 0.
@@ -107,4 +138,21 @@ fn found(
         windows,
     };
     seek_solution(alloc, &position, halves, turns)
+}
+
+// A whole solution, if it is found from where nothing is set off.
+fn found_cold(
+    alloc: Global,
+    state: &State,
+    halves: &Halves,
+    windows: &[u64],
+) -> Result<Option<Solution>, AllocError> {
+    let position = Position {
+        edges: &state.edges,
+        flows: &state.flows,
+        prices: &state.prices,
+        excess: &state.excess,
+        windows,
+    };
+    seek_cold(alloc, &position, halves)
 }

@@ -11,7 +11,7 @@ const RUN: usize = 16;
 // A change of potentials is followed by a look at the arcs around it where they are at most so many halves.
 const AROUND: u64 = 1_024;
 
-// Bad arcs that wait, and how far the round over all runs is.
+// Bad arcs that wait, how far the round over all runs is, and how many arcs were priced in it and looked at besides.
 #[derive(Drop)]
 pub(crate) struct Candidates {
     list: Vec<u32>,
@@ -20,6 +20,8 @@ pub(crate) struct Candidates {
     stride: usize,
     block: usize,
     idle: usize,
+    priced: u64,
+    looked: u64,
     pub(crate) work: u64,
 }
 
@@ -45,6 +47,8 @@ impl Candidates {
             stride: stride_over(runs),
             block: (root_of(arcs) / 8 / RUN).max(1),
             idle: 0,
+            priced: 0,
+            looked: 0,
             work: 0,
         })
     }
@@ -91,9 +95,9 @@ impl Candidates {
             }
         }
         self.idle = self.idle.saturating_add(self.block);
-        self.work = self
-            .work
-            .saturating_add(self.block.wrapping_mul(RUN) as u64);
+        let priced = self.block.wrapping_mul(RUN) as u64;
+        self.priced = self.priced.saturating_add(priced);
+        self.work = self.work.saturating_add(priced);
         worst
     }
 
@@ -139,7 +143,16 @@ impl Candidates {
         self.list.truncate(last);
     }
 
-    // Lists the bad arcs around the nodes that hang at a top, without those at `spared`, where they are few.
+    // At how many halves a look is taken at most: none where it was looked at more than twice what was priced.
+    pub(crate) fn most_around(&self) -> u64 {
+        if self.looked / 2 <= self.priced {
+            AROUND
+        } else {
+            0
+        }
+    }
+
+    // Lists the bad arcs around the nodes that hang at a top, without those at `spared`. So many halves are there.
     pub(crate) fn look(
         &mut self,
         arcs: &mut [Arc],
@@ -149,9 +162,7 @@ impl Candidates {
         spared: u16,
         around: u64,
     ) -> Result<(), AllocError> {
-        if AROUND < around {
-            return Ok(());
-        }
+        self.looked = self.looked.saturating_add(around);
         self.work = self.work.saturating_add(around);
         let mut node = top;
         for _ in 0..u16::MAX {

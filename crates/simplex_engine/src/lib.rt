@@ -20,4 +20,4 @@ mod simplex;
 mod tree;
 mod turns;
 
-pub use turns::{Position, Solution, seek_solution};
+pub use turns::{Position, Solution, seek_cold, seek_solution};

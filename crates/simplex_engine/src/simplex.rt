@@ -20,6 +20,7 @@ pub(crate) struct Simplex {
     excess: Vec<i64>,
     big: i32,
     begun: usize,
+    pivots: u64,
 }
 
 // An arc that enters the tree: the nodes that more is moved from and to over it, its half at the first, how much more and how much
@@ -66,6 +67,7 @@ impl Simplex {
             excess,
             big,
             begun: 0,
+            pivots: 0,
         })
     }
 
@@ -88,6 +90,11 @@ impl Simplex {
             self.pivot(halves, entering)?;
         }
         Ok(false)
+    }
+
+    // Whether the work was no more than so much for each arc that entered.
+    pub(crate) fn is_light(&self, most: u64) -> bool {
+        self.candidates.work <= self.pivots.saturating_mul(most)
     }
 
     // The next arc that enters. None where the work is done.
@@ -187,6 +194,7 @@ impl Simplex {
 
     // Moves what the circle of an arc holds, and lets another leave the tree for it, if it is not the first to hold no more.
     fn pivot(&mut self, halves: &Halves, entering: Entering) -> Result<(), AllocError> {
+        self.pivots = self.pivots.wrapping_add(1);
         let circle = self.tree.circle(entering.from, entering.to, entering.room);
         if 0 < circle.least {
             self.tree
@@ -224,8 +232,21 @@ impl Simplex {
         } else {
             (root, part, by.wrapping_neg())
         };
-        let (nodes, around) = self.tree.change(halves, top, spared, by);
+        let nodes = self.tree.change(top, spared, by);
         self.candidates.work = self.candidates.work.saturating_add(nodes.wrapping_mul(2));
+        self.look(halves, top, spared)
+    }
+
+    // Looks at the arcs around a part, where they are few.
+    fn look(&mut self, halves: &Halves, top: u16, spared: u16) -> Result<(), AllocError> {
+        let most = self.candidates.most_around();
+        if most == 0 {
+            return Ok(());
+        }
+        let around = self.tree.around(halves, top, spared, most);
+        if most < around {
+            return Ok(());
+        }
         self.candidates
             .look(&mut self.arcs, halves, &self.tree, top, spared, around)
     }

@@ -36,6 +36,47 @@ const DRAIN: u64 = 400;
 // The work for each half that the undrained simplex has at first, where there are few.
 const SPARSE: u64 = 700;
 
+// The work for each half that the cold simplex has at first, and what it has more where its work was at most so much for each arc that
+// entered.
+const TRIED: u64 = 4;
+
+const COLD: u64 = 124;
+
+const LIGHT: u64 = 80;
+
+/// A solution from where nothing is set off, if one is found with little work for each arc that enters.
+///
+/// It is sought where there are more than three halves of arcs at a node, and at most six. Nothing is proved of it. An error is want
+/// of memory.
+pub fn seek_cold(
+    alloc: Global,
+    position: &Position,
+    halves: &Halves,
+) -> Result<Option<Solution>, AllocError> {
+    let (many, nodes) = (halves.len() as u64, position.excess.len() as u64);
+    if many / 3 <= nodes || nodes < many / 6 {
+        return Ok(None);
+    }
+    let mut cold = cold_simplex(alloc, position, halves)?;
+    if ends_lightly(&mut cold, position.edges, halves)? {
+        answer(alloc, position.edges, &cold)
+    } else {
+        Ok(None)
+    }
+}
+
+// Whether the cold simplex comes to its end. It does not go on where it is not light.
+fn ends_lightly(cold: &mut Simplex, edges: &[Edge], halves: &Halves) -> Result<bool, AllocError> {
+    let many = halves.len() as u64;
+    if cold.run(edges, halves, many.saturating_mul(TRIED))? {
+        return Ok(true);
+    }
+    if !cold.is_light(LIGHT) {
+        return Ok(false);
+    }
+    cold.run(edges, halves, many.saturating_mul(COLD))
+}
+
 /// A solution, if one is found in so many turns, each of twice as much work as the one before.
 ///
 /// Nothing is proved of it. An error is want of memory.
@@ -101,6 +142,23 @@ fn warm_simplex(
     let flows = Vec::from_slice(alloc, position.flows)?;
     let excess = cents(alloc, position.excess)?;
     Simplex::new(alloc, position.edges, halves, flows, prices, excess)
+}
+
+// A simplex that starts where nothing is set off, and no balance changes.
+fn cold_simplex(
+    alloc: Global,
+    position: &Position,
+    halves: &Halves,
+) -> Result<Simplex, AllocError> {
+    let nodes = position.excess.len();
+    let claims = position.flows.len().saturating_sub(position.windows.len());
+    let mut flows = vec![in alloc; 0u64; claims]?;
+    for &flow in position.windows {
+        flows.push(flow)?;
+    }
+    let prices = vec![in alloc; 0i32; nodes]?;
+    let excess = vec![in alloc; 0i64; nodes]?;
+    Simplex::new(alloc, position.edges, halves, flows, &prices, excess)
 }
 
 // A simplex that starts from the position after the rest of the excess was drained.
