@@ -11,3 +11,4 @@ pub mod RunCauses
 pub mod ComesWhere
 pub mod ComesOnly
 mod Tied
+mod Histories

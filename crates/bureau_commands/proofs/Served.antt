@@ -1,5 +1,5 @@
 -- A run over a desk.
-use Rattle.std.specs.Prelude.{Option, None, Some, IsTrue, drop, filter, map, take}
+use Rattle.std.specs.Prelude.{Option, IsTrue, drop, map, take}
 use Rattle.std.proofs.Common.{◌≡◌, ◌∙◌, inr, ℕ, ◌≤◌, Bool, true, List, All, [], ◌∷◌, ◌++◌, length, refl, sym, ap, subst, true≢false, arith, append_assoc, length-append}
 use Rattle.std.proofs.lemmas.List.{append-nil}
 use Rattle.std.proofs.lemmas.List.Elements.{All-head, All-tail, All-weaker, filter_passes}
@@ -183,6 +183,7 @@ module _ {D : Type 0} (seen : D → Seen) (old : D) (first last : DeskView D) (o
     legal = keeps.legal;
     within = keeps.within;
     valid = keeps.valid;
+    keepable = keeps.keepable;
     between = between;
     served = served;
     none_full = none_full_of opening.records first.history batches status done all (All-first (λ (m : PoolEntry). is_keepable (call_of m) ≡ true) first.history (all_added done) (subst CanBeKept parts keeps.keepable)) opening.history served (subst IsLegal parts keeps.legal) (subst AreValid parts keeps.valid) asked;

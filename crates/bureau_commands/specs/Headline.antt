@@ -11,7 +11,7 @@ use Rattle.round_journal.specs.declared.record.Record.{Record}
 use Rattle.round_journal.specs.Opened.{AreFound}
 use Rattle.journal_replay.specs.Replays.{history_of, AreSound}
 use Rattle.recorded_book.specs.Acting.{IsOpenedHistory}
-use Rattle.recorded_book.specs.Calls.{HoldsFirst, StandsForLeft}
+use Rattle.recorded_book.specs.Calls.{CanBeKept, HoldsFirst, StandsForLeft}
 use Rattle.bureau_desk.specs.Opening.{HasDeskOpened, HasDeskTurned, SparesUnsound}
 use Rattle.recorded_book.specs.Devices.{AreBetween}
 use Rattle.recorded_book.specs.Moments.{HasMoments}
@@ -67,8 +67,8 @@ pub record SurvivesCrashes {D : Type 0} (seen : D → Seen) (old new : D) (opene
 
 -- A run that served batches, and the status and the text that are due. Its parts: the history; what is written, and what the sink
 -- took of it at least; what the disk reads at the end, which stands for the accepted calls, perhaps followed by one whose write
--- failed, and so for sound records; that the history is legal and within the limits, its acts are valid, and the counts of its
--- devices lie between those of the disk; the calls of each lane; that within the bound no line is full; the rounds; crashes; and
+-- failed, and so for sound records; that the history is legal and within the limits, its acts are valid, its calls can be kept in a
+-- journal, and the counts of its devices lie between those of the disk; the calls of each lane; that within the bound no line is full; the rounds; crashes; and
 -- what a run leaves that failed to write the lines of the abandonments.
 pub record IsHeadline {D : Type 0} (seen : D → Seen) (Taken : List ℕ → Type 0) (old new : D) (batches : List (List Request))
     (status : ExitStatus) (text : List ℕ) : Type 0 where
@@ -85,6 +85,7 @@ pub record IsHeadline {D : Type 0} (seen : D → Seen) (Taken : List ℕ → Typ
   pub legal : IsLegal history
   pub within : IsWithinLimits history
   pub valid : AreValid history
+  pub keepable : CanBeKept history
   pub between : AreBetween (seen old).count (seen new).count history
   pub served : AreServed begun done
   pub none_full : HasRoomForAll is_history.records (requests_of batches) → some_end is_full_end done ≡ false

@@ -1,11 +1,16 @@
--- What the promise of a run comes to: of each moment after a crash, and of the next call.
-use Rattle.std.specs.Prelude.{◌<◌, ◌≤◌, ℕ, List}
+-- What the promise of a run comes to: of each moment after a crash, of the next call, and of what `history` prints later.
+use Rattle.std.specs.Prelude.{◌≡◌, ◌<◌, ◌≤◌, ℕ, true, List, [], All, Option, None, IsTrue}
 use Rattle.disk_model.specs.Calls.{Seen, IsPresent}
 use Rattle.claim_history.specs.declared.call.PoolEntry.{PoolEntry}
+use Rattle.claim_history.specs.History.{is_accepted}
+use Rattle.request_text.specs.declared.request.Request.{Request}
 use Rattle.printed_text.specs.declared.exit_status.ExitStatus.{ExitStatus}
-use Rattle.bureau_desk.specs.Opening.{HoldsOpened}
+use Rattle.printed_text.specs.Printing.{ends_text}
+use Rattle.history_text.specs.Histories.{history_text}
+use Rattle.batch_runs.specs.Runs.{Done, HasTaken, all_added}
+use Rattle.bureau_desk.specs.Opening.{HasViewed, HoldsOpened}
 use Rattle.bureau_commands.specs.Journals.{HasAuditFault, HoldsSound}
-use Rattle.bureau_commands.specs.Headline.{SurvivesCrashes}
+use Rattle.bureau_commands.specs.Headline.{IsHeadline, SurvivesCrashes}
 use Rattle.bureau_commands.specs.Causes.{HoldsUnsound}
 
 -- The disk that comes back is tied to the one that was handed in: the images of the start are as they were, and none between it and
@@ -33,3 +38,16 @@ pub record HasNoFault (disk : Seen) : Type 0 where
 -- so it is of a disk that holds sound records, as a run leaves it
 abbrev pub NextLaw : {D : Type 0} → (D → Seen) → Type 0
 NextLaw {D} seen = (disk : D) → HoldsSound (seen disk) → HasNoFault (seen disk)
+
+-- each member that batches added is accepted, and each of their lines was replied to
+pub record AreAllAccepted (done : List Done) : Type 0 where
+  pub accepted : All (λ m. is_accepted m.entry ≡ true) (all_added done)
+  pub replied : All (λ b. ends_text b.answers ≡ []) done
+
+-- What a run prints that begins with no history, and in which all is so, is what `history` prints of the disk that the run leaves. It
+-- is so whatever the batches, and in whichever order their lanes were served.
+abbrev pub HistoryLaw : {D : Type 0} → (D → Seen) → Type 0
+HistoryLaw {D} seen = (held_old held_new : Option (List ℕ)) (old new : D) (batches : List (List Request)) (status : ExitStatus)
+    (text : List ℕ) (ran : IsHeadline seen (HasTaken held_old held_new) old new batches status text) → IsTrue (seen old).tells
+    → ran.opened ≡ [] → AreAllAccepted ran.done → (history : List PoolEntry) → HasViewed (seen new).tells (seen new).reads history
+    → history_text None history ≡ text

@@ -1,5 +1,5 @@
 //! What the promise of a run comes to. Each of these calls does nothing.
-ghost use Rattle.bureau_commands.specs.Laws.{CrashLaw, NextLaw};
+ghost use Rattle.bureau_commands.specs.Laws.{CrashLaw, HistoryLaw, NextLaw};
 
 use disk_model::Disk;
 
@@ -13,4 +13,10 @@ pub fn crashes_are_told_of_the_disk<D: Disk>()
 /// Of a disk that holds sound records, as a run that opened it leaves it, an audit says yes, and no later call ends with status 8.
 pub fn sound_journals_have_no_fault<D: Disk>()
     ensures { NextLaw D.seen }
+{}
+
+/// What a run prints that begins with no history, and in which each line is replied to and accepted, is what `history` prints
+/// afterwards of the disk that comes back.
+pub fn runs_print_their_history<D: Disk>()
+    ensures { HistoryLaw D.seen }
 {}

@@ -1,6 +1,6 @@
 -- What is told of a disk that was read.
-use Rattle.std.specs.Prelude.{Option}
-use Rattle.std.proofs.Common.{◌≡◌, ◌∙◌, ◌⊎◌, ⊎_elim, inl, inr, ℕ, ◌≤◌, Bool, false, List, [], ◌∷◌, refl, subst, sym, true≢false, arith}
+use Rattle.std.specs.Prelude.{Option, if◌then◌else◌}
+use Rattle.std.proofs.Common.{◌≡◌, ◌∙◌, ◌⊎◌, ⊎_elim, inl, inr, ℕ, ◌≤◌, Bool, true, false, List, [], ◌∷◌, refl, subst, sym, true≢false, arith}
 use Rattle.fault_count.specs.Counts.{HasRisen}
 use Rattle.claim_history.specs.declared.call.PoolEntry.{PoolEntry}
 use Rattle.claim_history.specs.declared.entry.Reply.{Reply}
@@ -17,7 +17,10 @@ use Rattle.printed_text.specs.Writing.{Wrote}
 use Rattle.bureau_reports.specs.DiskTexts.{IsTellable, opening_status, unsound_status}
 use Rattle.command_words.specs.declared.journal_report.JournalReport.{JournalReport}
 use Rattle.command_words.specs.declared.journal_report.JournalReport.TheVariants as journals
-use Rattle.bureau_reports.specs.Journals.{IsBookDue, IsJournalDue, journal_statuses, made, no_text_memory, no_view_memory, unviewed_status, unviewed, viewed}
+use Rattle.bureau_reports.specs.Journals.{IsBookDue, IsJournalDue, begun, broken_off, journal_statuses, made, no_text_memory, no_view_memory, report_status, unviewed_status, unviewed, viewed}
+use Rattle.command_words.specs.Words.{pool_of}
+use Rattle.history_text.specs.Histories.{was_published}
+use Rattle.printed_text.proofs.Statuses.{other_than}
 use Rattle.bureau_reports.proofs.Written.{told_status, wrote_among}
 
 -- a refusal has no amount
@@ -71,6 +74,8 @@ unviewed_among journals.Audit cause = unsound_among cause
 unviewed_among (journals.Positions pool) cause = inr (opening_among cause)
 unviewed_among (journals.Notices today pool) cause = inr (opening_among cause)
 unviewed_among (journals.Weigh kind today) cause = inr (opening_among cause)
+unviewed_among (journals.History pool) cause = inr (opening_among cause)
+unviewed_among (journals.Statement round pool) cause = inr (opening_among cause)
 
 -- where one tells of a device, the disk's count rose
 device_rose : (low high before after : ℕ) → (before ≡ low) × (after ≡ high) × HasRisen before after → HasRisen low high
@@ -90,6 +95,21 @@ unviewed_rose journals.Audit tells bytes low high cause h disk = view_rose tells
 unviewed_rose (journals.Positions pool) tells bytes low high cause h disk = view_rose tells bytes low high cause h (inl disk)
 unviewed_rose (journals.Notices today pool) tells bytes low high cause h disk = view_rose tells bytes low high cause h (inl disk)
 unviewed_rose (journals.Weigh kind today) tells bytes low high cause h disk = view_rose tells bytes low high cause h (inl disk)
+unviewed_rose (journals.History pool) tells bytes low high cause h disk = view_rose tells bytes low high cause h (inl disk)
+unviewed_rose (journals.Statement round pool) tells bytes low high cause h disk = view_rose tells bytes low high cause h (inl disk)
+
+-- where a history is told, the status is one of two
+round_among : (published : Bool) → IsOneOf (statuses.Done ∷ statuses.No ∷ []) (if published then statuses.Done else statuses.No)
+round_among true = inl refl
+round_among false = inr (inl refl)
+
+pub told_among : (report : JournalReport) (history : List PoolEntry) → IsOneOf (statuses.Done ∷ statuses.No ∷ []) (report_status report history)
+told_among journals.Audit history = inl refl
+told_among (journals.Positions pool) history = inl refl
+told_among (journals.Notices today pool) history = inl refl
+told_among (journals.Weigh kind today) history = inl refl
+told_among (journals.History pool) history = inl refl
+told_among (journals.Statement round pool) history = round_among (was_published round (pool_of (journals.Statement round pool)) history)
 
 -- ---- books
 
@@ -97,6 +117,7 @@ unviewed_rose (journals.Weigh kind today) tells bytes low high cause h disk = vi
 pub book_due : (report : JournalReport) (tells : Bool) (bytes : List ℕ) (low high : ℕ) (history : List PoolEntry) → HasViewed tells bytes history → (status : ExitStatus) (text : List ℕ)
     → IsBookDue report history status text → IsJournalDue report tells bytes low high status text
 book_due report tells bytes low high history has status text no_text_memory = no_view_memory
+book_due report tells bytes low high history has status text (broken_off printed is) = begun history has printed is
 book_due report tells bytes low high history has status text (made t is) = viewed history has t is
 
 -- ---- what is due
@@ -107,12 +128,14 @@ module _ (report : JournalReport) (tells : Bool) (bytes : List ℕ) (low high : 
 
   due_among : (status : ExitStatus) (text : List ℕ) → IsJournalDue report tells bytes low high status text → IsOneOf dues status
   due_among status text no_view_memory = inr (inr (inr (inr (inl refl))))
-  due_among status text (viewed history has t is) = inl refl
+  due_among status text (viewed history has t is) = ⊎_elim (λ one. inl one) (λ other. inr (⊎_elim (λ no. inl no) (λ none. absurd none) other)) (told_among report history)
+  due_among status text (begun history has printed is) = inr (inr (inr (inr (inl refl))))
   due_among status text (unviewed cause has) = inr (unviewed_among report cause)
 
   pub due_rose : (status : ExitStatus) (text : List ℕ) → IsJournalDue report tells bytes low high status text → status ≡ statuses.Disk → HasRisen low high
   due_rose status text no_view_memory disk = cc
-  due_rose status text (viewed history has t is) disk = cc
+  due_rose status text (viewed history has t is) disk = absurd (other_than statuses.Disk (statuses.Done ∷ statuses.No ∷ []) (report_status report history) refl disk (told_among report history))
+  due_rose status text (begun history has printed is) disk = cc
   due_rose status text (unviewed cause has) disk = unviewed_rose report tells bytes low high cause has disk
 
   pub journal_among : (x y : Option (List ℕ)) (status : ExitStatus) → Wrote (IsJournalDue report tells bytes low high) x y status → IsOneOf journal_statuses status

@@ -1,5 +1,5 @@
 -- Which status and which text a report on a journal comes to.
-use Rattle.std.specs.Prelude.{◌≡◌, Bool, ℕ, List, [], ◌∷◌}
+use Rattle.std.specs.Prelude.{◌≡◌, Bool, ℕ, List, [], ◌∷◌, ◌++◌}
 use Rattle.claim_history.specs.declared.call.PoolEntry.{PoolEntry}
 use Rattle.claim_history.specs.Facts.{Ledger}
 use Rattle.claim_history.specs.Pools.{ledger_in}
@@ -11,6 +11,7 @@ use Rattle.printed_text.specs.declared.exit_status.ExitStatus.{ExitStatus}
 use Rattle.printed_text.specs.declared.exit_status.ExitStatus.TheVariants as statuses
 use Rattle.printed_text.specs.Texts.{memory_text}
 use Rattle.weighed_round.specs.Weighed.{IsWeighedText}
+use Rattle.history_text.specs.Histories.{IsRoundText, history_text, round_status}
 use Rattle.command_words.specs.declared.journal_report.JournalReport.{JournalReport}
 use Rattle.command_words.specs.declared.journal_report.JournalReport.TheVariants as journals
 use Rattle.command_words.specs.Words.{pool_of}
@@ -20,17 +21,40 @@ use Rattle.bureau_reports.specs.DiskTexts.{opening_status, opening_text, sound_t
 abbrev pub ledger_told : JournalReport → List PoolEntry → Ledger
 ledger_told report history = ledger_in history (pool_of report)
 
--- what the report tells of the history that a journal holds: an audit of all pools, the others of one
+-- what the report tells of the history that a journal holds: an audit, and a history without a pool, of all pools, the others of one
 abbrev pub IsTextOf : JournalReport → List PoolEntry → List ℕ → Type 0
 IsTextOf journals.Audit history text = text ≡ sound_text history
 IsTextOf (journals.Positions pool) history text = text ≡ positions_text (ledger_told (journals.Positions pool) history)
 IsTextOf (journals.Notices today pool) history text = text ≡ notices_text today (ledger_told (journals.Notices today pool) history)
 IsTextOf (journals.Weigh kind today) history text = IsWeighedText kind today (ledger_told (journals.Weigh kind today) history) text
+IsTextOf (journals.History pool) history text = text ≡ history_text pool history
+IsTextOf (journals.Statement round pool) history text = IsRoundText round (pool_of (journals.Statement round pool)) history text
 
--- this, or there was no memory for it
+-- the status of that: `No` of a statement where no such round was published
+abbrev pub report_status : JournalReport → List PoolEntry → ExitStatus
+report_status journals.Audit history = statuses.Done
+report_status (journals.Positions pool) history = statuses.Done
+report_status (journals.Notices today pool) history = statuses.Done
+report_status (journals.Weigh kind today) history = statuses.Done
+report_status (journals.History pool) history = statuses.Done
+report_status (journals.Statement round pool) history = round_status round (pool_of (journals.Statement round pool)) history
+
+-- the report makes its text whole before it is printed
+abbrev pub IsMade : JournalReport → Type 0
+IsMade (journals.History pool) = ⊥
+IsMade (journals.Statement round pool) = ⊥
+IsMade _ = Unit {0}
+
+-- some first bytes of the text of a report that is printed as it is made, which that of a history is alone
+abbrev pub IsBegun : JournalReport → List PoolEntry → List ℕ → Type 0
+IsBegun (journals.History pool) history printed = (rest : List ℕ) × (history_text pool history ≡ printed ++ rest)
+IsBegun _ history printed = ⊥
+
+-- this, or there was no memory for it, or for the rest of it
 pub data IsBookDue (report : JournalReport) (history : List PoolEntry) : ExitStatus → List ℕ → Type 0 where
   no_text_memory : IsBookDue report history statuses.Memory memory_text
-  made : (text : List ℕ) → IsTextOf report history text → IsBookDue report history statuses.Done text
+  broken_off : (printed : List ℕ) → IsBegun report history printed → IsBookDue report history statuses.Memory (printed ++ memory_text)
+  made : (text : List ℕ) → IsTextOf report history text → IsBookDue report history (report_status report history) text
 
 -- the status and the text where there are no books: an audit tells the act that is refused or full, the others a fault of the journal
 abbrev pub unviewed_status : JournalReport → DeskCause → ExitStatus
@@ -38,19 +62,25 @@ unviewed_status journals.Audit cause = unsound_status cause
 unviewed_status (journals.Positions pool) cause = opening_status cause
 unviewed_status (journals.Notices today pool) cause = opening_status cause
 unviewed_status (journals.Weigh kind today) cause = opening_status cause
+unviewed_status (journals.History pool) cause = opening_status cause
+unviewed_status (journals.Statement round pool) cause = opening_status cause
 
 abbrev pub unviewed_text : JournalReport → DeskCause → List ℕ
 unviewed_text journals.Audit cause = unsound_text cause
 unviewed_text (journals.Positions pool) cause = opening_text cause
 unviewed_text (journals.Notices today pool) cause = opening_text cause
 unviewed_text (journals.Weigh kind today) cause = opening_text cause
+unviewed_text (journals.History pool) cause = opening_text cause
+unviewed_text (journals.Statement round pool) cause = opening_text cause
 
 -- Of a disk that is told to have these bytes, and whose counts were these before and after: there was no memory; the journal was
--- replayed, and this is told of its history; or why there are no books.
+-- replayed, and this is told of its history, or as much as there was memory for; or why there are no books.
 pub data IsJournalDue (report : JournalReport) (tells : Bool) (bytes : List ℕ) (low high : ℕ) : ExitStatus → List ℕ → Type 0 where
   no_view_memory : IsJournalDue report tells bytes low high statuses.Memory memory_text
   viewed : (history : List PoolEntry) → HasViewed tells bytes history → (text : List ℕ) → IsTextOf report history text
-      → IsJournalDue report tells bytes low high statuses.Done text
+      → IsJournalDue report tells bytes low high (report_status report history) text
+  begun : (history : List PoolEntry) → HasViewed tells bytes history → (printed : List ℕ) → IsBegun report history printed
+      → IsJournalDue report tells bytes low high statuses.Memory (printed ++ memory_text)
   unviewed : (cause : DeskCause) → HasViewCause tells bytes low high cause
       → IsJournalDue report tells bytes low high (unviewed_status report cause) (unviewed_text report cause)
 

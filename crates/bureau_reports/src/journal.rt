@@ -1,12 +1,13 @@
 //! Reports on a journal.
-ghost use Rattle.std.specs.Prelude.{◌≡◌, ◌≢◌, ◌≤◌, [], IfOk, vec_capacity};
+ghost use Rattle.std.specs.Prelude.{◌≡◌, ◌≢◌, ◌≤◌, [], IfOk, vec_len, vec_capacity};
 ghost use Rattle.fault_count.specs.Counts.{HasRisen};
 ghost use Rattle.round_journal.specs.Opened.{IsQuiet};
 ghost use Rattle.printed_text.specs.declared.exit_status.ExitStatus.TheVariants as statuses;
 ghost use Rattle.printed_text.specs.Statuses.{IsOneOf};
 ghost use Rattle.printed_text.specs.Writing.{Wrote};
+ghost use Rattle.setoff_model.specs.declared.limits.TheConstants.{OUTPUT_BYTES};
 ghost use Rattle.bureau_reports.specs.DiskTexts.{IsTellable, sound_text};
-ghost use Rattle.bureau_reports.specs.Journals.{IsBookDue, IsJournalDue, IsTextOf, journal_statuses, unviewed_status, unviewed_text};
+ghost use Rattle.bureau_reports.specs.Journals.{IsBookDue, IsJournalDue, IsMade, IsTextOf, journal_statuses, unviewed_status, unviewed_text};
 
 use crate::fault_line::{status_of_opening, write_opening_fault};
 use crate::sound_line::{status_of_unsound, write_sound, write_unsound};
@@ -16,7 +17,8 @@ use claim_book::Books;
 use command_words::JournalReport;
 use disk_model::Disk;
 use firm_notices::{notices, positions};
-use printed_text::{ExitStatus, end_with, tell_no_memory};
+use history_text::{print_history, print_round};
+use printed_text::{ExitStatus, end_with, output_buffer, tell_no_memory};
 use setoff_model::limits::LINE_BYTES;
 use std::alloc::{AllocError, Global};
 use weighed_round::weigh;
@@ -30,8 +32,9 @@ fn sound_line(alloc: Global, books: &Books) -> Result<Vec<u8>, AllocError>
     Ok(line)
 }
 
-// What a report tells of the books of all pools.
+// What a report tells of the books of all pools that makes its text.
 fn text_of(alloc: Global, report: &JournalReport, books: &Books) -> Result<Vec<u8>, AllocError>
+    requires { IsMade report.now }
     ensures { IfOk result (λ text. IsTextOf report.now books.now.members text.items) }
 {
     let book = books.book(&report.pool());
@@ -40,6 +43,8 @@ fn text_of(alloc: Global, report: &JournalReport, books: &Books) -> Result<Vec<u
         JournalReport::Positions { .. } => positions(alloc, book),
         JournalReport::Notices { today, .. } => notices(alloc, book, *today),
         JournalReport::Weigh { kind, today } => weigh(alloc, book, *kind, *today),
+        JournalReport::History { .. } => unreachable!(),
+        JournalReport::Statement { .. } => unreachable!(),
     }
 }
 
@@ -55,6 +60,8 @@ fn write_unviewed(buffer: &mut Vec<u8>, report: &JournalReport, cause: DeskCause
         JournalReport::Positions { .. } => write_opening_fault(buffer, cause),
         JournalReport::Notices { .. } => write_opening_fault(buffer, cause),
         JournalReport::Weigh { .. } => write_opening_fault(buffer, cause),
+        JournalReport::History { .. } => write_opening_fault(buffer, cause),
+        JournalReport::Statement { .. } => write_opening_fault(buffer, cause),
     }
 }
 
@@ -67,17 +74,20 @@ fn status_of_unviewed(report: &JournalReport, cause: DeskCause) -> ExitStatus
         JournalReport::Positions { .. } => status_of_opening(cause),
         JournalReport::Notices { .. } => status_of_opening(cause),
         JournalReport::Weigh { .. } => status_of_opening(cause),
+        JournalReport::History { .. } => status_of_opening(cause),
+        JournalReport::Statement { .. } => status_of_opening(cause),
     }
 }
 
-// Prints what the report tells of the books, or that there was no memory for it.
+// Prints a text that the report makes of the books, or that there was no memory for it.
 #[tactic(none)]
-fn print_books<K: Sink>(
+fn print_made<K: Sink>(
     alloc: Global,
     report: &JournalReport,
     books: &Books,
     sink: &mut K,
 ) -> ExitStatus
+    requires { IsMade report.now }
     ensures wrote { Wrote (IsBookDue report.now books.now.members) (K.held sink.old) (K.held sink.new) result }
     ensures write_fault { result ≡ statuses.Sink → HasRisen (K.faults sink.old) (K.faults sink.new) }
 {
@@ -87,9 +97,36 @@ fn print_books<K: Sink>(
     }
 }
 
+// Prints what the report tells of the books of all pools.
+#[tactic(none)]
+fn print_books<K: Sink>(
+    alloc: Global,
+    report: &JournalReport,
+    books: &Books,
+    sink: &mut K,
+    buffer: &mut Vec<u8>,
+) -> ExitStatus
+    requires empty { buffer.old.items ≡ [] }
+    requires len { vec_len buffer.old ≡ 0 }
+    requires spare { OUTPUT_BYTES ≤ vec_capacity buffer.old }
+    ensures wrote { Wrote (IsBookDue report.now books.now.members) (K.held sink.old) (K.held sink.new) result }
+    ensures write_fault { result ≡ statuses.Sink → HasRisen (K.faults sink.old) (K.faults sink.new) }
+{
+    match report {
+        JournalReport::Audit => print_made(alloc, report, books, sink),
+        JournalReport::Positions { .. } => print_made(alloc, report, books, sink),
+        JournalReport::Notices { .. } => print_made(alloc, report, books, sink),
+        JournalReport::Weigh { .. } => print_made(alloc, report, books, sink),
+        JournalReport::History { pool } => print_history(alloc, sink, buffer, books, pool),
+        JournalReport::Statement { round, .. } => {
+            print_round(alloc, sink, buffer, books, report.pool(), *round)
+        }
+    }
+}
+
 /// Replays the journal of a disk, and prints the report on it. It writes nothing to the disk. Gives the status: `Done`; `No` where
-/// an audit finds an act that is refused or full; `Disk`, `Unsound` or `Memory` where the disk was not read or holds no sound journal;
-/// `Sink` where the sink failed.
+/// an audit finds an act that is refused or full, or where no round has the number of a statement; `Disk`, `Unsound` or `Memory` where
+/// the disk was not read or holds no sound journal; `Sink` where the sink failed.
 #[tactic(none)]
 pub fn report_journal<K: Sink, D: Disk>(
     alloc: Global,
@@ -106,12 +143,12 @@ pub fn report_journal<K: Sink, D: Disk>(
     ensures write_fault { result ≡ statuses.Sink → HasRisen (K.faults sink.old) (K.faults sink.new) }
     ensures disk_fault { result ≡ statuses.Disk → HasRisen (D.seen disk.old).count (D.seen disk.new).count }
 {
-    let Ok(mut buffer) = Vec::with_capacity(alloc, LINE_BYTES) else {
+    let Ok(mut buffer) = output_buffer(alloc) else {
         return tell_no_memory(sink);
     };
     match Desk::view(alloc, disk) {
         Ok(books) => {
-            let status = print_books(alloc, &report, &books, sink);
+            let status = print_books(alloc, &report, &books, sink, &mut buffer);
             drop(books);
             status
         }

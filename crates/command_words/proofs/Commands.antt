@@ -18,7 +18,7 @@ use Rattle.command_words.specs.declared.journal_report.JournalReport.TheVariants
 use Rattle.command_words.specs.Program.{program}
 use Rattle.command_words.specs.Words.{AreNoWords, AreWordsOf, IsCommand, IsPool, OneCommandLaw, name_of, pool_values, values_of, words_of}
 use Rattle.command_words.specs.Reading.{IsFoundIn, IsGiven, is_option}
-use Rattle.command_words.proofs.Walks.{IsEntered, IsPlain, IsPlainPool, audit_entered, check_entered, explain_entered, first_is, found_is, import_entered, import_rest, import_taken, import_values, known_name, name_and, name_and_day, name_and_three, name_and_two, no_words, notices_entered, notices_rest, notices_taken, notices_values, or_false, plain_of, plain_rest, plain_taken, positions_entered, positions_rest, positions_taken, positions_values, run_entered, sub_is, trial_entered, trial_rest, trial_taken, trial_values, weigh_entered, weigh_rest, weigh_taken, weigh_values}
+use Rattle.command_words.proofs.Walks.{IsEntered, IsPlain, IsPlainPool, audit_entered, check_entered, explain_entered, first_is, found_is, history_entered, history_rest, history_taken, history_values, import_entered, import_rest, import_taken, import_values, known_name, name_and, name_and_pool, name_and_three, name_and_two, no_words, notices_entered, notices_rest, notices_taken, notices_values, or_false, plain_of, plain_rest, plain_taken, positions_entered, positions_rest, positions_taken, positions_values, run_entered, statement_entered, statement_rest, statement_taken, statement_values, sub_is, trial_entered, trial_rest, trial_taken, trial_values, weigh_entered, weigh_rest, weigh_taken, weigh_values}
 
 -- ---- texts of values
 
@@ -114,6 +114,14 @@ of_words days (commands.OnJournal (journals.Weigh j x)) (commands.OnJournal (jou
     let b = days x y p q (same_value (commands.OnJournal (journals.Weigh j x)) (commands.OnJournal (journals.Weigh k y)) 2 e) in
     rw (a, b) refl
 of_words days (commands.OnJournal (journals.Weigh j x)) d p q e = grind (arith, same_name (commands.OnJournal (journals.Weigh j x)) d e)
+of_words days (commands.OnJournal (journals.History x)) (commands.OnJournal (journals.History y)) p q e =
+    ap (λ (pool : Option Text). commands.OnJournal (journals.History pool)) (pool_is x y (ap tail_of e))
+of_words days (commands.OnJournal (journals.History x)) d p q e = grind (arith, same_name (commands.OnJournal (journals.History x)) d e)
+of_words days (commands.OnJournal (journals.Statement x u)) (commands.OnJournal (journals.Statement y v)) p q e =
+    let a = same_number x y (omega (arith, p.1)) (omega (arith, q.1)) (same_value (commands.OnJournal (journals.Statement x u)) (commands.OnJournal (journals.Statement y v)) 1 e) in
+    let b = pool_is u v (ap (λ (ws : List Text). tail_of (tail_of ws)) e) in
+    rw (a, b) refl
+of_words days (commands.OnJournal (journals.Statement x u)) d p q e = grind (arith, same_name (commands.OnJournal (journals.Statement x u)) d e)
 of_words days (commands.Trial x y z) (commands.Trial u v w) p q e =
     let a = same_number x u (omega (arith, p.1)) (omega (arith, q.1)) (same_value (commands.Trial x y z) (commands.Trial u v w) 1 e) in
     let b = same_number y v (omega (arith, p.3)) (omega (arith, q.3)) (same_value (commands.Trial x y z) (commands.Trial u v w) 2 e) in
@@ -136,6 +144,8 @@ words_plain (commands.OnJournal (journals.Positions pool)) p = pool_plain pool p
 words_plain (commands.OnJournal (journals.Notices d pool)) p = rw (day_plain d) (pool_plain pool p.1)
 words_plain (commands.OnInput (inputs.Import n)) p = rw (decimal_plain n (omega (arith, p.1))) refl
 words_plain (commands.OnJournal (journals.Weigh k d)) p = rw (kind_plain k, day_plain d) refl
+words_plain (commands.OnJournal (journals.History pool)) p = pool_plain pool p
+words_plain (commands.OnJournal (journals.Statement n pool)) p = rw (decimal_plain n (omega (arith, p.1))) (pool_plain pool p.2)
 words_plain (commands.Trial x y z) p = rw (decimal_plain x (omega (arith, p.1)), decimal_plain y (omega (arith, p.3)), decimal_plain z (omega (arith, p.4))) refl
 
 -- `clap` takes the words of a command
@@ -148,6 +158,8 @@ words_taken (commands.OnJournal (journals.Positions pool)) p = positions_taken p
 words_taken (commands.OnJournal (journals.Notices d pool)) p = notices_taken _ pool (plain_of _ (day_plain d)) (pool_word pool p.1)
 words_taken (commands.OnInput (inputs.Import n)) p = import_taken _ (plain_of _ (decimal_plain n (omega (arith, p.1))))
 words_taken (commands.OnJournal (journals.Weigh k d)) p = weigh_taken _ _ (plain_of _ (kind_plain k)) (plain_of _ (day_plain d))
+words_taken (commands.OnJournal (journals.History pool)) p = history_taken pool (pool_word pool p)
+words_taken (commands.OnJournal (journals.Statement n pool)) p = statement_taken _ pool (plain_of _ (decimal_plain n (omega (arith, p.1)))) (pool_word pool p.2)
 words_taken (commands.Trial x y z) p = trial_taken _ _ _ (plain_of _ (decimal_plain x (omega (arith, p.1)))) (plain_of _ (decimal_plain y (omega (arith, p.3)))) (plain_of _ (decimal_plain z (omega (arith, p.4))))
 
 -- ---- what is found of the words of a command
@@ -167,7 +179,7 @@ words_name (commands.OnJournal (journals.Positions pool)) p found rows e =
     let is = found_is (name_and (codes "POOL")) (words_of (commands.OnJournal (journals.Positions pool))) _ (positions_values pool (pool_word pool p)) found rows e in
     (ap (λ (q : Text × Option Text). q.0) is, ap (λ (q : Text × Option Text). q.1) is)
 words_name (commands.OnJournal (journals.Notices d pool)) p found rows e =
-    let is = found_is name_and_day (words_of (commands.OnJournal (journals.Notices d pool))) _
+    let is = found_is (name_and_pool (codes "DATE")) (words_of (commands.OnJournal (journals.Notices d pool))) _
     (notices_values (day_text d) pool (day_word d) (pool_word pool p.1)) found rows e in (
       ap (λ (q : Text × Option Text × Option Text). q.0) is,
       (ap (λ (q : Text × Option Text × Option Text). q.1) is, ap (λ (q : Text × Option Text × Option Text). q.2) is),
@@ -177,6 +189,15 @@ words_name (commands.OnInput (inputs.Import n)) p found rows e =
     (ap (λ (q : Text × Option Text). q.0) is, ap (λ (q : Text × Option Text). q.1) is)
 words_name (commands.OnJournal (journals.Weigh k d)) p found rows e =
     let is = found_is name_and_two (words_of (commands.OnJournal (journals.Weigh k d))) _ (weigh_values (kind_text k) (day_text d) (plain_of _ (kind_plain k)) (day_word d)) found rows e in (
+      ap (λ (q : Text × Option Text × Option Text). q.0) is,
+      (ap (λ (q : Text × Option Text × Option Text). q.1) is, ap (λ (q : Text × Option Text × Option Text). q.2) is),
+    )
+words_name (commands.OnJournal (journals.History pool)) p found rows e =
+    let is = found_is (name_and (codes "POOL")) (words_of (commands.OnJournal (journals.History pool))) _ (history_values pool (pool_word pool p)) found rows e in
+    (ap (λ (q : Text × Option Text). q.0) is, ap (λ (q : Text × Option Text). q.1) is)
+words_name (commands.OnJournal (journals.Statement n pool)) p found rows e =
+    let is = found_is (name_and_pool (codes "ROUND")) (words_of (commands.OnJournal (journals.Statement n pool))) _
+    (statement_values (decimal n) pool (number_word n (omega (arith, p.1))) (pool_word pool p.2)) found rows e in (
       ap (λ (q : Text × Option Text × Option Text). q.0) is,
       (ap (λ (q : Text × Option Text × Option Text). q.1) is, ap (λ (q : Text × Option Text × Option Text). q.2) is),
     )
@@ -198,6 +219,8 @@ words_named (commands.OnJournal (journals.Positions pool)) e = not_found _ _ pos
 words_named (commands.OnJournal (journals.Notices d pool)) e = not_found _ _ notices_entered (day_text d ∷ pool_values pool) e
 words_named (commands.OnInput (inputs.Import n)) e = not_found _ _ import_entered (decimal n ∷ []) e
 words_named (commands.OnJournal (journals.Weigh k d)) e = not_found _ _ weigh_entered (kind_text k ∷ day_text d ∷ []) e
+words_named (commands.OnJournal (journals.History pool)) e = not_found _ _ history_entered (pool_values pool) e
+words_named (commands.OnJournal (journals.Statement n pool)) e = not_found _ _ statement_entered (decimal n ∷ pool_values pool) e
 words_named (commands.Trial x y z) e = not_found _ _ trial_entered (decimal x ∷ decimal y ∷ decimal z ∷ []) e
 
 -- the name and the values that are found of the words of a command are the command's
@@ -221,6 +244,8 @@ after_name (commands.OnJournal (journals.Positions pool)) found rows given rest 
 after_name (commands.OnJournal (journals.Notices d pool)) found rows given rest plain none is = notices_rest rest plain none found rows is _ pool given.1.0 given.1.1
 after_name (commands.OnInput (inputs.Import n)) found rows given rest plain none is = import_rest rest plain none found rows is _ given.1
 after_name (commands.OnJournal (journals.Weigh k d)) found rows given rest plain none is = weigh_rest rest plain none found rows is _ _ given.1.0 given.1.1
+after_name (commands.OnJournal (journals.History pool)) found rows given rest plain none is = history_rest rest plain none found rows is pool given.1
+after_name (commands.OnJournal (journals.Statement n pool)) found rows given rest plain none is = statement_rest rest plain none found rows is _ pool given.1.0 given.1.1
 after_name (commands.Trial x y z) found rows given rest plain none is = trial_rest rest plain none found rows is _ _ _ given.1.0 given.1.1 given.1.2
 
 from_name : (words : List Text) → list_any is_option words ≡ false → fault_of program words ≡ [] → (found : Text) (rows : List Row) → subcommand_of program words ≡ Some (found, rows)

@@ -122,23 +122,32 @@ one_choice name id (x ∷ y ∷ xs) plain e =
     let q = plain_of y (or_false (is_option y) (list_any is_option xs) first.1).0 in
     some_kind _ _ (rw (p.dashes, p.long, p.short, q.dashes, q.long, q.short) at e)
 
--- the values of the table of claims, the last of which may be left out
-abbrev notices_leaf : Shape
-notices_leaf = leaf (codes "notices") (value (codes "DATE") ∷ choice (codes "POOL") ∷ [])
+-- the values of a table of claims, or of a statement, the last of which may be left out
+abbrev pub pool_leaf : Text → Text → Shape
+pool_leaf name id = leaf name (value id ∷ choice (codes "POOL") ∷ [])
 
-one_or_two_values : (rest : List Text) → list_any is_option rest ≡ false → level_fault notices_leaf [] nothing_held rest false [] ≡ []
+-- the name of the value that is asked for
+pub data IsAsked : Text → Type 0 where
+  date : IsAsked (codes "DATE")
+  round : IsAsked (codes "ROUND")
+
+too_many_values : {P : Type 0} (name id : Text) → IsAsked id → (x y other : Text) (xs : List Text) → IsPlain x → IsPlain y → IsPlain other
+    → level_fault (pool_leaf name id) [] nothing_held (x ∷ y ∷ other ∷ xs) false [] ≡ [] → P
+unfolding clap_on_literals
+too_many_values name id date x y other xs p q r e = some_kind _ _ (rw (p.dashes, p.long, p.short, q.dashes, q.long, q.short, r.dashes, r.long, r.short) at e)
+too_many_values name id round x y other xs p q r e = some_kind _ _ (rw (p.dashes, p.long, p.short, q.dashes, q.long, q.short, r.dashes, r.long, r.short) at e)
+
+one_or_two_values : (name id : Text) → IsAsked id → (rest : List Text) → list_any is_option rest ≡ false → level_fault (pool_leaf name id) [] nothing_held rest false [] ≡ []
     → (x : Text) × ((y : Option Text) × (rest ≡ x ∷ pool_values y))
 unfolding clap_on_literals
-one_or_two_values [] plain e = some_kind _ _ e
-one_or_two_values (x ∷ []) plain e = (x, (None, refl))
-one_or_two_values (x ∷ y ∷ []) plain e = (x, (Some y, refl))
-one_or_two_values (x ∷ y ∷ other ∷ xs) plain e =
+one_or_two_values name id asked [] plain e = some_kind _ _ e
+one_or_two_values name id asked (x ∷ []) plain e = (x, (None, refl))
+one_or_two_values name id asked (x ∷ y ∷ []) plain e = (x, (Some y, refl))
+one_or_two_values name id asked (x ∷ y ∷ other ∷ xs) plain e =
     let first = or_false (is_option x) (list_any is_option (y ∷ other ∷ xs)) plain in
     let second = or_false (is_option y) (list_any is_option (other ∷ xs)) first.1 in
-    let p = plain_of x first.0 in
-    let q = plain_of y second.0 in
-    let r = plain_of other (or_false (is_option other) (list_any is_option xs) second.1).0 in
-    some_kind _ _ (rw (p.dashes, p.long, p.short, q.dashes, q.long, q.short, r.dashes, r.long, r.short) at e)
+    let third = or_false (is_option other) (list_any is_option xs) second.1 in
+    too_many_values name id asked x y other xs (plain_of x first.0) (plain_of y second.0) (plain_of other third.0) e
 
 -- the values of a weighing
 abbrev weigh_leaf : Shape
@@ -209,7 +218,7 @@ pub positions_entered : IsEntered (codes "positions") (leaf (codes "positions") 
 unfolding clap_on_literals
 positions_entered = record { walked_to = refl; no_fault = refl; found = refl }
 
-pub notices_entered : IsEntered (codes "notices") notices_leaf
+pub notices_entered : IsEntered (codes "notices") (pool_leaf (codes "notices") (codes "DATE"))
 unfolding clap_on_literals
 notices_entered = record { walked_to = refl; no_fault = refl; found = refl }
 
@@ -220,6 +229,14 @@ import_entered = record { walked_to = refl; no_fault = refl; found = refl }
 pub weigh_entered : IsEntered (codes "weigh") weigh_leaf
 unfolding clap_on_literals
 weigh_entered = record { walked_to = refl; no_fault = refl; found = refl }
+
+pub history_entered : IsEntered (codes "history") (leaf (codes "history") (choice (codes "POOL") ∷ []))
+unfolding clap_on_literals
+history_entered = record { walked_to = refl; no_fault = refl; found = refl }
+
+pub statement_entered : IsEntered (codes "statement") (pool_leaf (codes "statement") (codes "ROUND"))
+unfolding clap_on_literals
+statement_entered = record { walked_to = refl; no_fault = refl; found = refl }
 
 pub trial_entered : IsEntered (codes "trial") trial_leaf
 unfolding clap_on_literals
@@ -235,11 +252,13 @@ record IsUnknown (w : Text) : Type 0 where
   pub notices : bytes_eq (codes "notices") w ≡ false
   pub import_ : bytes_eq (codes "import") w ≡ false
   pub weigh : bytes_eq (codes "weigh") w ≡ false
+  pub history : bytes_eq (codes "history") w ≡ false
+  pub statement : bytes_eq (codes "statement") w ≡ false
   pub trial : bytes_eq (codes "trial") w ≡ false
 
 unknown_refused : {P : Type 0} (w : Text) (rest : List Text) → IsPlain w → IsUnknown w → fault_of program (w ∷ rest) ≡ [] → P
 unfolding clap_on_literals
-unknown_refused w rest p u e = some_kind _ _ (rw (u.run, u.check, u.explain, u.audit, u.positions, u.notices, u.import_, u.weigh, u.trial, p.dashes, p.long, p.short) at e)
+unknown_refused w rest p u e = some_kind _ _ (rw (u.run, u.check, u.explain, u.audit, u.positions, u.notices, u.import_, u.weigh, u.history, u.statement, u.trial, p.dashes, p.long, p.short) at e)
 
 pub sub_is : (name : Text) (s : Shape) → IsEntered name s → (rest : List Text) → subcommand_of program (name ∷ rest) ≡ Some (rows_at s rest)
 sub_is name s e rest = ap (λ (w : Walk). entered whole w.stopped) (walk_is name s e rest) ∙ rw e.found refl
@@ -271,8 +290,12 @@ first_is w plain rest none found rows =
     (λ positions. decided P (codes "notices") w (λ _. known_name _ _ notices_entered refl rest found rows)
     (λ notices. decided P (codes "import") w (λ _. known_name _ _ import_entered refl rest found rows)
     (λ import_. decided P (codes "weigh") w (λ _. known_name _ _ weigh_entered refl rest found rows)
-    (λ weigh. decided P (codes "trial") w (λ _. known_name _ _ trial_entered refl rest found rows)
-    (λ trial. λ e _. unknown_refused w rest (plain_of w plain) (record { run = run; check = check; explain = explain; audit = audit; positions = positions; notices = notices; import_ = import_; weigh = weigh; trial = trial }) e))))))))) none
+    (λ weigh. decided P (codes "history") w (λ _. known_name _ _ history_entered refl rest found rows)
+    (λ history. decided P (codes "statement") w (λ _. known_name _ _ statement_entered refl rest found rows)
+    (λ statement. decided P (codes "trial") w (λ _. known_name _ _ trial_entered refl rest found rows)
+    (λ trial. λ e _. unknown_refused w rest (plain_of w plain)
+    (record { run = run; check = check; explain = explain; audit = audit; positions = positions; notices = notices; import_ = import_; weigh = weigh; history = history; statement = statement; trial = trial })
+    e))))))))))) none
 
 -- a first word is asked for
 pub no_words : {P : Type 0} → fault_of program [] ≡ [] → P
@@ -300,14 +323,27 @@ unfolding clap_on_literals
 positions_values None p = refl
 positions_values (Some x) p = rw (p.dashes, p.long, p.short) refl
 
-abbrev pub name_and_day : Text × List Row → Text × Option Text × Option Text
-name_and_day p = (p.0, first_of (codes "DATE") p.1, first_of (codes "POOL") p.1)
+pub history_values : (pool : Option Text) → IsPlainPool pool
+    → option_map (name_and (codes "POOL")) (subcommand_of program (codes "history" ∷ pool_values pool)) ≡ Some (codes "history", pool)
+unfolding clap_on_literals
+history_values None p = refl
+history_values (Some x) p = rw (p.dashes, p.long, p.short) refl
+
+-- a value and a pool
+abbrev pub name_and_pool : Text → Text × List Row → Text × Option Text × Option Text
+name_and_pool id p = (p.0, first_of id p.1, first_of (codes "POOL") p.1)
 
 pub notices_values : (x : Text) (pool : Option Text) → IsPlain x → IsPlainPool pool
-    → option_map name_and_day (subcommand_of program (codes "notices" ∷ x ∷ pool_values pool)) ≡ Some (codes "notices", Some x, pool)
+    → option_map (name_and_pool (codes "DATE")) (subcommand_of program (codes "notices" ∷ x ∷ pool_values pool)) ≡ Some (codes "notices", Some x, pool)
 unfolding clap_on_literals
 notices_values x None p q = rw (p.dashes, p.long, p.short) refl
 notices_values x (Some y) p q = rw (p.dashes, p.long, p.short, q.dashes, q.long, q.short) refl
+
+pub statement_values : (x : Text) (pool : Option Text) → IsPlain x → IsPlainPool pool
+    → option_map (name_and_pool (codes "ROUND")) (subcommand_of program (codes "statement" ∷ x ∷ pool_values pool)) ≡ Some (codes "statement", Some x, pool)
+unfolding clap_on_literals
+statement_values x None p q = rw (p.dashes, p.long, p.short) refl
+statement_values x (Some y) p q = rw (p.dashes, p.long, p.short, q.dashes, q.long, q.short) refl
 
 pub import_values : (x : Text) → IsPlain x → option_map (name_and (codes "LANE")) (subcommand_of program (codes "import" ∷ x ∷ [])) ≡ Some (codes "import", Some x)
 unfolding clap_on_literals
@@ -351,30 +387,54 @@ plain_pool : (pool : Option Text) → list_any is_option (pool_values pool) ≡ 
 plain_pool None plain = tt
 plain_pool (Some x) plain = plain_of x (or_false (is_option x) false plain).0
 
-pub positions_rest : (rest : List Text) → list_any is_option rest ≡ false → fault_of program (codes "positions" ∷ rest) ≡ [] → (found : Text) (rows : List Row)
-    → subcommand_of program (codes "positions" ∷ rest) ≡ Some (found, rows) → (pool : Option Text) → first_of (codes "POOL") rows ≡ pool → rest ≡ pool_values pool
-positions_rest rest plain none found rows is pool given =
-    let one = one_choice (codes "positions") (codes "POOL") rest plain (taken_below (codes "positions") _ positions_entered rest none) in
+-- the rest is the pool that was found, if there is one
+pub pool_rest : (name : Text) → IsEntered name (leaf name (choice (codes "POOL") ∷ []))
+    → ((pool : Option Text) → IsPlainPool pool → option_map (name_and (codes "POOL")) (subcommand_of program (name ∷ pool_values pool)) ≡ Some (name, pool))
+    → (rest : List Text) → list_any is_option rest ≡ false → fault_of program (name ∷ rest) ≡ [] → (found : Text) (rows : List Row)
+    → subcommand_of program (name ∷ rest) ≡ Some (found, rows) → (pool : Option Text) → first_of (codes "POOL") rows ≡ pool → rest ≡ pool_values pool
+pool_rest name entered values rest plain none found rows is pool given =
+    let one = one_choice name (codes "POOL") rest plain (taken_below name _ entered rest none) in
     let x = one.0 in
     let p = plain_pool x (ap (list_any is_option) (sym one.1) ∙ plain) in
-    let at : subcommand_of program (codes "positions" ∷ pool_values x) ≡ Some (found, rows) = ap (λ (r : List Text). subcommand_of program (codes "positions" ∷ r)) (sym one.1) ∙ is in
-    let value_is = ap (λ (q : Text × Option Text). q.1)
-    (found_is (name_and (codes "POOL")) (codes "positions" ∷ pool_values x) (codes "positions", x) (positions_values x p) found rows at) in
+    let at : subcommand_of program (name ∷ pool_values x) ≡ Some (found, rows) = ap (λ (r : List Text). subcommand_of program (name ∷ r)) (sym one.1) ∙ is in
+    let value_is = ap (λ (q : Text × Option Text). q.1) (found_is (name_and (codes "POOL")) (name ∷ pool_values x) (name, x) (values x p) found rows at) in
     one.1 ∙ ap pool_values (sym value_is ∙ given)
+
+pub positions_rest : (rest : List Text) → list_any is_option rest ≡ false → fault_of program (codes "positions" ∷ rest) ≡ [] → (found : Text) (rows : List Row)
+    → subcommand_of program (codes "positions" ∷ rest) ≡ Some (found, rows) → (pool : Option Text) → first_of (codes "POOL") rows ≡ pool → rest ≡ pool_values pool
+positions_rest = pool_rest (codes "positions") positions_entered positions_values
+
+pub history_rest : (rest : List Text) → list_any is_option rest ≡ false → fault_of program (codes "history" ∷ rest) ≡ [] → (found : Text) (rows : List Row)
+    → subcommand_of program (codes "history" ∷ rest) ≡ Some (found, rows) → (pool : Option Text) → first_of (codes "POOL") rows ≡ pool → rest ≡ pool_values pool
+history_rest = pool_rest (codes "history") history_entered history_values
+
+-- the rest is a value and the pool that was found, if there is one
+pub value_pool_rest : (name id : Text) → IsAsked id → IsEntered name (pool_leaf name id)
+    → ((x : Text) (pool : Option Text) → IsPlain x → IsPlainPool pool
+    → option_map (name_and_pool id) (subcommand_of program (name ∷ x ∷ pool_values pool)) ≡ Some (name, Some x, pool))
+    → (rest : List Text) → list_any is_option rest ≡ false → fault_of program (name ∷ rest) ≡ [] → (found : Text) (rows : List Row)
+    → subcommand_of program (name ∷ rest) ≡ Some (found, rows) → (text : Text) (pool : Option Text) → first_of id rows ≡ Some text
+    → first_of (codes "POOL") rows ≡ pool → rest ≡ text ∷ pool_values pool
+value_pool_rest name id asked entered values_are rest plain none found rows is text pool ex ey =
+    let two = one_or_two_values name id asked rest plain (taken_below name _ entered rest none) in
+    let u = two.0 in
+    let v = two.1.0 in
+    let parts = or_false (is_option u) (list_any is_option (pool_values v)) (ap (list_any is_option) (sym two.1.1) ∙ plain) in
+    let at : subcommand_of program (name ∷ u ∷ pool_values v) ≡ Some (found, rows) = ap (λ (r : List Text). subcommand_of program (name ∷ r)) (sym two.1.1) ∙ is in
+    let values = found_is (name_and_pool id) (name ∷ u ∷ pool_values v) (name, Some u, v) (values_are u v (plain_of u parts.0) (plain_pool v parts.1)) found rows at in
+    let a : u ≡ text = some_text (sym (ap (λ (q : Text × Option Text × Option Text). q.1) values) ∙ ex) in
+    let b : v ≡ pool = sym (ap (λ (q : Text × Option Text × Option Text). q.2) values) ∙ ey in
+    two.1.1 ∙ rw (a, b) refl
 
 pub notices_rest : (rest : List Text) → list_any is_option rest ≡ false → fault_of program (codes "notices" ∷ rest) ≡ [] → (found : Text) (rows : List Row)
     → subcommand_of program (codes "notices" ∷ rest) ≡ Some (found, rows) → (text : Text) (pool : Option Text) → first_of (codes "DATE") rows ≡ Some text
     → first_of (codes "POOL") rows ≡ pool → rest ≡ text ∷ pool_values pool
-notices_rest rest plain none found rows is text pool ex ey =
-    let two = one_or_two_values rest plain (taken_below (codes "notices") _ notices_entered rest none) in
-    let u = two.0 in
-    let v = two.1.0 in
-    let parts = or_false (is_option u) (list_any is_option (pool_values v)) (ap (list_any is_option) (sym two.1.1) ∙ plain) in
-    let at : subcommand_of program (codes "notices" ∷ u ∷ pool_values v) ≡ Some (found, rows) = ap (λ (r : List Text). subcommand_of program (codes "notices" ∷ r)) (sym two.1.1) ∙ is in
-    let values = found_is name_and_day (codes "notices" ∷ u ∷ pool_values v) (codes "notices", Some u, v) (notices_values u v (plain_of u parts.0) (plain_pool v parts.1)) found rows at in
-    let a : u ≡ text = some_text (sym (ap (λ (q : Text × Option Text × Option Text). q.1) values) ∙ ex) in
-    let b : v ≡ pool = sym (ap (λ (q : Text × Option Text × Option Text). q.2) values) ∙ ey in
-    two.1.1 ∙ rw (a, b) refl
+notices_rest = value_pool_rest (codes "notices") (codes "DATE") date notices_entered notices_values
+
+pub statement_rest : (rest : List Text) → list_any is_option rest ≡ false → fault_of program (codes "statement" ∷ rest) ≡ [] → (found : Text) (rows : List Row)
+    → subcommand_of program (codes "statement" ∷ rest) ≡ Some (found, rows) → (text : Text) (pool : Option Text) → first_of (codes "ROUND") rows ≡ Some text
+    → first_of (codes "POOL") rows ≡ pool → rest ≡ text ∷ pool_values pool
+statement_rest = value_pool_rest (codes "statement") (codes "ROUND") round statement_entered statement_values
 
 pub import_rest : (rest : List Text) → list_any is_option rest ≡ false → fault_of program (codes "import" ∷ rest) ≡ [] → (found : Text) (rows : List Row)
     → subcommand_of program (codes "import" ∷ rest) ≡ Some (found, rows) → (text : Text) → first_of (codes "LANE") rows ≡ Some text → rest ≡ text ∷ []
@@ -428,6 +488,16 @@ pub notices_taken : (x : Text) (pool : Option Text) → IsPlain x → IsPlainPoo
 unfolding clap_on_literals
 notices_taken x None p q = rw (p.dashes, p.long, p.short) refl
 notices_taken x (Some y) p q = rw (p.dashes, p.long, p.short, q.dashes, q.long, q.short) refl
+
+pub history_taken : (pool : Option Text) → IsPlainPool pool → fault_of program (codes "history" ∷ pool_values pool) ≡ []
+unfolding clap_on_literals
+history_taken None p = refl
+history_taken (Some x) p = rw (p.dashes, p.long, p.short) refl
+
+pub statement_taken : (x : Text) (pool : Option Text) → IsPlain x → IsPlainPool pool → fault_of program (codes "statement" ∷ x ∷ pool_values pool) ≡ []
+unfolding clap_on_literals
+statement_taken x None p q = rw (p.dashes, p.long, p.short) refl
+statement_taken x (Some y) p q = rw (p.dashes, p.long, p.short, q.dashes, q.long, q.short) refl
 
 pub import_taken : (x : Text) → IsPlain x → fault_of program (codes "import" ∷ x ∷ []) ≡ []
 unfolding clap_on_literals

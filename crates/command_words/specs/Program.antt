@@ -46,6 +46,10 @@ notices_values = value (codes "DATE") ∷ choice (codes "POOL") ∷ []
 abbrev pub weigh_values : List Rule
 weigh_values = value (codes "KIND") ∷ value (codes "DATE") ∷ []
 
+-- the values of a statement
+abbrev pub statement_values : List Rule
+statement_values = value (codes "ROUND") ∷ choice (codes "POOL") ∷ []
+
 -- the values of a trial
 abbrev pub trial_values : List Rule
 trial_values = value (codes "FIRMS") ∷ value (codes "CLAIMS") ∷ value (codes "SEED") ∷ []
@@ -53,7 +57,9 @@ trial_values = value (codes "FIRMS") ∷ value (codes "CLAIMS") ∷ value (codes
 -- the program with its commands
 abbrev pub program : App
 program = knowing (codes "trial") trial_values
+    (knowing (codes "statement") statement_values
+    (knowing (codes "history") (choice (codes "POOL") ∷ [])
     (knowing (codes "weigh") weigh_values
     (knowing (codes "import") (value (codes "LANE") ∷ [])
     (knowing (codes "notices") notices_values
-    (knowing (codes "positions") (choice (codes "POOL") ∷ []) plain))))
+    (knowing (codes "positions") (choice (codes "POOL") ∷ []) plain))))))

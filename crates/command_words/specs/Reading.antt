@@ -27,6 +27,9 @@ AreGiven (commands.OnJournal (journals.Notices today pool)) value = (value (code
     × (value (codes "POOL") ≡ pool)
 AreGiven (commands.OnJournal (journals.Weigh kind today)) value = (value (codes "KIND") ≡ Some (kind_text kind))
     × (value (codes "DATE") ≡ Some (day_text today))
+AreGiven (commands.OnJournal (journals.History pool)) value = value (codes "POOL") ≡ pool
+AreGiven (commands.OnJournal (journals.Statement round pool)) value = (value (codes "ROUND") ≡ Some (decimal round))
+    × (value (codes "POOL") ≡ pool)
 AreGiven (commands.Trial firms claims seed) value = (value (codes "FIRMS") ≡ Some (decimal firms))
     × (value (codes "CLAIMS") ≡ Some (decimal claims)) × (value (codes "SEED") ≡ Some (decimal seed))
 

@@ -27,6 +27,8 @@ IsCommand (commands.OnJournal journals.Audit) = Unit {0}
 IsCommand (commands.OnJournal (journals.Positions pool)) = IsPool pool
 IsCommand (commands.OnJournal (journals.Notices today pool)) = (today ≤ LAST_DAY) × IsPool pool
 IsCommand (commands.OnJournal (journals.Weigh kind today)) = today ≤ LAST_DAY
+IsCommand (commands.OnJournal (journals.History pool)) = IsPool pool
+IsCommand (commands.OnJournal (journals.Statement round pool)) = (1 ≤ round) × (round < 2 ^ 32) × IsPool pool
 IsCommand (commands.Trial firms claims seed) = (2 ≤ firms) × (firms ≤ MOST_FIRMS) × (1 ≤ claims) × (claims ≤ MOST_CLAIMS) × (seed < 2 ^ 32)
 
 -- the first word of a command
@@ -39,6 +41,8 @@ name_of (commands.OnJournal journals.Audit) = codes "audit"
 name_of (commands.OnJournal (journals.Positions pool)) = codes "positions"
 name_of (commands.OnJournal (journals.Notices today pool)) = codes "notices"
 name_of (commands.OnJournal (journals.Weigh kind today)) = codes "weigh"
+name_of (commands.OnJournal (journals.History pool)) = codes "history"
+name_of (commands.OnJournal (journals.Statement round pool)) = codes "statement"
 name_of (commands.Trial firms claims seed) = codes "trial"
 
 -- the value that names a pool, where one is given
@@ -56,6 +60,8 @@ values_of (commands.OnJournal journals.Audit) = []
 values_of (commands.OnJournal (journals.Positions pool)) = pool_values pool
 values_of (commands.OnJournal (journals.Notices today pool)) = day_text today ∷ pool_values pool
 values_of (commands.OnJournal (journals.Weigh kind today)) = kind_text kind ∷ day_text today ∷ []
+values_of (commands.OnJournal (journals.History pool)) = pool_values pool
+values_of (commands.OnJournal (journals.Statement round pool)) = decimal round ∷ pool_values pool
 values_of (commands.Trial firms claims seed) = decimal firms ∷ decimal claims ∷ decimal seed ∷ []
 
 -- the words of a command
@@ -78,4 +84,6 @@ OneCommandLaw = (words : List (List ℕ)) (command other : Command) → AreWords
 abbrev pub pool_of : JournalReport → List ℕ
 pool_of (journals.Positions (Some pool)) = pool
 pool_of (journals.Notices today (Some pool)) = pool
+pool_of (journals.History (Some pool)) = pool
+pool_of (journals.Statement round (Some pool)) = pool
 pool_of report = main_pool

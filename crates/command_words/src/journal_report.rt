@@ -29,16 +29,34 @@ pub enum JournalReport {
         /// The last day on which a claim of the cut is due, and the day on which it is counted how long claims are overdue.
         today: Day,
     },
+    /// `history` or `history POOL`: prints the entries that it holds, each publication with its statement.
+    History {
+        /// The pool, where the words name one. Else the entries of all pools are printed.
+        pool: Option<Name>,
+    },
+    /// `statement ROUND` or `statement ROUND POOL`: prints the statement of a round of a pool.
+    Statement {
+        /// The number of the round, from 1 on.
+        round: u32,
+        /// The pool, where the words name one. Else it is MAIN.
+        pool: Option<Name>,
+    },
 }
 
 impl JournalReport {
-    /// The pool of which a report speaks: the one that its words name, else MAIN. An audit counts the acts of all pools.
+    /// The pool of which a report speaks: the one that its words name, else MAIN. An audit counts the acts of all pools, and a history
+    /// without a pool prints the entries of all.
     pub fn pool(&self) -> Name
         ensures { result ≡ pool_of self.now }
     {
         match self {
             JournalReport::Positions { pool: Some(pool) } => *pool,
             JournalReport::Notices {
+                pool: Some(pool),
+                ..
+            } => *pool,
+            JournalReport::History { pool: Some(pool) } => *pool,
+            JournalReport::Statement {
                 pool: Some(pool),
                 ..
             } => *pool,

@@ -107,6 +107,8 @@ fn with_values<'a>(alloc: Global, program: Command<'a>) -> Result<Command<'a>, A
     let known = with_two(alloc, known, "notices", "DATE", "POOL", false)?;
     let known = with_one(alloc, known, "import", "LANE", true)?;
     let known = with_two(alloc, known, "weigh", "KIND", "DATE", true)?;
+    let known = with_one(alloc, known, "history", "POOL", false)?;
+    let known = with_two(alloc, known, "statement", "ROUND", "POOL", false)?;
     with_trial(alloc, known)
 }
 

@@ -125,6 +125,25 @@ fn weigh_at(values: &ArgMatches) -> Option<Command>
     Some(Command::OnJournal(JournalReport::Weigh { kind, today }))
 }
 
+// The command `history` with its value.
+fn history_at(values: &ArgMatches) -> Option<Command>
+    ensures found { IfSome result (λ c. IsCommand c × IsGiven c (codes "history") (first_value (found_of values.now))) }
+    ensures none { IfNone result ((c : CommandOf) → IsCommand c → IsGiven c (codes "history") (first_value (found_of values.now)) → ⊥) }
+{
+    let pool = pool_at(values, "POOL")?;
+    Some(Command::OnJournal(JournalReport::History { pool }))
+}
+
+// The command `statement` with its values.
+fn statement_at(values: &ArgMatches) -> Option<Command>
+    ensures found { IfSome result (λ c. IsCommand c × IsGiven c (codes "statement") (first_value (found_of values.now))) }
+    ensures none { IfNone result ((c : CommandOf) → IsCommand c → IsGiven c (codes "statement") (first_value (found_of values.now)) → ⊥) }
+{
+    let round = number_at(values, "ROUND", 1, u32::MAX)?;
+    let pool = pool_at(values, "POOL")?;
+    Some(Command::OnJournal(JournalReport::Statement { round, pool }))
+}
+
 // The command `trial` with its values.
 fn trial_at(values: &ArgMatches) -> Option<Command>
     ensures found { IfSome result (λ c. IsCommand c × IsGiven c (codes "trial") (first_value (found_of values.now))) }
@@ -151,6 +170,8 @@ fn given(name: &str, values: &ArgMatches) -> Option<Command>
         "positions" => positions_at(values),
         "notices" => notices_at(values),
         "weigh" => weigh_at(values),
+        "history" => history_at(values),
+        "statement" => statement_at(values),
         "trial" => trial_at(values),
         _ => None,
     }

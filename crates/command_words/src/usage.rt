@@ -9,6 +9,8 @@ audit                     replays the journal, and tells whether it is sound
 positions [POOL]          prints the position of every firm of a pool as CSV, of MAIN where none is named
 notices DATE [POOL]       prints the open claims of a pool as CSV, with the days that they are overdue on DATE
 weigh KIND DATE           prints a set-off in which claims that are longer overdue on DATE count more
+history [POOL]            prints the entries that the journal holds, each publication with its statement
+statement ROUND [POOL]    prints the statement of a published round of a pool, as the run printed it
 import LANE               turns the invoices of the input into FILE requests
 trial FIRMS CLAIMS SEED   makes a large input from a number, and serves it
 ";

@@ -47,7 +47,7 @@ module _ (history : List PoolEntry) (i : ℕ) (m : PoolEntry) (is : slice_get hi
   from_it : drop i history ≡ m ∷ drop (i + 1) history
   from_it = drop_more history i m within ∙ ap (λ (x : PoolEntry). x ∷ drop (i + 1) history) at_place
 
-  whole : history ≡ take i history ++ m ∷ drop (i + 1) history
+  pub whole : history ≡ take i history ++ m ∷ drop (i + 1) history
   whole = sym (take-append-drop i history) ∙ ap (λ (rest : List PoolEntry). take i history ++ rest) from_it
 
   -- the entries of its pool

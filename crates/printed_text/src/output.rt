@@ -92,9 +92,12 @@ fn print_entry<K: Sink>(
     Ok(())
 }
 
-// Prints the statement of the round that an entry publishes, and nothing for one that publishes none. The cut of the round is at
-// the place `next`; gives the place of the cut after it.
-fn print_publication<K: Sink>(
+/// Prints the statement of the round that an entry publishes, and nothing for one that publishes none. The cut of the round is at
+/// the place `next`; gives the place of the cut after it.
+///
+/// The buffer has room for `OUTPUT_BYTES`. After a failure, which the sink counted, it has some first bytes of what was in the buffer
+/// and the text.
+pub fn print_publication<K: Sink>(
     sink: &mut K,
     buffer: &mut Vec<u8>,
     entry: &Entry,
@@ -150,8 +153,11 @@ fn print_answer<K: Sink>(
     print_publication(sink, buffer, entry, rounds, next)
 }
 
-// Prints the members of a history from a place on. The rounds are the cuts of those that were published from there on.
-fn print_members<K: Sink>(
+/// Prints the members of a history from a place on, each published one with the statement of its round. The rounds are the cuts of
+/// those that were published from there on.
+///
+/// The buffer and the failure are as for `print_publication`.
+pub fn print_members<K: Sink>(
     sink: &mut K,
     buffer: &mut Vec<u8>,
     books: &Books,

@@ -7,7 +7,7 @@ use std::sync::Wait;
 use std::thread::Threads;
 
 // Words that are no command. The source and the disk are not called.
-const NO_COMMANDS: [&[&str]; 19] = [
+const NO_COMMANDS: [&[&str]; 22] = [
     &[],
     &["RUN"],
     &["run", "now"],
@@ -23,6 +23,9 @@ const NO_COMMANDS: [&[&str]; 19] = [
     &["notices", "2026-01-10", "2026-01-11"],
     &["weigh", "PLAIN"],
     &["explain", "1"],
+    &["history", "EAST", "WEST"],
+    &["statement"],
+    &["statement", "0"],
     &["import", "0"],
     &["import", "17"],
     &["import", "01"],

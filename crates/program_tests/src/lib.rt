@@ -8,6 +8,8 @@ mod commands;
 #[cfg(test)]
 mod faults;
 #[cfg(test)]
+mod histories;
+#[cfg(test)]
 mod journals;
 #[cfg(test)]
 mod lanes;

@@ -338,6 +338,58 @@ fn tables_of_pools(rt: HostRuntime) {
     }
 }
 
+// Whether a history is printed, or else the statement of a first round; the pool; the bytes of a disk, the call of it that fails, the
+// status and the output.
+const HELD: [(bool, &[u8], &[u8], u64, u8, &[u8]); 8] = [
+    (true, b"MAIN", b"", 0, 0, b""),
+    (true, b"MAIN", ONE_RECORD, 0, 0, b"1 FIRM A = ok\n"),
+    (true, b"EAST", RECORD_OF_EAST, 0, 0, b"1 FIRM A = ok\n"),
+    (true, b"WEST", RECORD_OF_EAST, 0, 0, b""),
+    (
+        true,
+        b"MAIN",
+        REFUSED_RECORD,
+        0,
+        8,
+        b"fault journal 8 refused 7 unknown-claim\n",
+    ),
+    (false, b"MAIN", ONE_RECORD, 0, 1, b"no round 1\n"),
+    (
+        false,
+        b"MAIN",
+        b"0123456789",
+        0,
+        8,
+        b"fault journal 0 header\n",
+    ),
+    (false, b"MAIN", ONE_RECORD, 1, 5, b"fault device 0 1\n"),
+];
+
+// The history of a pool, or else the statement of its first round.
+fn report_on(is_history: bool, pool: Name) -> JournalReport {
+    let pool = Some(pool);
+    if is_history {
+        JournalReport::History { pool }
+    } else {
+        JournalReport::Statement { round: 1, pool }
+    }
+}
+
+#[test]
+fn what_journals_hold(rt: HostRuntime) {
+    for (is_history, name, bytes, fails, status, output) in HELD {
+        let report = report_on(is_history, Name::of(name).expect(&rt, "a name"));
+        expect_report(&rt, rt.alloc(), report, bytes, fails, status, output);
+    }
+}
+
+#[test]
+fn the_history_of_all_pools(rt: HostRuntime) {
+    let report = JournalReport::History { pool: None };
+    let line = b"1 @EAST FIRM A = ok\n";
+    expect_report(&rt, rt.alloc(), report, RECORD_OF_EAST, 0, 0, line);
+}
+
 // The bytes of a disk, the call of it that fails, the status and the output.
 const WEIGHED: [(&[u8], u64, u8, &[u8]); 5] = [
     (b"", 0, 0, b"WEIGHED FUNDED\nTOTAL 0.00\nEND\n"),

@@ -23,7 +23,7 @@ fn told(rt: &impl Abort, alloc: Global, texts: &[&str]) -> Result<Command, Words
 fn each_list_of_words_is_its_command(rt: HostRuntime) {
     let today = Day::read(b"2025-03-31").expect(&rt, "a day");
     let east = Name::of(b"EAST").expect(&rt, "a name");
-    let lists: [(&[&str], Command); 17] = [
+    let lists: [(&[&str], Command); 21] = [
         (&["run"], Command::Run),
         (&["check"], Command::OnInput(InputReport::Check)),
         (&["explain"], Command::OnInput(InputReport::Explain)),
@@ -59,6 +59,28 @@ fn each_list_of_words_is_its_command(rt: HostRuntime) {
             Command::OnJournal(JournalReport::Weigh {
                 kind: Kind::Funded,
                 today,
+            }),
+        ),
+        (
+            &["history"],
+            Command::OnJournal(JournalReport::History { pool: None }),
+        ),
+        (
+            &["history", "EAST"],
+            Command::OnJournal(JournalReport::History { pool: Some(east) }),
+        ),
+        (
+            &["statement", "1"],
+            Command::OnJournal(JournalReport::Statement {
+                round: 1,
+                pool: None,
+            }),
+        ),
+        (
+            &["statement", "4294967295", "EAST"],
+            Command::OnJournal(JournalReport::Statement {
+                round: 4_294_967_295,
+                pool: Some(east),
             }),
         ),
         (
@@ -157,6 +179,15 @@ const NO_COMMANDS: &[&[&str]] = &[
     &["weigh", "2025-03-31", "PLAIN"],
     &["weigh", "PLAIN", "2025-02-29"],
     &["weigh", "PLAIN", "2025-03-31", "MAIN"],
+    &["history", "east"],
+    &["history", "EAST", "1"],
+    &["statement"],
+    &["statement", "EAST"],
+    &["statement", "0"],
+    &["statement", "01"],
+    &["statement", "+1"],
+    &["statement", "4294967296"],
+    &["statement", "1", "EAST", "EAST"],
     &["import"],
     &["import", "0"],
     &["import", "17"],
@@ -193,6 +224,8 @@ const FORMS: &[&str] = &[
     "positions [POOL] ",
     "notices DATE [POOL] ",
     "weigh KIND DATE ",
+    "history [POOL] ",
+    "statement ROUND [POOL] ",
     "import LANE ",
     "trial FIRMS CLAIMS SEED ",
 ];

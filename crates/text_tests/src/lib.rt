@@ -13,6 +13,8 @@ mod entries;
 #[cfg(test)]
 mod histories;
 #[cfg(test)]
+mod intakes;
+#[cfg(test)]
 mod lines;
 #[cfg(test)]
 mod notices;

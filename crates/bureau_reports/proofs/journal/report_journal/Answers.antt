@@ -27,6 +27,15 @@ returns-in_default-clause-disk_fault g c = journal_rose _ _ _ _ _ _ _ _ (returns
 
 -- ---- the book
 
+pub print_books-status-requires-clause-empty : goal.print_books-status-requires-clause-empty
+print_books-status-requires-clause-empty g c = c.in-Ok.ensures.empty
+
+pub print_books-status-requires-clause-len : goal.print_books-status-requires-clause-len
+print_books-status-requires-clause-len g c = c.in-Ok.ensures.len
+
+pub print_books-status-requires-clause-spare : goal.print_books-status-requires-clause-spare
+print_books-status-requires-clause-spare g c = c.in-Ok.ensures.room
+
 pub returns-in-Ok-view-clause-wrote : goal.returns-in-Ok-view-clause-wrote
 returns-in-Ok-view-clause-wrote g c =
     wrote_for _ (IsJournalDue c.args.report _ _ _ _) _ _ _ (book_due c.args.report _ _ _ _ c.in-Ok-view.books.members c.in-Ok-view.ensures.ok) c.print_books-status.ensures.wrote
@@ -49,10 +58,10 @@ pub write_unviewed-requires-clause-tellable : goal.write_unviewed-requires-claus
 write_unviewed-requires-clause-tellable g c = tellable _ _ _ _ c.in-Err.cause (as_opening _ _ _ _ c.in-Err.cause c.in-Err.ensures.err)
 
 pub write_unviewed-requires-clause-empty : goal.write_unviewed-requires-clause-empty
-write_unviewed-requires-clause-empty g c = c.in-Ok.ensures.items
+write_unviewed-requires-clause-empty g c = c.in-Ok.ensures.empty
 
 pub write_unviewed-requires-clause-spare : goal.write_unviewed-requires-clause-spare
-write_unviewed-requires-clause-spare g c = c.in-Ok.ensures.capacity
+write_unviewed-requires-clause-spare g c = omega (arith, c.in-Ok.ensures.room)
 
 pub end_with-requires : goal.end_with-requires
 end_with-requires g c = λ sink.

@@ -1,0 +1,27 @@
+use Rattle.std.proofs.Common.{List, ℕ, subst, sym}
+use Rattle.printed_text.specs.declared.exit_status.ExitStatus.TheVariants as statuses
+use Rattle.printed_text.specs.Texts.{memory_text}
+use Rattle.bureau_reports.specs.Journals.{IsBookDue, IsTextOf, no_text_memory}
+use Rattle.bureau_reports.proofs.Held.{wrote_made}
+use Rattle.bureau_reports.proofs.Written.{wrote_line}
+use Rattle.bureau_reports.proofs.journal.print_made.Goals as goal
+
+pub text_of-requires : goal.text_of-requires
+text_of-requires g c = c.requires
+
+pub end_with-requires : goal.end_with-requires
+end_with-requires g c = λ sink. cc
+
+pub returns-in-Ok-clause-wrote : goal.returns-in-Ok-clause-wrote
+returns-in-Ok-clause-wrote g c =
+    wrote_made c.args.report.now c.args.books.now.members _ _ c.as_slice.result.now _ c.requires
+    (subst (λ (t : List ℕ). IsTextOf c.args.report.now c.args.books.now.members t) (sym c.as_slice.ensures.value) c.in-Ok.ensures) c.end_with.ensures.written
+
+pub returns-in-Ok-clause-write_fault : goal.returns-in-Ok-clause-write_fault
+returns-in-Ok-clause-write_fault g c = c.end_with.ensures.failed
+
+pub returns-in-Err-clause-wrote : goal.returns-in-Err-clause-wrote
+returns-in-Err-clause-wrote g c = wrote_line (IsBookDue c.args.report.now c.args.books.now.members) _ _ statuses.Memory memory_text _ no_text_memory c.tell_no_memory.ensures.written
+
+pub returns-in-Err-clause-write_fault : goal.returns-in-Err-clause-write_fault
+returns-in-Err-clause-write_fault g c = c.tell_no_memory.ensures.failed

@@ -1,0 +1,5 @@
+pub mod Due
+pub mod Printed
+pub mod Replayed
+pub mod Stated
+pub mod Telling

@@ -1,0 +1,19 @@
+use Rattle.setoff_model.proofs.Lists.{on_err}
+use Rattle.history_text.specs.Histories.{history_text}
+use Rattle.printed_text.proofs.Passing.{part_of_text}
+use Rattle.history_text.proofs.Printed.{told_flushed, told_unflushed}
+use Rattle.history_text.proofs.history.print_whole.Goals as goal
+
+pub returns-in_err-done-clause-part : goal.returns-in_err-done-clause-part
+returns-in_err-done-clause-part g c = on_err _ _ (part_of_text _ _ c.args.buffer.now.items (history_text c.args.pool.now c.args.books.now.members) c.requires.empty c.in_err-done.ensures.part)
+
+pub returns-in_err-flush-clause-part : goal.returns-in_err-flush-clause-part
+returns-in_err-flush-clause-part g c =
+    on_err _ _ (told_unflushed c.in_ok-done.done _ _ _ c.args.buffer.now.items c.print_replayed.new.buffer.items (history_text c.args.pool.now c.args.books.now.members) c.requires.empty c.in_ok-done.ensures.ok c.in_err-flush.ensures.part)
+
+pub returns-clause-ok : goal.returns-clause-ok
+returns-clause-ok g c =
+    told_flushed c.in_ok-done.done _ _ _ c.args.buffer.now.items c.print_replayed.new.buffer.items c.flush.new.buffer.items (history_text c.args.pool.now c.args.books.now.members) c.requires.empty c.in_ok-done.ensures.ok c.in_ok-flush.ensures.ok c.in_ok-flush.ensures.emptied
+
+pub returns-clause-short : goal.returns-clause-short
+returns-clause-short g c = c.in_ok-done.ensures.short
