@@ -99,9 +99,10 @@ def reached():
     texts = {(f.parent.parent.name, f.stem): f.read_text() for f in files}
     known = {place: definitions(text) for place, text in texts.items()}
     lent = {place: re.findall(r"^use Rattle\.(\w+)\.specs\.(\w+)\.\{([^}]*)\}", text, re.M) for place, text in texts.items()}
-    contract = re.search(r"pub fn bureau<.*?^\{", (CRATES / "bureau_commands" / "src" / "top.rt").read_text(), re.M | re.S)[0]
-    asked = set(re.findall(r"[\w']+", contract))
-    to_do = [(place, word) for place in known for word in asked & set(known[place]) if word[0].isupper()]
+    top = (CRATES / "bureau_commands" / "src" / "top.rt").read_text()
+    asked = set(re.findall(r"[\w']+", re.search(r"pub fn bureau<.*?^\{", top, re.M | re.S)[0]))
+    imports = re.findall(r"use Rattle\.(\w+)\.specs\.(\w+)\.\{([^}]*)\}", top)
+    to_do = [((crate, module), name) for crate, module, names in imports for name in asked & set(names.split(", ")) if name[0].isupper()]
     found = set()
     while to_do:
         place, word = to_do.pop()
