@@ -92,10 +92,19 @@ impl Book {
         ensures kept { self.old.room ≤ self.new.room }
         ensures needed { OnErr result (self.old.room < room_for (state_of self.old.history) act.now) }
     {
-        let needed = self.room_for(act);
-        self.claims.reserve(needed)?;
-        self.accounts.reserve(needed)?;
-        self.entries.reserve(needed)
+        self.make_room(self.room_for(act))
+    }
+
+    // Makes room for so many entries, where there was less. The only error is that memory is missing.
+    pub(crate) fn make_room(&mut self, entries: usize) -> Result<(), AllocError>
+        ensures history { self.new.history ≡ self.old.history }
+        ensures room { OnOk result (entries ≤ self.new.room) }
+        ensures kept { self.old.room ≤ self.new.room }
+        ensures needed { OnErr result (self.old.room < entries) }
+    {
+        self.claims.reserve(entries)?;
+        self.accounts.reserve(entries)?;
+        self.entries.reserve(entries)
     }
 
     // For how many entries an act needs room.

@@ -35,6 +35,9 @@ pub struct Place {
     pub at: usize,
 }
 
+// Where a book has too little room, room is made for one entry more for each so many that it has, so that most acts find theirs.
+const SHARE_AHEAD: usize = 8;
+
 /// Makes the room that an act needs in a book and among the places, of which so many are promised.
 pub fn make_room(
     kept: &mut PoolBook,
@@ -56,13 +59,15 @@ pub fn make_room(
     if needed <= kept.room {
         return Ok(());
     }
-    let Some(wanted) = promised.checked_add(needed - kept.room) else {
+    let ahead = kept.book.history().len() / SHARE_AHEAD;
+    let room = needed + ahead;
+    let Some(wanted) = promised.checked_add(room - kept.room) else {
         return Err(AllocError);
     };
-    kept.book.reserve(act)?;
+    kept.book.make_room(room)?;
     places.reserve(wanted)?;
     *promised = wanted;
-    kept.room = needed;
+    kept.room = room;
     Ok(())
 }
 
