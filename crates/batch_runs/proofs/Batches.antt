@@ -62,15 +62,16 @@ unasked_adds seen now new batch answers from ran place none =
 
 -- ---- one batch more
 
+or_false : (c : Bool) → (c || false) ≡ c
+or_false true = refl
+or_false false = refl
+
 module _ (bs : List Done) (b : Done) where
   pub added_more : all_added (bs ++ b ∷ []) ≡ all_added bs ++ b.added
   added_more = flat_map-append (λ (x : Done). x.added) bs (b ∷ []) ∙ ap (λ (l : List PoolEntry). all_added bs ++ l) (append-nil b.added)
 
   end_more : (test : LineEnd → Bool) → some_end test (bs ++ b ∷ []) ≡ (some_end test bs || has_line_end test b.answers)
-  end_more test = list_any-append (λ (x : Done). has_line_end test x.answers) bs (b ∷ []) ∙ ap (λ (c : Bool). some_end test bs || c) (or_false (has_line_end test b.answers)) where
-    or_false : (c : Bool) → (c || false) ≡ c
-    or_false true = refl
-    or_false false = refl
+  end_more test = list_any-append (λ (x : Done). has_line_end test x.answers) bs (b ∷ []) ∙ ap (λ (c : Bool). some_end test bs || c) (or_false (has_line_end test b.answers))
 
   device_more : some_device (bs ++ b ∷ []) ≡ (some_device bs || list_any (λ m. is_of_device m.entry.reply) b.added)
   device_more = ap (list_any (λ (m : PoolEntry). is_of_device m.entry.reply)) added_more ∙ list_any-append (λ (m : PoolEntry). is_of_device m.entry.reply) (all_added bs) b.added
@@ -200,6 +201,33 @@ module _ {D : Type 0} (seen : D → Seen) (first : DeskView D) (x : Option (List
       told = (part.0, subst (λ (bs : List Done). Appends x z (text_of first.history bs ++ part.0)) (sym (last_off so.done one)) (Appends-then x y z (text_of first.history so.done) part.0 so.taken part.3));
     }
 
+    -- there were no others
+    pub breaks_at_last : AppendsPart y z text → (ran : HasRunBatches seen first new (batches ++ batch ∷ []) x z statuses.Sink) × (batches ++ batch ∷ [] ≡ map (λ (b : Done). b.requests) ran.done)
+    unfolding breaks
+    breaks_at_last part = (breaks (batches ++ batch ∷ []) [] (sym (append-nil (batches ++ batch ∷ []))) part, all)
+
+  -- an empty batch behind them, of which nothing is asked
+  pub more_empty : (last : DeskView D) (batches : List (List Request)) (y : Option (List ℕ)) (tally : Tally) → SoFar seen first x last batches y tally → SoFar seen first x last (batches ++ [] ∷ []) y tally
+  more_empty last batches y tally so =
+      let empty : Done = record { requests = []; answers = []; added = [] } in
+      let text : text_of first.history so.done ≡ text_of first.history (so.done ++ empty ∷ []) =
+      sym (text_more first.history so.done empty ∙ append-nil (text_of first.history so.done)) in
+      let added : all_added so.done ≡ all_added (so.done ++ empty ∷ []) = sym (added_more so.done empty ∙ append-nil (all_added so.done)) in
+      record {
+        done = so.done ++ empty ∷ [];
+        all = ap (λ (l : List (List Request)). l ++ [] ∷ []) so.all ∙ sym (map-append (λ (b : Done). b.requests) so.done (empty ∷ []));
+        history = so.history ∙ ap (λ (l : List PoolEntry). first.history ++ l) added;
+        served = served_more first.history so.done empty so.served (unanswered_served [] (first.history ++ all_added so.done));
+        opening = so.opening;
+        none = λ e. absurd (not_none so.done empty e);
+        taken = subst (Appends x y) text so.taken;
+        told = record {
+          memory = so.told.memory ∙ sym (end_more so.done empty is_memory_end ∙ or_false (some_end is_memory_end so.done));
+          device = so.told.device ∙ sym (device_more so.done empty ∙ or_false (some_device so.done));
+          full = so.told.full ∙ sym (end_more so.done empty is_full_end ∙ or_false (some_end is_full_end so.done));
+        };
+      }
+
   -- all were served and written
   pub ends : (last : DeskView D) (batches : List (List Request)) (y : Option (List ℕ)) (tally : Tally) (status : ExitStatus) → SoFar seen first x last batches y tally → status ≡ run_status tally.memory tally.device tally.full
       → HasRunBatches seen first last batches x y status
@@ -219,3 +247,9 @@ module _ {D : Type 0} (seen : D → Seen) (first : DeskView D) (x : Option (List
         written = subst (λ (n : ExitStatus). IsWritten x y (end_status so.done) (text_of first.history so.done) n) (sym due) (whole so.taken);
         told = (rest.0, subst (Appends x y) rest.1 so.taken);
       }
+
+  -- with what came of each
+  pub ends_with : (last : DeskView D) (batches : List (List Request)) (y : Option (List ℕ)) (tally : Tally) (status : ExitStatus) → SoFar seen first x last batches y tally → status ≡ run_status tally.memory tally.device tally.full
+      → (ran : HasRunBatches seen first last batches x y status) × (batches ≡ map (λ (b : Done). b.requests) ran.done)
+  unfolding ends
+  ends_with last batches y tally status so is = (ends last batches y tally status so is, so.all)

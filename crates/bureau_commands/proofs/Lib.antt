@@ -1,3 +1,4 @@
+pub mod TakenInputs
 pub mod Risen
 pub mod Reading
 pub mod Commands
@@ -8,6 +9,7 @@ pub mod Inputs
 pub mod InputCauses
 pub mod JournalCauses
 pub mod RunCauses
+pub mod LiveCauses
 pub mod ComesWhere
 pub mod ComesOnly
 mod Tied

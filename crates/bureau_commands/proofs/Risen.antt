@@ -21,11 +21,13 @@ use Rattle.bureau_reports.specs.Inputs.{IsInputDue}
 use Rattle.bureau_reports.proofs.Verdicts.{input_one}
 use Rattle.bureau_reports.proofs.Viewed.{due_rose}
 use Rattle.bureau_reports.proofs.Written.{told_status}
+use Rattle.live_intake.specs.declared.stop.Stop.{Stop}
+use Rattle.live_intake.specs.declared.stop.Stop.TheVariants as stop
 use Rattle.batch_runs.specs.Runs.{HasTaken, all_added, some_device, some_end}
 use Rattle.batch_runs.proofs.Printed.{device_by}
 use Rattle.batch_runs.proofs.Rising.{device_rose}
 use Rattle.bureau_commands.specs.Headline.{IsHeadline}
-use Rattle.bureau_commands.specs.Due.{IsBatchesDue, IsCommandDue, IsDue, IsReadDue, IsRunDue, IsTrialDue, Ran, asked, bad_line, bad_words, batches_read, input_read, no_input_memory, no_line_memory, no_output_memory, no_request_memory, no_trial_memory, no_words_memory, not_opened, not_read, read_fault, served, too_long, tried}
+use Rattle.bureau_commands.specs.Due.{IsBatchesDue, IsCommandDue, IsDue, IsLiveDue, IsLiveHeadline, IsReadDue, IsRunDue, IsTrialDue, Ran, all_served, asked, bad_line, bad_words, batches_read, broken_off, input_read, no_input_memory, no_line_memory, no_output_memory, no_request_memory, no_trial_memory, no_words_memory, not_begun, not_opened, not_read, read_fault, served, stop_status, too_long, tried}
 
 -- where no desk was opened
 opening_rose : (tells : Bool) (bytes : List ℕ) (low high : ℕ) (cause : DeskCause) → HasDeskCause tells bytes low high cause → opening_status cause ≡ statuses.Disk → HasRisen low high
@@ -56,6 +58,21 @@ module _ {D : Type 0} (seen : D → Seen) (Taken : List ℕ → Type 0) (old new
   run_rose input status text (not_read same s t (bad_line line cause first none)) disk = cc
   run_rose input status text (batches_read batches is s t due) disk = batches_rose batches s t due disk
 
+-- of what is served while it is read, an opening or an entry tells of a device, and no end of the reading
+module _ {S D : Type 0} (left : S → Option (List ℕ)) (seen : D → Seen) (Taken : List ℕ → Type 0) (source source' : S) (old new : D) where
+  stopped_rose : (why : Stop) (due : ExitStatus) (text : List ℕ) → IsLiveHeadline seen Taken (left source) (left source') old new why due text → stop_status why due ≡ statuses.Disk → HasRisen (seen old).count (seen new).count
+  stopped_rose stop.Fence due text h disk = headline_rose seen Taken old new h.batches due text h.ran disk
+  stopped_rose stop.End due text h disk = headline_rose seen Taken old new h.batches due text h.ran disk
+  stopped_rose (stop.BadLine line cause) due text h disk = cc
+  stopped_rose stop.Failed due text h disk = cc
+  stopped_rose stop.TooLong due text h disk = cc
+  stopped_rose stop.Memory due text h disk = cc
+
+  live_rose : (status : ExitStatus) (text : List ℕ) → IsLiveDue left seen Taken source source' old new status text → status ≡ statuses.Disk → HasRisen (seen old).count (seen new).count
+  live_rose status text (not_begun same s t some due) disk = batches_rose seen Taken old new [] s t due disk
+  live_rose status text (broken_off why t h) disk = cc
+  live_rose status text (all_served why due t some h apart at_end) disk = stopped_rose why due t h disk
+
 trial_rose : (P : Type 0) (firms claims seed : ℕ) (status : ExitStatus) (text : List ℕ) → IsTrialDue firms claims seed status text → status ≡ statuses.Disk → P
 trial_rose P firms claims seed status text no_trial_memory disk = cc
 trial_rose P firms claims seed status text (tried line is) disk = cc
@@ -71,6 +88,7 @@ read_rose P Due Untouched left left_new rose status text (input_read input all s
 module _ {S D : Type 0} (left : S → Option (List ℕ)) (seen : D → Seen) (Taken : List ℕ → Type 0) (source source' : S) (old new : D) where
   command_rose : (command : Command) (status : ExitStatus) (text : List ℕ) → IsCommandDue left seen Taken source source' old new command status text → status ≡ statuses.Disk → HasRisen (seen old).count (seen new).count
   command_rose commands.Run status text due disk = read_rose (HasRisen (seen old).count (seen new).count) (IsRunDue seen Taken old new) (new ≡ old) (left source) (left source') (run_rose seen Taken old new) status text due disk
+  command_rose commands.Live status text due disk = live_rose left seen Taken source source' old new status text due disk
   command_rose (commands.OnInput report) status text due disk =
       read_rose (HasRisen (seen old).count (seen new).count) (IsInputDue report) (Unit {0}) (left source) (left source')
       (λ input s t told is. absurd (other_than statuses.Disk (statuses.Done ∷ statuses.No ∷ statuses.Form ∷ statuses.Memory ∷ []) s refl is (input_one report input s t told))) status text due.1 disk

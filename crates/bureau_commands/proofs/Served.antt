@@ -38,16 +38,18 @@ use Rattle.bureau_desk.specs.Opening.{IsDeskOpen}
 use Rattle.bureau_desk.proofs.Left.{left_law}
 use Rattle.round_journal.specs.Opened.{AreFound}
 use Rattle.served_lines.specs.Bound.{AreRequests}
-use Rattle.bureau_commands.proofs.Bound.{none_full_of}
+use Rattle.bureau_commands.proofs.Bound.{front_asked, none_full_of}
+use Rattle.live_intake.specs.declared.stop.Stop.{Stop}
+use Rattle.live_runs.specs.Serving.{HasServedInput}
 use Rattle.printed_text.specs.declared.exit_status.ExitStatus.{ExitStatus}
 use Rattle.printed_text.specs.declared.exit_status.ExitStatus.TheVariants as statuses
 use Rattle.printed_text.specs.Printing.{added_text, printed_of}
-use Rattle.printed_text.specs.Writing.{broken}
+use Rattle.printed_text.specs.Writing.{IsWritten, broken, whole}
 use Rattle.batch_runs.specs.Runs.{Done, AreOf, AreServed, HasTaken, all_added, but_last, requests_of, text_of}
 use Rattle.bureau_commands.specs.Journals.{HoldsSound}
 use Rattle.bureau_commands.specs.Headline.{IsHeadline, LeavesDisk, SurvivesCrashes, run_text, sure_text}
 use Rattle.batch_runs.specs.Serving.{HasRunBatches, HasSameOpening}
-use Rattle.bureau_commands.specs.Due.{IsBatchesDue, WroteTaking}
+use Rattle.bureau_commands.specs.Due.{IsBatchesDue, IsLiveDue, IsLiveHeadline, IsNotBegunDue, WroteTaking, all_served, broken_off, stop_status, stop_text}
 use Rattle.bureau_commands.specs.Due.{served as served_due}
 use Rattle.bureau_reports.proofs.Written.{written_after, wrote_line}
 
@@ -106,6 +108,21 @@ none_begun seen old d opening =
 
 taken_after : (x y z : Option (List ℕ)) (first text : List ℕ) → Appends x y first → HasTaken y z text → HasTaken x z (first ++ text)
 taken_after x y z first text before taken = (taken.0, subst (Appends x z) (sym (append_assoc first text taken.0)) (Appends-then x y z first (text ++ taken.0) before taken.1))
+
+taken_later : (x z w : Option (List ℕ)) (text said : List ℕ) (due status : ExitStatus) → HasTaken x z text → IsWritten z w due said status → HasTaken x w text
+taken_later x z w text said due status taken (whole all) = (taken.0 ++ said, subst (Appends x w) (append_assoc text taken.0 said) (Appends-then x z w (text ++ taken.0) said taken.1 all))
+taken_later x z w text said due status taken (broken part) =
+    (taken.0 ++ part.0, subst (Appends x w) (append_assoc text taken.0 part.0) (Appends-then x z w (text ++ taken.0) part.0 taken.1 part.3))
+
+-- the sink took the text, and what is told is what was due
+took_all : (x z : Option (List ℕ)) (due : ExitStatus) (text : List ℕ) (status : ExitStatus) → (status ≡ statuses.Sink → ⊥) → IsWritten x z due text status → (due ≡ status) × Appends x z text
+took_all x z due text status took (whole all) = (refl, all)
+took_all x z due text status took (broken part) = absurd (took refl)
+
+-- where it failed, that is due
+sink_due : (x z : Option (List ℕ)) (due : ExitStatus) (text : List ℕ) (status : ExitStatus) → status ≡ statuses.Sink → IsWritten x z due text status → IsWritten x z statuses.Sink text statuses.Sink
+sink_due x z due text status sink (whole all) = whole all
+sink_due x z due text status sink (broken part) = broken part
 
 module _ {D : Type 0} (seen : D → Seen) (old : D) (first last : DeskView D) (opening : IsDeskOpen seen old first) (keeps : KeepsDesk seen last) (base : HasSameOpening first last) where
   abbrev opened : List PoolEntry
@@ -208,12 +225,62 @@ module _ {D : Type 0} (seen : D → Seen) (old : D) (first last : DeskView D) (o
       (written_after x y z (added_text opened (drop (length opened) first.history)) _ ran.due status line ran.written)
 
   -- the sink failed at the lines of the abandonments
-  pub wrote_begun : (x y : Option (List ℕ)) (batches : List (List Request)) → AreRequests (requests_of batches) → last ≡ first → AppendsPart x y (printed_of (take first.opened_with first.history) (drop first.opened_with first.history) [])
-      → WroteTaking (λ Taken. IsBatchesDue seen Taken old last.disk batches) x y statuses.Sink
-  wrote_begun x y batches asked same part =
+  pub wrote_begun : (x y : Option (List ℕ)) → last ≡ first → AppendsPart x y (printed_of (take first.opened_with first.history) (drop first.opened_with first.history) [])
+      → WroteTaking (λ Taken. IsNotBegunDue seen Taken old last.disk) x y statuses.Sink
+  wrote_begun x y same part =
       let none : List Done = [] in
       let Taken : List ℕ → Type 0 = HasTaken x y in
-      wrote_line (IsBatchesDue seen Taken old last.disk batches) x y statuses.Sink (run_text opened first.history none) statuses.Sink
-      (served_due statuses.Sink (run_text opened first.history none)
-      (headline Taken batches none statuses.Sink asked (record { rest = batches; in_order = refl; ended = inr refl }) (ap (λ (d : DeskView D). d.history) same ∙ sym (append-nil first.history)) tt (λ e. same) (part.0, part.3)))
+      wrote_line (IsNotBegunDue seen Taken old last.disk) x y statuses.Sink (run_text opened first.history none) statuses.Sink (
+        (λ is. cc),
+        (λ batches asked. served_due statuses.Sink (run_text opened first.history none)
+            (headline Taken batches none statuses.Sink asked (record { rest = batches; in_order = refl; ended = inr refl }) (ap (λ (d : DeskView D). d.history) same ∙ sym (append-nil first.history)) tt (λ e. same) (part.0, part.3))),
+      )
       (broken (AppendsPart-front x y (added_text opened (drop (length opened) first.history)) [] (subst (AppendsPart x y) begun_text part)))
+
+  -- ---- an input that was served while it was read
+
+  module _ {S : Type 0} (left : S → Option (List ℕ)) (source source' : S) (low high : ℕ) (x y z w : Option (List ℕ)) (why : Stop)
+      (before : Appends x y (printed_of (take first.opened_with first.history) (drop first.opened_with first.history) [])) where
+    -- the batches are those of its front
+    live_headline : (due : ExitStatus) (h : HasServedInput seen (left source) (left source') low high first last y z why due) → AreOf h.batches due h.ran.done → HasTaken x w (sure_text opened first.history h.ran.done)
+        → IsLiveHeadline seen (HasTaken x w) (left source) (left source') old last.disk why due (run_text opened first.history h.ran.done)
+    unfolding headline
+    live_headline due h all taken = record {
+      taken = h.taken;
+      consumed = h.consumed;
+      batches = h.batches;
+      front = h.front;
+      ran = headline (HasTaken x w) h.batches h.ran.done due (front_asked (left source') h.taken h.batches why h.front) all h.ran.history h.ran.served h.ran.none taken;
+      no_more = h.no_more;
+    }
+
+    line : Appends x y (added_text opened (drop (length opened) first.history))
+    line = subst (Appends x y) begun_text before
+
+    surely : (due : ExitStatus) (h : HasServedInput seen (left source) (left source') low high first last y z why due) → HasTaken x z (sure_text opened first.history h.ran.done)
+    surely due h = sure_taken x z h.ran.done (taken_after x y z (added_text opened (drop (length opened) first.history)) (text_of first.history (but_last h.ran.done)) line h.ran.told)
+
+    -- all were, and the fault by which the reading ended was told, where there was one
+    pub wrote_live : (due status : ExitStatus) → (due ≡ statuses.Sink → ⊥) → HasServedInput seen (left source) (left source') low high first last y z why due → IsWritten z w (stop_status why due) (stop_text why) status
+        → WroteTaking (λ Taken. IsLiveDue left seen Taken source source' old last.disk) x w status
+    unfolding live_headline
+    wrote_live due status took h told =
+        let text = run_text opened first.history h.ran.done in
+        let same = took_all y z h.ran.due (text_of first.history h.ran.done) due took h.ran.written in
+        let taken = taken_later x z w (sure_text opened first.history h.ran.done) (stop_text why) (stop_status why due) status (surely due h) told in
+        wrote_line (IsLiveDue left seen (HasTaken x w) source source' old last.disk) x w (stop_status why due) (text ++ stop_text why) status
+        (all_served why due text took (live_headline due h (subst (λ (n : ExitStatus). AreOf h.batches n h.ran.done) same.0 h.ran.all) taken) (h.ended took) (h.all took))
+        (written_after x z w text (stop_text why) (stop_status why due) status
+        (Appends-then x y z (added_text opened (drop (length opened) first.history)) (text_of first.history h.ran.done) line same.1) told)
+
+  -- the sink failed at the text of a batch
+  pub wrote_broken : {S : Type 0} (left : S → Option (List ℕ)) (source source' : S) (low high : ℕ) (x y z : Option (List ℕ)) (why : Stop) (due : ExitStatus) → due ≡ statuses.Sink
+      → Appends x y (printed_of (take first.opened_with first.history) (drop first.opened_with first.history) [])
+      → HasServedInput seen (left source) (left source') low high first last y z why due → WroteTaking (λ Taken. IsLiveDue left seen Taken source source' old last.disk) x z statuses.Sink
+  wrote_broken left source source' low high x y z why due sink before served =
+      let h = subst (λ (n : ExitStatus). HasServedInput seen (left source) (left source') low high first last y z why n) sink served in
+      let text = run_text opened first.history h.ran.done in
+      wrote_line (IsLiveDue left seen (HasTaken x z) source source' old last.disk) x z statuses.Sink text statuses.Sink
+      (broken_off why text (live_headline left source source' low high x y z z why before statuses.Sink h (record { rest = h.ran.all.rest; in_order = h.ran.all.in_order; ended = inr refl }) (surely left source source' low high x y z z why before statuses.Sink h)))
+      (written_after x y z (added_text opened (drop (length opened) first.history)) (text_of first.history h.ran.done) statuses.Sink statuses.Sink (line left source source' low high x y z z why before)
+      (sink_due y z h.ran.due (text_of first.history h.ran.done) statuses.Sink refl h.ran.written))

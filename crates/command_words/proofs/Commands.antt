@@ -18,7 +18,7 @@ use Rattle.command_words.specs.declared.journal_report.JournalReport.TheVariants
 use Rattle.command_words.specs.Program.{program}
 use Rattle.command_words.specs.Words.{AreNoWords, AreWordsOf, IsCommand, IsPool, OneCommandLaw, name_of, pool_values, values_of, words_of}
 use Rattle.command_words.specs.Reading.{IsFoundIn, IsGiven, is_option}
-use Rattle.command_words.proofs.Walks.{IsEntered, IsPlain, IsPlainPool, audit_entered, check_entered, explain_entered, first_is, found_is, history_entered, history_rest, history_taken, history_values, import_entered, import_rest, import_taken, import_values, known_name, name_and, name_and_pool, name_and_three, name_and_two, no_words, notices_entered, notices_rest, notices_taken, notices_values, or_false, plain_of, plain_rest, plain_taken, positions_entered, positions_rest, positions_taken, positions_values, run_entered, statement_entered, statement_rest, statement_taken, statement_values, sub_is, trial_entered, trial_rest, trial_taken, trial_values, weigh_entered, weigh_rest, weigh_taken, weigh_values}
+use Rattle.command_words.proofs.Walks.{IsEntered, IsPlain, IsPlainPool, audit_entered, check_entered, explain_entered, first_is, found_is, history_entered, history_rest, history_taken, history_values, import_entered, import_rest, import_taken, import_values, known_name, live_entered, name_and, name_and_pool, name_and_three, name_and_two, no_words, notices_entered, notices_rest, notices_taken, notices_values, or_false, plain_of, plain_rest, plain_taken, positions_entered, positions_rest, positions_taken, positions_values, run_entered, statement_entered, statement_rest, statement_taken, statement_values, sub_is, trial_entered, trial_rest, trial_taken, trial_values, weigh_entered, weigh_rest, weigh_taken, weigh_values}
 
 -- ---- texts of values
 
@@ -96,6 +96,7 @@ pool_is (Some x) (Some y) e = ap (λ (ws : List Text). Some (get_or ws 0 [])) e
 -- a command with the words of another
 of_words : DayTextsLaw → (c d : Command) → IsCommand c → IsCommand d → words_of c ≡ words_of d → c ≡ d
 of_words days commands.Run d p q e = grind (arith, same_name commands.Run d e)
+of_words days commands.Live d p q e = grind (arith, same_name commands.Live d e)
 of_words days (commands.OnInput inputs.Check) d p q e = grind (arith, same_name (commands.OnInput inputs.Check) d e)
 of_words days (commands.OnInput inputs.Explain) d p q e = grind (arith, same_name (commands.OnInput inputs.Explain) d e)
 of_words days (commands.OnJournal journals.Audit) d p q e = grind (arith, same_name (commands.OnJournal journals.Audit) d e)
@@ -137,6 +138,7 @@ one_command days words c d p q = of_words days c d p.0 q.0 (sym p.1 ∙ q.1)
 -- no word of a command begins with a hyphen
 pub words_plain : (c : Command) → IsCommand c → list_any is_option (words_of c) ≡ false
 words_plain commands.Run p = refl
+words_plain commands.Live p = refl
 words_plain (commands.OnInput inputs.Check) p = refl
 words_plain (commands.OnInput inputs.Explain) p = refl
 words_plain (commands.OnJournal journals.Audit) p = refl
@@ -151,6 +153,7 @@ words_plain (commands.Trial x y z) p = rw (decimal_plain x (omega (arith, p.1)),
 -- `clap` takes the words of a command
 pub words_taken : (c : Command) → IsCommand c → fault_of program (words_of c) ≡ []
 words_taken commands.Run p = plain_taken _ run_entered
+words_taken commands.Live p = plain_taken _ live_entered
 words_taken (commands.OnInput inputs.Check) p = plain_taken _ check_entered
 words_taken (commands.OnInput inputs.Explain) p = plain_taken _ explain_entered
 words_taken (commands.OnJournal journals.Audit) p = plain_taken _ audit_entered
@@ -172,6 +175,7 @@ number_word n small = plain_of _ (decimal_plain n small)
 
 words_name : (c : Command) → IsCommand c → (found : Text) (rows : List Row) → subcommand_of program (words_of c) ≡ Some (found, rows) → IsGiven c found (λ id. first_of id rows)
 words_name commands.Run p found rows e = (known_name _ _ run_entered refl [] found rows e, tt)
+words_name commands.Live p found rows e = (known_name _ _ live_entered refl [] found rows e, tt)
 words_name (commands.OnInput inputs.Check) p found rows e = (known_name _ _ check_entered refl [] found rows e, tt)
 words_name (commands.OnInput inputs.Explain) p found rows e = (known_name _ _ explain_entered refl [] found rows e, tt)
 words_name (commands.OnJournal journals.Audit) p found rows e = (known_name _ _ audit_entered refl [] found rows e, tt)
@@ -212,6 +216,7 @@ not_found name s entered rest e = absurd (cc (sym (sub_is name s entered rest) �
 
 words_named : (c : Command) → subcommand_of program (words_of c) ≡ None → ⊥
 words_named commands.Run e = not_found _ _ run_entered [] e
+words_named commands.Live e = not_found _ _ live_entered [] e
 words_named (commands.OnInput inputs.Check) e = not_found _ _ check_entered [] e
 words_named (commands.OnInput inputs.Explain) e = not_found _ _ explain_entered [] e
 words_named (commands.OnJournal journals.Audit) e = not_found _ _ audit_entered [] e
@@ -237,6 +242,7 @@ words_found c p = go (subcommand_of program (words_of c)) refl
 after_name : (c : Command) (found : Text) (rows : List Row) → IsGiven c found (λ id. first_of id rows) → (rest : List Text) → list_any is_option rest ≡ false
     → fault_of program (name_of c ∷ rest) ≡ [] → subcommand_of program (name_of c ∷ rest) ≡ Some (found, rows) → rest ≡ values_of c
 after_name commands.Run found rows given rest plain none is = plain_rest _ run_entered rest plain none
+after_name commands.Live found rows given rest plain none is = plain_rest _ live_entered rest plain none
 after_name (commands.OnInput inputs.Check) found rows given rest plain none is = plain_rest _ check_entered rest plain none
 after_name (commands.OnInput inputs.Explain) found rows given rest plain none is = plain_rest _ explain_entered rest plain none
 after_name (commands.OnJournal journals.Audit) found rows given rest plain none is = plain_rest _ audit_entered rest plain none

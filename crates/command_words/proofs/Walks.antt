@@ -202,6 +202,10 @@ pub run_entered : IsEntered (codes "run") (leaf (codes "run") [])
 unfolding clap_on_literals
 run_entered = record { walked_to = refl; no_fault = refl; found = refl }
 
+pub live_entered : IsEntered (codes "live") (leaf (codes "live") [])
+unfolding clap_on_literals
+live_entered = record { walked_to = refl; no_fault = refl; found = refl }
+
 pub check_entered : IsEntered (codes "check") (leaf (codes "check") [])
 unfolding clap_on_literals
 check_entered = record { walked_to = refl; no_fault = refl; found = refl }
@@ -245,6 +249,7 @@ trial_entered = record { walked_to = refl; no_fault = refl; found = refl }
 -- the word is no command's name
 record IsUnknown (w : Text) : Type 0 where
   pub run : bytes_eq (codes "run") w ≡ false
+  pub live : bytes_eq (codes "live") w ≡ false
   pub check : bytes_eq (codes "check") w ≡ false
   pub explain : bytes_eq (codes "explain") w ≡ false
   pub audit : bytes_eq (codes "audit") w ≡ false
@@ -258,7 +263,7 @@ record IsUnknown (w : Text) : Type 0 where
 
 unknown_refused : {P : Type 0} (w : Text) (rest : List Text) → IsPlain w → IsUnknown w → fault_of program (w ∷ rest) ≡ [] → P
 unfolding clap_on_literals
-unknown_refused w rest p u e = some_kind _ _ (rw (u.run, u.check, u.explain, u.audit, u.positions, u.notices, u.import_, u.weigh, u.history, u.statement, u.trial, p.dashes, p.long, p.short) at e)
+unknown_refused w rest p u e = some_kind _ _ (rw (u.run, u.live, u.check, u.explain, u.audit, u.positions, u.notices, u.import_, u.weigh, u.history, u.statement, u.trial, p.dashes, p.long, p.short) at e)
 
 pub sub_is : (name : Text) (s : Shape) → IsEntered name s → (rest : List Text) → subcommand_of program (name ∷ rest) ≡ Some (rows_at s rest)
 sub_is name s e rest = ap (λ (w : Walk). entered whole w.stopped) (walk_is name s e rest) ∙ rw e.found refl
@@ -283,7 +288,8 @@ pub first_is : (w : Text) → is_option w ≡ false → (rest : List Text) → f
 first_is w plain rest none found rows =
     let P : Text → Type 0 = λ word. fault_of program (word ∷ rest) ≡ [] → subcommand_of program (word ∷ rest) ≡ Some (found, rows) → found ≡ word in
     decided P (codes "run") w (λ _. known_name _ _ run_entered refl rest found rows)
-    (λ run. decided P (codes "check") w (λ _. known_name _ _ check_entered refl rest found rows)
+    (λ run. decided P (codes "live") w (λ _. known_name _ _ live_entered refl rest found rows)
+    (λ live. decided P (codes "check") w (λ _. known_name _ _ check_entered refl rest found rows)
     (λ check. decided P (codes "explain") w (λ _. known_name _ _ explain_entered refl rest found rows)
     (λ explain. decided P (codes "audit") w (λ _. known_name _ _ audit_entered refl rest found rows)
     (λ audit. decided P (codes "positions") w (λ _. known_name _ _ positions_entered refl rest found rows)
@@ -294,8 +300,8 @@ first_is w plain rest none found rows =
     (λ history. decided P (codes "statement") w (λ _. known_name _ _ statement_entered refl rest found rows)
     (λ statement. decided P (codes "trial") w (λ _. known_name _ _ trial_entered refl rest found rows)
     (λ trial. λ e _. unknown_refused w rest (plain_of w plain)
-    (record { run = run; check = check; explain = explain; audit = audit; positions = positions; notices = notices; import_ = import_; weigh = weigh; history = history; statement = statement; trial = trial })
-    e))))))))))) none
+    (record { run = run; live = live; check = check; explain = explain; audit = audit; positions = positions; notices = notices; import_ = import_; weigh = weigh; history = history; statement = statement; trial = trial })
+    e)))))))))))) none
 
 -- a first word is asked for
 pub no_words : {P : Type 0} → fault_of program [] ≡ [] → P

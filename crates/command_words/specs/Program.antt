@@ -36,7 +36,8 @@ knowing name rules app = with_subcommand app (shape_of name rules)
 
 -- the program with the commands that take no value
 abbrev pub plain : App
-plain = knowing (codes "audit") [] (knowing (codes "explain") [] (knowing (codes "check") [] (knowing (codes "run") [] bare)))
+plain = knowing (codes "audit") [] (knowing (codes "explain") [] (knowing (codes "check") []
+    (knowing (codes "live") [] (knowing (codes "run") [] bare))))
 
 -- the values of the table of claims
 abbrev pub notices_values : List Rule

@@ -18,6 +18,7 @@ is_option (byte ∷ rest) = byte == 45
 -- the values that are told by their names are those of the command
 abbrev pub AreGiven : Command → (List ℕ → Option (List ℕ)) → Type 0
 AreGiven commands.Run value = Unit {0}
+AreGiven commands.Live value = Unit {0}
 AreGiven (commands.OnInput inputs.Check) value = Unit {0}
 AreGiven (commands.OnInput inputs.Explain) value = Unit {0}
 AreGiven (commands.OnInput (inputs.Import lane)) value = value (codes "LANE") ≡ Some (decimal lane)

@@ -20,6 +20,7 @@ IsPool (Some pool) = is_name pool ≡ true
 -- the values of a command are in their ranges
 abbrev pub IsCommand : Command → Type 0
 IsCommand commands.Run = Unit {0}
+IsCommand commands.Live = Unit {0}
 IsCommand (commands.OnInput inputs.Check) = Unit {0}
 IsCommand (commands.OnInput inputs.Explain) = Unit {0}
 IsCommand (commands.OnInput (inputs.Import lane)) = IsLane lane
@@ -34,6 +35,7 @@ IsCommand (commands.Trial firms claims seed) = (2 ≤ firms) × (firms ≤ MOST_
 -- the first word of a command
 abbrev pub name_of : Command → List ℕ
 name_of commands.Run = codes "run"
+name_of commands.Live = codes "live"
 name_of (commands.OnInput inputs.Check) = codes "check"
 name_of (commands.OnInput inputs.Explain) = codes "explain"
 name_of (commands.OnInput (inputs.Import lane)) = codes "import"
@@ -53,6 +55,7 @@ pool_values (Some pool) = pool ∷ []
 -- the values of a command, as they are spelled
 abbrev pub values_of : Command → List (List ℕ)
 values_of commands.Run = []
+values_of commands.Live = []
 values_of (commands.OnInput inputs.Check) = []
 values_of (commands.OnInput inputs.Explain) = []
 values_of (commands.OnInput (inputs.Import lane)) = decimal lane ∷ []

@@ -7,6 +7,8 @@ use crate::journal_report::JournalReport;
 pub enum Command {
     /// `run`: serves the requests of the source on the disk.
     Run,
+    /// `live`: serves the requests of the source on the disk while it is read.
+    Live,
     /// A report on the input of the source.
     OnInput(InputReport),
     /// A report on the journal of the disk.

@@ -1,7 +1,7 @@
 //! The words of the program's command line.
 //!
-//! A command is a first word and the values that it takes: `run`, `check`, `explain`, `audit`, `positions`, `positions POOL`,
-//! `notices DATE`, `notices DATE POOL`, `weigh KIND DATE`, `history`, `history POOL`, `statement ROUND`, `statement ROUND POOL`,
+//! A command is a first word and the values that it takes: `run`, `live`, `check`, `explain`, `audit`, `positions`,
+//! `positions POOL`, `notices DATE`, `notices DATE POOL`, `weigh KIND DATE`, `history`, `history POOL`, `statement ROUND`, `statement ROUND POOL`,
 //! `import LANE` or `trial FIRMS CLAIMS SEED`. The words are exactly such a list, or are refused.
 //!
 //! - A word that begins with `-` is refused before the parse.

@@ -122,6 +122,7 @@ pub(crate) fn program<'a>(alloc: Global) -> Result<Command<'a>, AllocError>
         .disable_help_subcommand(true)
         .subcommand_required(true)
         .subcommand(Command::new(alloc, "run"))?
+        .subcommand(Command::new(alloc, "live"))?
         .subcommand(Command::new(alloc, "check"))?
         .subcommand(Command::new(alloc, "explain"))?
         .subcommand(Command::new(alloc, "audit"))?;

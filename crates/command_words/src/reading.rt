@@ -163,6 +163,7 @@ fn given(name: &str, values: &ArgMatches) -> Option<Command>
 {
     match name {
         "run" => Some(Command::Run),
+        "live" => Some(Command::Live),
         "check" => Some(Command::OnInput(InputReport::Check)),
         "explain" => Some(Command::OnInput(InputReport::Explain)),
         "import" => import_at(values),

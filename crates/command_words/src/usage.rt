@@ -3,6 +3,7 @@
 /// The commands, each on a line with what it does, for the error stream where the words are none of them.
 pub const USAGE: &str = "\
 run                       serves the requests of the input, and keeps them in the journal
+live                      serves them while the input is read, each batch when its FENCE has come
 check                     judges the statement of the input
 explain                   cuts the round of the statement into chains of claims
 audit                     replays the journal, and tells whether it is sound

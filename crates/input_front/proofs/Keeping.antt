@@ -9,9 +9,9 @@ use Rattle.request_text.specs.declared.request.Request.{Request}
 use Rattle.input_front.specs.declared.line.Line.{Line}
 use Rattle.input_front.specs.declared.line.Line.TheVariants as line
 use Rattle.input_front.specs.Front.{Says}
-use Rattle.input_front.specs.Taken.{HasAsked, HasFenced, HasNoFeed, HasNoLine, IntakeView, IsEnded, IsFirstBad, IsIntake, most_taken}
+use Rattle.input_front.specs.Taken.{HasAsked, HasFenced, HasNoFeed, HasNoLine, IntakeView, IsEnded, IsFirstBad, IsIntake, StaysBad, most_taken}
 use Rattle.input_front.proofs.Parts.{ended_behind, no_lines, none_left, sought_to, text_alone}
-use Rattle.input_front.proofs.Reading.{found, has_asked, has_fenced, first_bad, keeps_asked, keeps_begun, keeps_fenced, keeps_read, no_line}
+use Rattle.input_front.proofs.Reading.{found, has_asked, has_fenced, first_bad, keeps_asked, keeps_begun, keeps_fenced, keeps_read, no_line, stays_bad}
 
 -- ---- the next line, whose line feed stands behind a place up to which none does
 
@@ -47,10 +47,10 @@ module _ (v : IntakeView) (sought : ℕ) (kept : IsIntake v sought) (begun : v.f
           keeps_fenced v n line_there sought kept begun (sought + at) (v.lines + 1) to refl s,
         )
 
-    pub next_bad : (number : ℕ) (cause : LineCause) → said ≡ line.Bad number cause → IsFirstBad v number cause
+    pub next_bad : (number : ℕ) (cause : LineCause) → said ≡ line.Bad number cause → IsFirstBad v number cause × StaysBad v number cause
     next_bad number cause bad =
         let s : Says (v.lines + 1) (found v n line_there) (line.Bad number cause) = subst (Says (v.lines + 1) (found v n line_there)) bad says_found in
-        first_bad v n line_there number cause s.0 s.1
+        (first_bad v n line_there number cause s.0 s.1, stays_bad v n line_there number cause s.0 s.1)
 
 -- ---- what stays
 

@@ -82,6 +82,15 @@ module _ (bytes : List ℕ) (read n : ℕ) (ended : IsEnded (drop read bytes) n)
     ap whole_lines all ∙ h.as_whole (text ++ rest) ∙ ap (λ l. before ++ l) (text_whole.as_whole rest),
   )
 
+  -- whatever follows the bytes
+  pub comes_still : (before : List (List ℕ)) → IsWhole (take read bytes) before → (more : List ℕ) → lines (bytes ++ more) ≡ before ++ found ∷ lines (rest ++ more)
+  comes_still before h more =
+      ap (λ l. lines (l ++ more)) all
+      ∙ ap lines (append_assoc (take read bytes) (text ++ rest) more)
+      ∙ h.as_lines ((text ++ rest) ++ more)
+      ∙ ap (λ l. before ++ lines l) (append_assoc text rest more)
+      ∙ ap (λ l. before ++ l) (text_whole.as_lines (rest ++ more))
+
 -- ---- where the first line feed stands
 
 no_feed : (bytes : List ℕ) (n : ℕ) → n ≤ length bytes → ((k : ℕ) → k < n → get_or bytes k 0 ≡ 10 → ⊥) → HasNoFeed (take n bytes)

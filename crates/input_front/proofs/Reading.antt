@@ -12,9 +12,9 @@ use Rattle.request_text.proofs.Causes.{asks_nothing}
 use Rattle.input_front.specs.declared.line.Line.{Line}
 use Rattle.input_front.specs.declared.line.Line.TheVariants as line
 use Rattle.input_front.specs.Front.{AsksNothing, IsBatchAt, Says, whole_lines}
-use Rattle.input_front.specs.Taken.{HasAsked, HasFenced, HasLast, HasNoFeed, HasNoLine, HasRead, IntakeView, IsAsked, IsEnded, IsFirstBad, IsFrontRead, IsIntake, IsWhole, KeepsRead, OfRead}
+use Rattle.input_front.specs.Taken.{HasAsked, HasFenced, HasLast, HasNoFeed, HasNoLine, HasRead, IntakeView, IsAsked, IsEnded, IsFirstBad, IsFrontRead, IsIntake, IsWhole, KeepsRead, OfRead, StaysBad}
 use mathlib.Core.Bool.{true≢false}
-use Rattle.input_front.proofs.Parts.{comes_next, goes_on, last_whole, none_there, none_whole}
+use Rattle.input_front.proofs.Parts.{comes_next, comes_still, goes_on, last_whole, none_there, none_whole}
 use Rattle.input_front.proofs.Spelled.{no_fence, with_fence, with_request}
 
 -- what a request asks can be asked
@@ -71,6 +71,19 @@ module _ (v : IntakeView) (n : ℕ) (e : IsEnded (drop v.read v.taken) n) where
         let next = comes_next v.taken v.read n e h.before h.whole in
         record { before = h.before; after = found ∷ next.1; cut = next.3; spelled = h.spelled; stops = (bad.no_fence, bad_asks_nothing found cause bad) }),
   )
+
+  -- and is so whatever follows
+  pub stays_bad : (number : ℕ) (cause : LineCause) → number ≡ v.lines + 1 → IsBadLine found cause → StaysBad v number cause
+  stays_bad number cause number_is bad = λ more ended batch h. record {
+    before = h.before;
+    line = found;
+    after = lines (drop n (drop v.read v.taken) ++ more);
+    cut = comes_still v.taken v.read n e h.before h.whole more;
+    number_is = omega (arith, number_is, h.counted);
+    batches = ended ++ batch ∷ [];
+    spelled = h.spelled;
+    bad = bad;
+  }
 
   more_read : v.read < v.read + n
   more_read = omega (arith, e.some)

@@ -16,6 +16,10 @@ use Rattle.input_front.specs.Front.{IsBatchAt, IsFrontOf, is_feed, whole_lines}
 abbrev pub most_taken : ℕ
 most_taken = 2 ^ 26
 
+-- the most bytes that a source is asked for at once
+abbrev pub most_at_once : ℕ
+most_at_once = 4096
+
 -- the most bytes that are taken, those taken, how many of them and how many lines were read, how many batches have begun, and whether
 -- the last of these ended with a fence
 pub record IntakeView : Type 0 where
@@ -87,6 +91,10 @@ pub record IsAsked (number : ℕ) (request : Request) : Type 0 where
 abbrev pub IsFirstBad : IntakeView → ℕ → LineCause → Type 0
 IsFirstBad v number cause = OfRead v (λ ended batch. IsFirstBadLine v.taken number cause) × IsFrontTaken v
 
+-- that stays so, whatever follows the bytes that were taken
+abbrev pub StaysBad : IntakeView → ℕ → LineCause → Type 0
+StaysBad v number cause = (rest : List ℕ) → OfRead v (λ ended batch. IsFirstBadLine (v.taken ++ rest) number cause)
+
 -- a line was read which asks this of the batch
 pub record HasAsked (old new : IntakeView) (request : Request) : Type 0 where
   pub later : old.read < new.read
@@ -105,7 +113,7 @@ pub record HasFenced (old new : IntakeView) : Type 0 where
 abbrev pub HasNext : IntakeView → IntakeView → Line → Type 0
 HasNext old new (line.Asks request) = HasAsked old new request
 HasNext old new line.Fence = HasFenced old new
-HasNext old new (line.Bad number cause) = (new ≡ old) × IsFirstBad old number cause
+HasNext old new (line.Bad number cause) = (new ≡ old) × IsFirstBad old number cause × StaysBad old number cause
 HasNext old new line.Memory = (new ≡ old) × IsFrontRead old
 
 -- what the rest of an input that has ended says, which has no line feed: it is the last line, where it is one
@@ -124,6 +132,7 @@ pub record HasPiece (left_old left_new : Option (List ℕ)) (old new : IntakeVie
   pub same : new ≡ record old { taken = old.taken ++ piece }
   pub consumed : Consumes left_old left_new piece
   pub some : 1 ≤ length piece
+  pub few : length piece ≤ most_at_once
   pub within : length new.taken ≤ old.limit + 1
   pub reads : KeepsRead old new
 

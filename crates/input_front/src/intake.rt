@@ -10,7 +10,7 @@ use std::alloc::{AllocError, Global};
 use std::marker::Model;
 
 /// How many bytes a source is asked for at once, at most.
-const PIECE: usize = 4096;
+pub const PIECE: usize = 4096;
 
 /// What came of asking a source for more.
 #[derive(Clone, Copy, PartialEq, Eq)]
@@ -66,7 +66,7 @@ impl Model for Intake {
 }
 
 impl Intake {
-    ghost use Rattle.std.specs.Prelude.{◌≡◌, ◌+◌, ◌≤◌, [], length, drop, true, false, IfOk, IfNone, IfSome};
+    ghost use Rattle.std.specs.Prelude.{◌≡◌, ◌+◌, ◌-◌, ◌≤◌, [], length, drop, true, false, IfOk, IfNone, IfSome};
     ghost use Rattle.input_front.specs.Taken.{HasBatches, HasCome, HasFailed, HasLast, HasNext, HasNoFeed, HasNoLine};
     ghost use Rattle.input_front.specs.Taken.{KeepsRead, most_taken};
 
@@ -94,8 +94,25 @@ impl Intake {
         ensures batches { HasBatches self.now }
         ensures within { self.now.read ≤ length self.now.taken }
         ensures held { length self.now.taken ≤ self.now.limit + 1 }
+        ensures numbered { self.now.lines ≤ length self.now.taken }
+        ensures few { self.now.served ≤ length self.now.taken + 1 }
     {
         let _ = &self.limit;
+    }
+
+    /// How many lines were read.
+    pub fn lines(&self) -> u64
+        ensures { result ≡ self.now.lines }
+    {
+        self.lines
+    }
+
+    /// How many of the bytes that were taken were not read.
+    pub fn left(&self) -> usize
+        ensures left { result ≡ length self.now.taken - self.now.read }
+        ensures few { result ≤ most_taken + 1 }
+    {
+        self.bytes.len() - self.read
     }
 
     /// Begins the next batch, after a FENCE or at the front of the input.

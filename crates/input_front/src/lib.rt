@@ -15,7 +15,7 @@ mod intake;
 mod line;
 
 pub use alone::read_alone;
-pub use intake::{Intake, More};
+pub use intake::{Intake, More, PIECE};
 pub use line::Line;
 
 /// An input has one front, which has each batch that is read of it in its place. A law, which does nothing when it is called.

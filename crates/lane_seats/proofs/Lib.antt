@@ -1,4 +1,4 @@
 pub mod Batched
-mod Merged
+pub mod Merged
 pub mod OfLanes
 pub mod Places

@@ -23,8 +23,9 @@ fn told(rt: &impl Abort, alloc: Global, texts: &[&str]) -> Result<Command, Words
 fn each_list_of_words_is_its_command(rt: HostRuntime) {
     let today = Day::read(b"2025-03-31").expect(&rt, "a day");
     let east = Name::of(b"EAST").expect(&rt, "a name");
-    let lists: [(&[&str], Command); 21] = [
+    let lists: [(&[&str], Command); 22] = [
         (&["run"], Command::Run),
+        (&["live"], Command::Live),
         (&["check"], Command::OnInput(InputReport::Check)),
         (&["explain"], Command::OnInput(InputReport::Explain)),
         (&["audit"], Command::OnJournal(JournalReport::Audit)),
@@ -147,6 +148,7 @@ const NO_COMMANDS: &[&[&str]] = &[
     &["run "],
     &["bureau", "run"],
     &["run", "check"],
+    &["live", "1"],
     &["run", ""],
     &["help"],
     &["help", "run"],
@@ -218,6 +220,7 @@ fn other_words_are_refused(rt: HostRuntime) {
 // How the lines of the commands begin.
 const FORMS: &[&str] = &[
     "run ",
+    "live ",
     "check ",
     "explain ",
     "audit ",

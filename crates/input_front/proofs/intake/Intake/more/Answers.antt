@@ -16,6 +16,8 @@ returns-in-Ok-clause-taken g c =
     let asked : length c.read.new.into ≤ c.min.result + 1 = search rules in
     let some : 1 ≤ length piece = search rules in
     let least : c.min.result ≤ i.limit - length i.bytes.items = search rules in
+    let small : c.min.result ≤ 4095 = search rules in
+    let few : length piece ≤ 4096 = omega (arith, bound, count, asked, small) in
     let fits : length i.bytes.items ≤ i.limit = search rules in
     let within : length taken ≤ i.limit + 1 = omega (arith, ap length more, length-append i.bytes.items piece, bound, count, asked, least, fits) in
     let read_in : i.read ≤ length i.bytes.items = omega (arith, c.self.invariant.behind, c.self.invariant.within) in
@@ -25,6 +27,7 @@ returns-in-Ok-clause-taken g c =
       same = ap (λ (t : List ℕ). record v { taken = t }) more;
       consumed = c.in-Ok.ensures.bytes.0;
       some = some;
+      few = few;
       within = within;
       reads = keeps_read v piece taken read_in more;
     })

@@ -1,5 +1,5 @@
 use Rattle.std.proofs.Common.{rules, ◌≡◌, ◌+◌, ◌-◌, false, true, take, drop, refl, sym, subst}
-use Rattle.input_front.specs.Taken.{HasAsked, HasFenced, HasNoFeed, HasNoLine, IntakeView, IsEnded, IsFirstBad}
+use Rattle.input_front.specs.Taken.{HasAsked, HasFenced, HasNoFeed, HasNoLine, IntakeView, IsEnded, IsFirstBad, StaysBad}
 use Rattle.input_front.proofs.Keeping.{kept_sought, next_asked, next_bad, next_fence, nothing_left}
 use Rattle.input_front.proofs.Reading.{front_read}
 use Rattle.input_front.proofs.intake.Intake.next.Goals as goal
@@ -72,7 +72,9 @@ returns-in-Bad-clause-some c =
     let at = c.in-Some.at in
     let e : IsEnded (drop i.sought v.taken) at = search rules in
     let text : c.split_at-3.result.0.now ≡ take (i.sought + at - i.read) (drop i.read v.taken) = search rules in
-    (refl, subst (λ (old : IntakeView). IsFirstBad old c.in-Bad.line c.in-Bad.cause) (sym view) (next_bad v i.sought c.self.invariant begun at e c.split_at-3.result.0.now c.read_alone.result text c.read_alone.ensures c.in-Bad.line c.in-Bad.cause c.in-Bad.is))
+    let bad = subst (λ (old : IntakeView). IsFirstBad old c.in-Bad.line c.in-Bad.cause × StaysBad old c.in-Bad.line c.in-Bad.cause) (sym view)
+    (next_bad v i.sought c.self.invariant begun at e c.split_at-3.result.0.now c.read_alone.result text c.read_alone.ensures c.in-Bad.line c.in-Bad.cause c.in-Bad.is) in
+    (refl, bad.0, bad.1)
 
 pub returns-in-Memory-clause-some : goal.returns-in-Memory-clause-some
 returns-in-Memory-clause-some c = (refl, front_read c.args.self.now)

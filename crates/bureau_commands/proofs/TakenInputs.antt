@@ -1,0 +1,45 @@
+-- An input that a source tells, and the bytes that were taken of it.
+use Rattle.std.specs.Prelude.{Option, Some, None}
+use Rattle.std.proofs.Common.{◌≡◌, ℕ, ◌+◌, ◌≤◌, List, [], ◌∷◌, ◌++◌, length, inl, inr, sym, ◌∙◌, ap, subst, arith}
+use Rattle.std.specs.Io.KnownBytes.{Consumes, IsAtEnd}
+use Rattle.std.proofs.lemmas.List.{append-nil, length-append}
+use Rattle.request_text.specs.declared.error.LineCause.{LineCause}
+use Rattle.request_text.specs.declared.request.Request.{Request}
+use Rattle.request_text.specs.Causes.{IsBadLine}
+use Rattle.request_text.specs.Grammar.{AreBatches, IsFirstBadLine, IsNoRequestText}
+use Rattle.request_text.proofs.Causes.{asks_nothing}
+use Rattle.live_runs.specs.Fronts.{IsBadLineOf}
+
+-- at its end all was taken
+pub all_taken : (input taken : List ℕ) (left_new : Option (List ℕ)) → Consumes (Some input) left_new taken → IsAtEnd left_new → taken ≡ input
+all_taken input taken None h e = absurd h
+all_taken input taken (Some rest) h e = sym (h ∙ ap (λ (t : List ℕ). taken ++ t) e ∙ append-nil taken)
+
+-- some rest follows
+followed : (input taken : List ℕ) (left_new : Option (List ℕ)) → Consumes (Some input) left_new taken → (rest : List ℕ) × (input ≡ taken ++ rest)
+followed input taken None h = absurd h
+followed input taken (Some rest) h = (rest, h)
+
+-- it is no shorter
+pub no_shorter : (input taken : List ℕ) (left_new : Option (List ℕ)) → Consumes (Some input) left_new taken → length taken ≤ length input
+no_shorter input taken left_new h = let f = followed input taken left_new h in omega (arith, ap (λ (t : List ℕ). length t) f.1, length-append taken f.0)
+
+-- ---- a bad line
+
+none_with : (number : ℕ) (before : List (List ℕ)) (line : List ℕ) (after : List (List ℕ)) (cause : LineCause) (all : List (List Request)) → IsBadLine line cause → AreBatches number (before ++ line ∷ after) all → ⊥
+none_with number before line after cause [] bad h = h
+none_with number [] line after cause ([] ∷ batches) bad h = bad.no_fence h.0
+none_with number [] line after cause ((request ∷ requests) ∷ batches) bad h = asks_nothing line cause bad.why request.lane request.pool request.act h.1
+none_with number (b ∷ before) line after cause ([] ∷ batches) bad h = none_with (number + 1) before line after cause batches bad h.1
+none_with number (b ∷ before) line after cause ((request ∷ requests) ∷ batches) bad h = none_with (number + 1) before line after cause (requests ∷ batches) bad h.2
+
+no_text : (input : List ℕ) (number : ℕ) (cause : LineCause) → IsFirstBadLine input number cause → IsNoRequestText input
+no_text input number cause b = λ all h. none_with 1 b.before b.line b.after cause all b.bad (subst (λ (ls : List (List ℕ)). AreBatches 1 ls all) b.cut h)
+
+-- an input with a bad line is in the grammar of no batches
+pub bad_input : (input taken : List ℕ) (left_new : Option (List ℕ)) (number : ℕ) (cause : LineCause) → Consumes (Some input) left_new taken → IsBadLineOf left_new taken number cause → IsNoRequestText input
+bad_input input taken left_new number cause h (first, inl whole) =
+    no_text input number cause (subst (λ (bytes : List ℕ). IsFirstBadLine bytes number cause) (all_taken input taken left_new h whole.0) first)
+bad_input input taken left_new number cause h (first, inr stays) =
+    let f = followed input taken left_new h in
+    no_text input number cause (subst (λ (bytes : List ℕ). IsFirstBadLine bytes number cause) (sym f.1) (stays f.0))

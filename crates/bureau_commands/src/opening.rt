@@ -1,0 +1,73 @@
+//! What stands before the batches of a run: a desk, and the lines of the abandonments.
+ghost use Rattle.std.specs.Prelude.{◌≡◌, ◌≤◌, [], IfErr, IfOk, vec_capacity};
+ghost use Rattle.setoff_model.specs.declared.limits.TheConstants.{OUTPUT_BYTES};
+ghost use Rattle.fault_count.specs.Counts.{HasRisen};
+ghost use Rattle.printed_text.specs.declared.exit_status.ExitStatus.TheVariants as statuses;
+ghost use Rattle.bureau_commands.specs.Due.{HasBegun, IsNotBegunDue, WroteTaking};
+
+use batch_runs::print_added;
+use bureau_desk::{Desk, DeskRefused};
+use bureau_edge::Sink;
+use bureau_reports::tell_refused;
+use disk_model::Disk;
+use printed_text::{ExitStatus, output_buffer, tell_no_memory};
+use std::alloc::Global;
+
+/// A desk on which no batch was served yet, and the buffer of the output.
+#[derive(Drop)]
+pub struct Begun<D: Disk> {
+    /// The desk.
+    pub desk: Desk<D>,
+    /// The buffer, which is empty and has room for `OUTPUT_BYTES`.
+    pub buffer: Vec<u8>,
+}
+
+/// The disk back, and the status, where no batch can be served.
+#[derive(Drop)]
+pub struct NotBegun<D> {
+    /// What the call ends with.
+    pub status: ExitStatus,
+    /// The disk that was handed in.
+    pub disk: D,
+}
+
+/// Opens a desk on a disk, and prints the abandonments of the rounds that its journal left open.
+///
+/// An Err has told that there was no memory for the output, or why no desk was opened; or the sink failed.
+pub fn begin<K: Sink, D: Disk>(
+    alloc: Global,
+    sink: &mut K,
+    disk: D,
+) -> Result<Begun<D>, NotBegun<D>>
+    ensures begun { IfOk result (λ b. HasBegun D.seen disk b.desk (K.held sink.old) (K.held sink.new)) }
+    ensures empty { IfOk result (λ b. b.buffer.items ≡ []) }
+    ensures room { IfOk result (λ b. OUTPUT_BYTES ≤ vec_capacity b.buffer) }
+    ensures later { IfOk result (λ _. K.faults sink.old ≤ K.faults sink.new) }
+    ensures wrote { IfErr result (λ e. WroteTaking (λ taken. IsNotBegunDue D.seen taken disk e.disk) (K.held sink.old)
+        (K.held sink.new) e.status) }
+    ensures write_fault { IfErr result (λ e. e.status ≡ statuses.Sink → HasRisen (K.faults sink.old) (K.faults sink.new)) }
+{
+    let Ok(mut buffer) = output_buffer(alloc) else {
+        return Err(NotBegun {
+            status: tell_no_memory(sink),
+            disk,
+        });
+    };
+    let desk = match Desk::open(alloc, disk) {
+        Ok(desk) => desk,
+        Err(DeskRefused { disk, cause }) => {
+            return Err(NotBegun {
+                status: tell_refused(sink, &mut buffer, cause),
+                disk,
+            });
+        }
+    };
+    let from = desk.opened_with();
+    if print_added(sink, &mut buffer, &desk, from, &[]).is_err() {
+        return Err(NotBegun {
+            status: ExitStatus::Sink,
+            disk: desk.close(),
+        });
+    }
+    Ok(Begun { desk, buffer })
+}

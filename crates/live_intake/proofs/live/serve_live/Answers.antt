@@ -1,0 +1,61 @@
+use Rattle.std.proofs.Common.{rules, ◌≡◌, ◌∙◌, ◌≤◌, List, ◌++◌, All, length, map, reverse, refl, take, drop, sym, ap, subst}
+use Rattle.claim_history.specs.declared.call.PoolEntry.{PoolEntry}
+use Rattle.turn_lock.specs.declared.turn.Seat.{Seat}
+use Rattle.turn_lock.specs.Turns.{EachOf}
+use Rattle.turn_lock.specs.Seats.{registrar_view}
+use Rattle.bureau_desk.specs.declared.base.DeskBase.{DeskBase}
+use Rattle.bureau_desk.specs.Desks.{DeskView}
+use Rattle.shared_bureau.specs.Adding.{IsReady}
+use Rattle.shared_bureau.specs.Finishing.{HasFinished}
+use Rattle.lane_runner.proofs.AllLanes.{left_whole}
+use Rattle.live_intake.specs.declared.lane.LiveLane.{LiveLane}
+use Rattle.live_intake.specs.Batching.{AreReady, IsNewLane}
+use Rattle.live_intake.specs.Rings.{Ring}
+use Rattle.live_intake.proofs.Served.{all_lanes_served, all_ready}
+use Rattle.live_intake.proofs.live.serve_live.Goals as goal
+
+pub serve_segments-stop-requires-clause-ready : goal.serve_segments-stop-requires-clause-ready
+serve_segments-stop-requires-clause-ready g c κs within =
+    let L : Type 0 = LiveLane g.row.D.Denot in
+    let turn = c.args.shared.turn in
+    subst (λ (r : List Ring). AreReady turn r c.as_mut_slice.result.now) (sym c.as_mut_slice-2.ensures.value) (subst (λ (l : List L). AreReady turn c.seat_lanes.new.rings.items l) (sym c.as_mut_slice.ensures.value) c.seat_lanes.ensures.ready)
+
+pub finish-desk-requires-clause-ready : goal.finish-desk-requires-clause-ready
+finish-desk-requires-clause-ready g c =
+    let L : Type 0 = LiveLane g.row.D.Denot in
+    let S : Type 0 = Seat (DeskView g.row.D.Denot) PoolEntry (DeskBase g.row.D.Denot) in
+    let turn = c.args.shared.turn in
+    let items = c.seat_lanes.new.lanes.items in
+    let lasts = c.serve_segments-stop.new.lanes in
+    let told = c.serve_segments-stop.ensures.served in
+    let long : length lasts ≡ length items = told.served.all ∙ ap (λ (l : List L). length l) c.as_mut_slice.ensures.value in
+    let len : length items ≤ c.seat_lanes.new.lanes.len = search rules in
+    let same : take c.seat_lanes.new.lanes.len (lasts ++ drop (length lasts) items) ≡ lasts = left_whole c.seat_lanes.new.lanes.len items lasts long len in
+    let seats : c.unseat.new.seats.items ≡ reverse (map (λ (l : L). l.seat) lasts) = c.unseat.ensures ∙ ap (λ (l : List L). reverse (map (λ (x : L). x.seat) l)) same in
+    subst (λ (l : List S). All (IsReady turn) l) (sym seats) (all_ready turn lasts told.ready.fit)
+
+pub returns-clause-served : goal.returns-clause-served
+returns-clause-served g c =
+    let L : Type 0 = LiveLane g.row.D.Denot in
+    let S : Type 0 = Seat (DeskView g.row.D.Denot) PoolEntry (DeskBase g.row.D.Denot) in
+    let turn = c.args.shared.turn in
+    let known = registrar_view c.args.registrar in
+    let made = registrar_view c.seat_lanes.new.registrar in
+    let have = c.seat_lanes.ensures.registrar in
+    let desk = c.finish-desk.result in
+    let answers = c.serve_segments-stop.new.answers.items in
+    let items = c.seat_lanes.new.lanes.items in
+    let firsts = c.as_mut_slice.result.now in
+    let lasts = c.serve_segments-stop.new.lanes in
+    let told = c.serve_segments-stop.ensures.served in
+    let new : EachOf (IsNewLane turn known.opened) firsts = subst (EachOf (IsNewLane turn known.opened)) (sym c.as_mut_slice.ensures.value) c.seat_lanes.ensures.lanes in
+    let long : length lasts ≡ length items = told.served.all ∙ ap (λ (l : List L). length l) c.as_mut_slice.ensures.value in
+    let len : length items ≤ c.seat_lanes.new.lanes.len = search rules in
+    let same : take c.seat_lanes.new.lanes.len (lasts ++ drop (length lasts) items) ≡ lasts = left_whole c.seat_lanes.new.lanes.len items lasts long len in
+    let seats : c.unseat.new.seats.items ≡ reverse (map (λ (l : L). l.seat) lasts) = c.unseat.ensures ∙ ap (λ (l : List L). reverse (map (λ (x : L). x.seat) l)) same in
+    let fin : HasFinished g.D.Disk.seen desk made (reverse (map (λ (l : L). l.seat) lasts)) = subst (λ (l : List S). HasFinished g.D.Disk.seen desk made l) seats c.finish-desk.ensures in
+    record {
+      batch = told.batch;
+      all = all_lanes_served turn known.opened firsts lasts new told.batch answers told.served g.D.Disk.seen known made desk c.requires.opened refl have.seen have.opened_is have.base_is told.ready.many fin;
+      ends = told.ends;
+    }

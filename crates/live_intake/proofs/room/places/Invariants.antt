@@ -1,0 +1,14 @@
+use Rattle.std.proofs.Common.{◌-◌, ◌≤◌, All, length, vec_capacity}
+use Rattle.setoff_model.specs.declared.limits.TheConstants.{MOST_LANES}
+use Rattle.live_intake.specs.Rooms.{IsPlace}
+use Rattle.live_intake.proofs.room.places.Given as goal
+
+abbrev pub invariant-loop-alloc : goal.invariant-loop-alloc
+invariant-loop-alloc l = record {
+  each : All IsPlace l.places.items;
+  few : length l.places.items ≤ MOST_LANES;
+  spare : MOST_LANES ≤ vec_capacity l.places;
+}
+
+abbrev pub decreases-loop-alloc : goal.decreases-loop-alloc
+decreases-loop-alloc l = MOST_LANES - length l.places.items

@@ -1,0 +1,74 @@
+-- The segments of a batch: the answers of each, and what all lanes have done so far.
+use Rattle.std.specs.Prelude.{◌≡◌, ◌+◌, ◌<◌, ℕ, Option, List, ◌++◌, All, length, map, slice_index_or}
+use Rattle.setoff_model.specs.declared.limits.TheConstants.{MOST_LANES}
+use Rattle.claim_history.specs.declared.call.PoolEntry.{PoolEntry}
+use Rattle.turn_lock.specs.declared.turn.Turn.{Turn}
+use Rattle.turn_lock.specs.Turns.{EachOf}
+use Rattle.bureau_desk.specs.declared.base.DeskBase.{DeskBase}
+use Rattle.bureau_desk.specs.Desks.{DeskView}
+use Rattle.request_text.specs.declared.request.Request.{Request}
+use Rattle.request_text.specs.Lanes.{IsLane}
+use Rattle.served_lines.specs.declared.answer.Answer.{Answer}
+use Rattle.served_lines.specs.Served.{lane_lines}
+use Rattle.lane_seats.specs.Lanes.{HasServedLines, ended, of_lane}
+use Rattle.lane_seats.specs.Seating.{IsNewSeatAt}
+use Rattle.live_intake.specs.declared.lane.LiveLane.{LiveLane}
+use Rattle.live_intake.specs.declared.stop.Stop.{Stop}
+use Rattle.input_front.specs.Taken.{IntakeView}
+use Rattle.live_intake.specs.Joining.{AreJoined}
+use Rattle.live_intake.specs.Reading.{Ends}
+use Rattle.live_intake.specs.Rings.{Ring}
+use Rattle.live_intake.specs.Segments.{IsFit}
+
+module _ {D : Type 0} (requests : List Request) (lanes : List (LiveLane D)) where
+  -- each lane, of which the first has number 1, has an end for each of its requests
+  abbrev pub HaveEnds : Type 0
+  HaveEnds = EachOf (λ k lane. length lane.ends.items ≡ length (of_lane (k + 1) requests)) lanes
+
+  -- each request has its answer, and the answers of each lane are those that the lane has, in order
+  pub record HaveAnswers (answers : List Answer) : Type 0 where
+    pub answered : map (λ answer. answer.line) answers ≡ map (λ request. request.line) requests
+    pub each : EachOf (λ k lane. lane_lines (k + 1) requests answers ≡ ended (of_lane (k + 1) requests) lane.ends.items) lanes
+
+  -- they stand behind others
+  pub record HasMergedMore (old new : List Answer) : Type 0 where
+    pub later : List Answer
+    pub is : new ≡ old ++ later
+    pub have : HaveAnswers later
+
+-- a lane that has served nothing, at this place of the list, for a lock that was opened with so many members
+pub record IsNewLane {D : Type 0} (turn : Turn (DeskView D) PoolEntry (DeskBase D)) (before : ℕ) (k : ℕ) (lane : LiveLane D) : Type 0 where
+  pub seat : IsNewSeatAt before k lane.seat
+  pub fit : IsFit turn lane
+
+-- the lanes and their rings, between two segments
+pub record AreReady {D : Type 0} (turn : Turn (DeskView D) PoolEntry (DeskBase D)) (rings : List Ring) (lanes : List (LiveLane D)) : Type 0 where
+  pub many : length lanes ≡ MOST_LANES
+  pub joined : AreJoined rings lanes
+  pub fit : All (IsFit turn) lanes
+
+-- These requests were served: they have their answers, and each lane has served just its own lines.
+pub record HaveServedAll {D : Type 0} (first now : List (LiveLane D)) (requests : List Request) (answers : List Answer) : Type 0 where
+  pub all : length now ≡ length first
+  pub own : All (λ r. IsLane r.lane) requests
+  pub answered : map (λ answer. answer.line) answers ≡ map (λ request. request.line) requests
+  pub each : (k : ℕ) (lane : LiveLane D) → k < length first
+      → HasServedLines (slice_index_or first k lane).seat (slice_index_or now k lane).seat (lane_lines (k + 1) requests answers)
+
+-- All segments of a batch were read and served.
+pub record HasServedBatch {D : Type 0} (turn : Turn (DeskView D) PoolEntry (DeskBase D)) (left_new : Option (List ℕ)) (faults_old faults_new : ℕ)
+    (old new : IntakeView) (rings : List Ring) (first now : List (LiveLane D)) (answers : List Answer) (why : Option Stop) : Type 0 where
+  pub batch : List Request
+  pub ready : AreReady turn rings now
+  pub served : HaveServedAll first now batch answers
+  pub ends : Ends left_new faults_old faults_new old new batch why
+
+-- One segment more was read and served: its requests have their answers behind those that were there.
+pub record HasServedMore {D : Type 0} (turn : Turn (DeskView D) PoolEntry (DeskBase D)) (left_new : Option (List ℕ)) (faults_old faults_new : ℕ)
+    (old new : IntakeView) (rings : List Ring) (first now : List (LiveLane D)) (answers_old answers_new : List Answer) (why : Option Stop) : Type 0 where
+  pub requests : List Request
+  pub later : List Answer
+  pub answers_are : answers_new ≡ answers_old ++ later
+  pub ready : AreReady turn rings now
+  pub served : HaveServedAll first now requests later
+  pub ends : Ends left_new faults_old faults_new old new requests why

@@ -1,0 +1,10 @@
+pub mod Handing
+pub mod Segments
+pub mod Rings
+pub mod Meeting
+pub mod Joining
+pub mod Reading
+pub mod Sparing
+pub mod Batching
+pub mod Rooms
+pub mod Live

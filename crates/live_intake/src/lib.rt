@@ -1,0 +1,28 @@
+//! Lines that are handed to their lanes while the input is still read.
+//!
+//! A batch is read in *segments*. The reader of a segment reads lines, in this thread, and hands each to its lane by a ring of 64
+//! places, while the lanes serve theirs in threads of their own. A segment ends where the batch ends, or where a lane was handed
+//! 63 lines: then each ring gets a mark. After the join both ends of each ring are in one place, where all that was sent is known to
+//! have been received. `run_live` serves one batch, and `HasRunLive` says which, and why it ended.
+#![tactic(auto)]
+
+mod answers;
+mod fork;
+mod handed;
+mod lane;
+mod live;
+mod meeting;
+mod passing;
+mod reading;
+mod rings;
+mod room;
+mod seats;
+mod segment;
+mod segments;
+mod stop;
+
+pub use handed::{Handed, InSegments, MOST_HANDED};
+pub use lane::LiveLane;
+pub use live::{LiveEnd, run_live};
+pub use rings::Ring;
+pub use stop::Stop;

@@ -1,0 +1,134 @@
+//! One segment: lines are handed to their lanes, which serve them meanwhile.
+ghost use Rattle.std.specs.Prelude.{◌≡◌, ◌≤◌, false, [], length, All, vec_len, vec_capacity};
+ghost use Rattle.setoff_model.specs.declared.limits.TheConstants.{MOST_LANES};
+ghost use Rattle.request_text.specs.Lanes.{IsLane};
+ghost use Rattle.live_intake.specs.Reading.{Ends, HasTaken, most_asked};
+ghost use Rattle.live_intake.specs.Joining.{AreJoined, AreOpen, HaveHanded, HaveServedThese};
+ghost use Rattle.live_intake.specs.Segments.{HaveServed, IsFit};
+ghost use Rattle.live_intake.specs.Sparing.{HasSpare, KeepsSpare};
+
+use crate::fork::serve_lanes;
+use crate::lane::LiveLane;
+use crate::meeting::meet;
+use crate::reading::read_segment;
+use crate::rings::Ring;
+use crate::stop::Stop;
+use bureau_edge::Source;
+use disk_model::Disk;
+use flow_solver::Solver;
+use input_front::Intake;
+use lane_runner::Gate;
+use request_text::Request;
+use served_lines::Answer;
+use shared_bureau::{Pause, Shared};
+use std::alloc::Global;
+use std::sync::Wait;
+use std::thread::{Threads, join_mut};
+
+/// Reads lines in this thread and hands each to its lane, while the lanes serve them in threads of their own. Where no thread can be
+/// made, the lanes serve them afterwards.
+pub fn run_segment<
+    D: Disk + Send + Sync,
+    R: Threads + Wait + Sync,
+    V: Solver + Sync,
+    G: Gate + Sync,
+    P: Pause + Sync,
+    S: Source,
+>(
+    rt: &R,
+    alloc: Global,
+    shared: &Shared<D>,
+    lanes: &mut [LiveLane<D>],
+    rings: &mut [Ring],
+    intake: &mut Intake,
+    source: &mut S,
+    requests: &mut Vec<Request>,
+    answers: &mut Vec<Answer>,
+    solver: &V,
+    gate: &G,
+    pause: &P,
+) -> Option<Stop>
+    requires begun { intake.old.fenced ≡ false }
+    requires all { length rings.old ≡ MOST_LANES }
+    requires fresh { (requests.old.items ≡ []) × (vec_len requests.old ≡ 0) × (most_asked ≤ vec_capacity requests.old) }
+    requires answers { HasSpare intake.old answers.old (vec_len requests.old) }
+    requires joined { AreJoined rings.old lanes.old }
+    requires fit { All (IsFit shared.now.turn) lanes.old }
+    ensures joined { AreJoined rings.new lanes.new }
+    ensures served { HaveServedThese shared.now.turn requests.new.items lanes.old lanes.new }
+    ensures own { All (λ r. IsLane r.lane) requests.new.items }
+    ensures few { vec_len requests.new ≤ most_asked }
+    ensures spare { most_asked ≤ vec_capacity requests.new }
+    ensures taken { HasTaken (S.left source.old) (S.left source.new) (S.faults source.old) (S.faults source.new)
+        intake.old intake.new }
+    ensures ends { Ends (S.left source.new) (S.faults source.old) (S.faults source.new)
+        intake.old intake.new requests.new.items result }
+    ensures answers { KeepsSpare intake.old intake.new answers.old answers.new (vec_len requests.new) result }
+{
+    let stop = run_both(
+        rt, alloc, shared, lanes, rings, intake, source, requests, answers, solver, gate, pause,
+    );
+    meet(lanes, rings);
+    stop
+}
+
+// Runs the lanes and the reader of their lines side by side. Where no thread can be made, the reader runs first.
+fn run_both<
+    D: Disk + Send + Sync,
+    R: Threads + Wait + Sync,
+    V: Solver + Sync,
+    G: Gate + Sync,
+    P: Pause + Sync,
+    S: Source,
+>(
+    rt: &R,
+    alloc: Global,
+    shared: &Shared<D>,
+    lanes: &mut [LiveLane<D>],
+    rings: &mut [Ring],
+    intake: &mut Intake,
+    source: &mut S,
+    requests: &mut Vec<Request>,
+    answers: &mut Vec<Answer>,
+    solver: &V,
+    gate: &G,
+    pause: &P,
+) -> Option<Stop>
+    requires begun { intake.old.fenced ≡ false }
+    requires all { length rings.old ≡ MOST_LANES }
+    requires fresh { (requests.old.items ≡ []) × (vec_len requests.old ≡ 0) × (most_asked ≤ vec_capacity requests.old) }
+    requires answers { HasSpare intake.old answers.old (vec_len requests.old) }
+    requires fit { All (IsFit shared.now.turn) lanes.old }
+    requires open { AreOpen rings.old }
+    ensures handed { HaveHanded rings.old rings.new requests.new.items }
+    ensures served { HaveServed shared.now.turn lanes.old lanes.new }
+    ensures own { All (λ r. IsLane r.lane) requests.new.items }
+    ensures few { vec_len requests.new ≤ most_asked }
+    ensures spare { most_asked ≤ vec_capacity requests.new }
+    ensures taken { HasTaken (S.left source.old) (S.left source.new) (S.faults source.old) (S.faults source.new)
+        intake.old intake.new }
+    ensures ends { Ends (S.left source.new) (S.faults source.old) (S.faults source.new)
+        intake.old intake.new requests.new.items result }
+    ensures answers { KeepsSpare intake.old intake.new answers.old answers.new (vec_len requests.new) result }
+{
+    let (_, stop) = join_mut(
+        rt,
+        &mut ||
+            requires { All (IsFit shared.now.turn) lanes.now }
+            ensures { HaveServed shared.entry.now.turn lanes.entry.now lanes.exit.now }
+        { serve_lanes(rt, alloc, shared, lanes, solver, gate, pause) },
+        &mut || -> Option<Stop>
+            requires { (intake.now.fenced ≡ false) × (length rings.now ≡ MOST_LANES) × AreOpen rings.now × (requests.now.items ≡ []) × (vec_len requests.now ≡ 0) × (most_asked ≤ vec_capacity requests.now) × HasSpare intake.now answers.now (vec_len requests.now) }
+            ensures { HaveHanded rings.entry.now rings.exit.now requests.exit.now.items
+                × All (λ r. IsLane r.lane) requests.exit.now.items
+                × (vec_len requests.exit.now ≤ most_asked)
+                × (most_asked ≤ vec_capacity requests.exit.now)
+                × HasTaken (S.left source.entry.now) (S.left source.exit.now) (S.faults source.entry.now) (S.faults source.exit.now)
+                intake.entry.now intake.exit.now
+                × Ends (S.left source.exit.now) (S.faults source.entry.now) (S.faults source.exit.now)
+                intake.entry.now intake.exit.now requests.exit.now.items result
+                × KeepsSpare intake.entry.now intake.exit.now answers.entry.now answers.exit.now (vec_len requests.exit.now) result }
+        { read_segment(alloc, intake, source, rings, requests, answers) },
+    );
+    stop
+}

@@ -1,0 +1,109 @@
+//! The segments of a batch, one after another.
+ghost use Rattle.std.specs.Prelude.{◌≡◌, ◌≤◌, false, [], None, Some, vec_capacity};
+ghost use Rattle.live_intake.specs.Batching.{AreReady, HasServedBatch, HasServedMore};
+ghost use Rattle.live_intake.specs.Reading.{HasTaken, most_asked};
+ghost use Rattle.live_intake.specs.Sparing.{HasMoved, HasSpare};
+
+use crate::answers::merge;
+use crate::lane::LiveLane;
+use crate::rings::Ring;
+use crate::segment::run_segment;
+use crate::stop::Stop;
+use bureau_edge::Source;
+use disk_model::Disk;
+use flow_solver::Solver;
+use input_front::Intake;
+use lane_runner::Gate;
+use request_text::Request;
+use served_lines::Answer;
+use shared_bureau::{Pause, Shared};
+use std::alloc::Global;
+use std::sync::Wait;
+use std::thread::Threads;
+
+/// Serves a batch, segment after segment.
+pub fn serve_segments<
+    S: Source,
+    D: Disk + Send + Sync,
+    R: Threads + Wait + Sync,
+    V: Solver + Sync,
+    G: Gate + Sync,
+    P: Pause + Sync,
+>(
+    rt: &R,
+    alloc: Global,
+    shared: &Shared<D>,
+    lanes: &mut [LiveLane<D>],
+    rings: &mut [Ring],
+    intake: &mut Intake,
+    source: &mut S,
+    requests: &mut Vec<Request>,
+    answers: &mut Vec<Answer>,
+    solver: &V,
+    gate: &G,
+    pause: &P,
+) -> Stop
+    requires begun { intake.old.fenced ≡ false }
+    requires ready { AreReady shared.now.turn rings.old lanes.old }
+    requires room { most_asked ≤ vec_capacity requests.old }
+    requires none { answers.old.items ≡ [] }
+    requires answers { HasSpare intake.old answers.old 0 }
+    ensures taken { HasTaken (S.left source.old) (S.left source.new) (S.faults source.old) (S.faults source.new)
+        intake.old intake.new }
+    ensures served { HasServedBatch shared.now.turn (S.left source.new) (S.faults source.old) (S.faults source.new)
+        intake.old intake.new rings.new
+        lanes.old lanes.new answers.new.items (Some result) }
+{
+    loop {
+        let ended = serve_next(
+            rt, alloc, shared, lanes, rings, intake, source, requests, answers, solver, gate, pause,
+        );
+        if let Some(stop) = ended {
+            return stop;
+        }
+        intake.batches();
+    }
+}
+
+// Serves the next segment. None: the batch goes on.
+fn serve_next<
+    S: Source,
+    D: Disk + Send + Sync,
+    R: Threads + Wait + Sync,
+    V: Solver + Sync,
+    G: Gate + Sync,
+    P: Pause + Sync,
+>(
+    rt: &R,
+    alloc: Global,
+    shared: &Shared<D>,
+    lanes: &mut [LiveLane<D>],
+    rings: &mut [Ring],
+    intake: &mut Intake,
+    source: &mut S,
+    requests: &mut Vec<Request>,
+    answers: &mut Vec<Answer>,
+    solver: &V,
+    gate: &G,
+    pause: &P,
+) -> Option<Stop>
+    requires begun { intake.old.fenced ≡ false }
+    requires ready { AreReady shared.now.turn rings.old lanes.old }
+    requires room { most_asked ≤ vec_capacity requests.old }
+    requires answers { HasSpare intake.old answers.old 0 }
+    ensures answers { result ≡ None → HasSpare intake.new answers.new 0 }
+    ensures moves { result ≡ None → HasMoved intake.old intake.new }
+    ensures room { most_asked ≤ vec_capacity requests.new }
+    ensures taken { HasTaken (S.left source.old) (S.left source.new) (S.faults source.old) (S.faults source.new)
+        intake.old intake.new }
+    ensures served { HasServedMore shared.now.turn (S.left source.new) (S.faults source.old) (S.faults source.new)
+        intake.old intake.new rings.new
+        lanes.old lanes.new answers.old.items answers.new.items result }
+{
+    requests.clear();
+    let ended = run_segment(
+        rt, alloc, shared, lanes, rings, intake, source, requests, answers, solver, gate, pause,
+    );
+    merge(requests.as_slice(), lanes, answers);
+    ended
+}

@@ -1,0 +1,91 @@
+use Rattle.std.specs.Prelude.{None, OnErr, OnOk, not}
+use Rattle.std.specs.Io.KnownBytes.{Appends}
+use Rattle.std.proofs.Common.{◌≡◌, ◌∙◌, ◌+◌, ◌==◌, ◌||◌, ℕ, Bool, List, length, ap, refl, subst, sym, arith, length-append}
+use Rattle.std.specs.Prelude.{drop, take}
+use Rattle.bureau_edge.specs.Streams.{AppendsPart}
+use Rattle.claim_history.specs.declared.call.PoolEntry.{PoolEntry}
+use Rattle.claim_history.specs.PoolRounds.{cuts_after}
+use Rattle.served_lines.specs.declared.answer.Answer.{Answer}
+use Rattle.served_lines.specs.Ends.{has_line_end, is_full_end, is_memory_end}
+use Rattle.printed_text.specs.Printing.{printed_of}
+use Rattle.live_intake.specs.Reading.{AreNumbered}
+use Rattle.batch_runs.specs.Serving.{answers_of, counted_answers, ended_so}
+use Rattle.batch_runs.proofs.Batches.{unasked_adds}
+use Rattle.batch_runs.proofs.Told.{tells}
+use Rattle.batch_runs.proofs.Unasked.{counted_ends}
+use Rattle.live_runs.proofs.Counted.{told_same}
+use Rattle.live_runs.proofs.serving.serve_next.Goals as goal
+
+pub add-requires : goal.add-requires
+add-requires g c =
+    let now = c.args.desk in
+    let ran = c.run_live-end.ensures.ran.ran in
+    let place : c.len-from.result ≡ length now.history = c.len-from.ensures.len ∙ ap (λ (l : List PoolEntry). length l) c.books.ensures.history in
+    let after : length c.books-2.result.now.members ≡ length c.run_live-end.result.end.desk.history = ap (λ (l : List PoolEntry). length l) c.books-2.ensures.history in
+    omega (arith, place, after, ap (λ (l : List PoolEntry). length l) ran.history, length-append now.history ran.added)
+
+pub print_counted-printed-requires-clause-from : goal.print_counted-printed-requires-clause-from
+print_counted-printed-requires-clause-from g c =
+    let now = c.args.desk in
+    let ran = c.run_live-end.ensures.ran.ran in
+    let place : c.len-from.result ≡ length now.history = c.len-from.ensures.len ∙ ap (λ (l : List PoolEntry). length l) c.books.ensures.history in
+    omega (arith, place, ap (λ (l : List PoolEntry). length l) ran.history, length-append now.history ran.added)
+
+pub print_counted-printed-requires-clause-rounds : goal.print_counted-printed-requires-clause-rounds
+print_counted-printed-requires-clause-rounds g c =
+    let place : c.len-from.result ≡ length c.args.desk.history = c.len-from.ensures.len ∙ ap (λ (l : List PoolEntry). length l) c.books.ensures.history in
+    c.run_live-end.ensures.ran.ran.rounds ∙ sym (ap (λ (n : ℕ). cuts_after n c.run_live-end.result.end.desk.history) place)
+
+pub print_counted-printed-requires-clause-unasked : goal.print_counted-printed-requires-clause-unasked
+print_counted-printed-requires-clause-unasked g c =
+    let live = c.run_live-end.ensures.ran in
+    let place : c.len-from.result ≡ length c.args.desk.history = c.len-from.ensures.len ∙ ap (λ (l : List PoolEntry). length l) c.books.ensures.history in
+    λ none. unasked_adds g.D.Disk.seen c.args.desk c.run_live-end.result.end.desk live.batch c.run_live-end.result.end.answers c.len-from.result live.ran place none
+
+pub print_counted-printed-requires-clause-empty : goal.print_counted-printed-requires-clause-empty
+print_counted-printed-requires-clause-empty g c = c.requires.empty
+
+pub print_counted-printed-requires-clause-spare : goal.print_counted-printed-requires-clause-spare
+print_counted-printed-requires-clause-spare g c = c.requires.spare
+
+pub returns-clause-told : goal.returns-clause-told
+returns-clause-told g c =
+    let live = c.run_live-end.ensures.ran in
+    let new = c.run_live-end.result.end.desk in
+    let answers = c.run_live-end.result.end.answers in
+    let from = c.len-from.result in
+    let first = c.args.intake.now.lines + 1 in
+    let first_is : c.lines-before.result + 1 ≡ first = ap (λ (n : ℕ). n + 1) c.lines-before.ensures in
+    let count = c.saturating_sub-count.result in
+    let same : counted_answers (c.lines-before.result + 1) count answers ≡ answers_of live.batch answers =
+    ap (λ (n : ℕ). counted_answers n count answers) first_is
+    ∙ told_same first count live.batch answers (λ none.
+    let k = live.counted none in
+    (k.0, omega (arith, k.1, c.lines-before.ensures, c.lines.ensures, c.lines_behind.ensures, c.saturating_sub-count.ensures))) in
+    let place = c.len-from.ensures.len ∙ ap (λ (l : List PoolEntry). length l) c.books.ensures.history in
+    let before = c.args.tally.now in
+    let memory = c.add.ensures.memory ∙ ap (λ (b : Bool). before.memory || b) (counted_ends is_memory_end (c.lines-before.result + 1) count answers)
+    ∙ ap (λ (a : List Answer). before.memory || has_line_end is_memory_end a) same in
+    let full = c.add.ensures.full ∙ ap (λ (b : Bool). before.full || b) (counted_ends is_full_end (c.lines-before.result + 1) count answers)
+    ∙ ap (λ (a : List Answer). before.full || has_line_end is_full_end a) same in
+    let x = g.K.Sink.held c.args.sink.now in
+    let y = g.K.Sink.held c.print_counted-printed.new.sink in
+    let written = c.print_counted-printed.result in
+    let text : List Answer → List ℕ = λ a. printed_of (take from new.history) (drop from new.history) a in
+    let ok = subst (λ (a : List Answer). OnOk written (Appends x y (text a))) same c.print_counted-printed.ensures.ok in
+    let part = subst (λ (a : List Answer). OnErr written (AppendsPart x y (text a))) same c.print_counted-printed.ensures.part in
+    record {
+      answers = answers;
+      live = live;
+      told = tells g.D.Disk.seen c.args.desk new live.batch answers live.ran from place live.batch refl c.books-2.result.now.members c.books-2.ensures.history
+          before c.add.new.self memory c.add.ensures.device full x y written ok part;
+    }
+
+pub returns-clause-emptied : goal.returns-clause-emptied
+returns-clause-emptied g c = c.print_counted-printed.ensures.emptied
+
+pub returns-clause-cause : goal.returns-clause-cause
+returns-clause-cause g c = c.print_counted-printed.ensures.cause
+
+pub returns-clause-room : goal.returns-clause-room
+returns-clause-room g c = c.print_counted-printed.ensures.room

@@ -1,0 +1,40 @@
+-- Batches of an input that are served while it is read.
+use Rattle.std.specs.Prelude.{◌≡◌, ◌≢◌, ℕ, false, Option, Result, List, map}
+use Rattle.std.specs.Io.KnownBytes.{Consumes}
+use Rattle.fault_count.specs.Counts.{HasRisen}
+use Rattle.disk_model.specs.Calls.{Seen}
+use Rattle.request_text.specs.declared.request.Request.{Request}
+use Rattle.request_text.specs.Grammar.{IsRequestText}
+use Rattle.bureau_desk.specs.Desks.{DeskView}
+use Rattle.served_lines.specs.declared.answer.Answer.{Answer}
+use Rattle.printed_text.specs.declared.exit_status.ExitStatus.{ExitStatus}
+use Rattle.printed_text.specs.declared.exit_status.ExitStatus.TheVariants as statuses
+use Rattle.input_front.specs.Taken.{IntakeView}
+use Rattle.live_intake.specs.declared.stop.Stop.{Stop}
+use Rattle.live_intake.specs.declared.stop.Stop.TheVariants as stop
+use Rattle.live_intake.specs.Live.{HasRunLive, is_fence}
+use Rattle.batch_runs.specs.declared.tally.Tally.{Tally}
+use Rattle.batch_runs.specs.Serving.{HasRunBatches, HasToldBatch}
+use Rattle.live_runs.specs.Fronts.{IsFrontServed}
+
+-- One batch was served while it was read, and counted into a tally. Its text was written after that, or the sink failed at it.
+pub record HasToldLive {D S T E : Type 0} (seen : D → Seen) (left : S → Option (List ℕ)) (faults : S → ℕ) (old new : DeskView D)
+    (source_old source_new : S) (intake_old intake_new : IntakeView) (before after : Tally) (held_old held_new : Option (List ℕ))
+    (why : Stop) (written : Result T E) : Type 0 where
+  pub answers : Option (List Answer)
+  pub live : HasRunLive seen left faults old new source_old source_new intake_old intake_new answers why
+  pub told : HasToldBatch seen old new live.batch before after held_old held_new written
+
+-- The batches of an input were served in turn while it was read, and what each added was written after it was served. That ended
+-- where a batch did not end by a FENCE, or where a write failed. Where none failed, and the input has ended, they are all its batches.
+pub record HasServedInput {D : Type 0} (seen : D → Seen) (left_old left_new : Option (List ℕ)) (faults_old faults_new : ℕ)
+    (old new : DeskView D) (held_old held_new : Option (List ℕ)) (why : Stop) (status : ExitStatus) : Type 0 where
+  pub taken : List ℕ
+  pub consumed : Consumes left_old left_new taken
+  pub batches : List (List Request)
+  pub ran : HasRunBatches seen old new batches held_old held_new status
+  pub no_more : batches ≡ map (λ b. b.requests) ran.done
+  pub front : IsFrontServed left_new taken batches why
+  pub ended : status ≢ statuses.Sink → is_fence why ≡ false
+  pub all : status ≢ statuses.Sink → why ≡ stop.End → IsRequestText taken batches
+  pub failed : why ≡ stop.Failed → HasRisen faults_old faults_new
