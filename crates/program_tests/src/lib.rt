@@ -14,6 +14,8 @@ mod journals;
 #[cfg(test)]
 mod lanes;
 #[cfg(test)]
+mod live;
+#[cfg(test)]
 mod parts;
 #[cfg(test)]
 mod runs;

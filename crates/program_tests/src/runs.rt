@@ -225,8 +225,8 @@ fn no_memory_for_the_words(rt: HostRuntime) {
 
 // A source of so many bytes 0.
 #[derive(Drop)]
-struct Zeros {
-    left: usize,
+pub(crate) struct Zeros {
+    pub(crate) left: usize,
 }
 
 impl Source for Zeros {
@@ -300,7 +300,7 @@ fn a_run_of_100_000_lines(rt: HostRuntime) {
 }
 
 // Rounds: requests, the output with ? for each price, and the verdict on its statement.
-const ROUNDS: [(&[u8], &[u8], &[u8]); 6] = [
+pub(crate) const ROUNDS: [(&[u8], &[u8], &[u8]); 6] = [
     (
         b"1 FIRM A\n1 FIRM B\n1 FIRM C\n1 FILE B I-1 A 10.00 2025-01-31\n1 FILE C I-2 B 7.00 2025-01-31\n1 FILE A I-3 C 12.00 2025-01-31\n1 CONFIRM B I-1 A\n1 CONFIRM C I-2 B\n1 CONFIRM A I-3 C\n1 CLOSE PLAIN 2025-12-31\n1 POSITION A\n1 ABANDON\n",
         b"1 FIRM A = ok\n1 FIRM B = ok\n1 FIRM C = ok\n1 FILE B I-1 A 10.00 2025-01-31 = ok\n1 FILE C I-2 B 7.00 2025-01-31 = ok\n1 FILE A I-3 C 12.00 2025-01-31 = ok\n1 CONFIRM B I-1 A = ok\n1 CONFIRM C I-2 B = ok\n1 CONFIRM A I-3 C = ok\n1 CLOSE PLAIN 2025-12-31 = opened 1\n1 PUBLISH 1 = published 21.00\nROUND 1 PLAIN\nPARTY A 0.00 0.00 ?\nPARTY B 0.00 0.00 ?\nPARTY C 0.00 0.00 ?\nCLAIM B I-1 A 10.00 7.00\nCLAIM C I-2 B 7.00 7.00\nCLAIM A I-3 C 12.00 7.00\nEND\n1 POSITION A = balance 0.00 receivable 5.00 payable 3.00\n1 ABANDON = refused 16 no-round\n",
