@@ -1,8 +1,9 @@
 #!/usr/bin/env python3
 """Times `live` beside `run`, and how long an answer takes over a pipe: bench/live.py [LINES [FOLDER]]
 
-The same lines without a FENCE, on one lane and on sixteen, are served by both, with the journal in a folder in memory and in one of
-FOLDER's: seconds by the clock and of the processors, the least of three runs in turn, and the peak of memory. Then requests are
+The same lines without a FENCE, on one lane and on sixteen, are served by both, with the journal in a folder in memory, and a twentieth
+of them with it in a folder of FOLDER, where each act is synced: seconds by the clock and of the processors, the least of three runs in
+turn, and the peak of memory. Then requests are
 written one by one into the pipe of an office that stays open, each with a FENCE, and each answer is read before the next is written.
 Without words it takes 100,000 lines, and the folder of temporary files. Run by hand.
 """
@@ -76,9 +77,8 @@ def main():
         memory, disk = pathlib.Path(memory), pathlib.Path(disk)
         print(f"{'':24} {'run':>8} {'live':>8} {'times':>6} {'run cpu':>8} {'live cpu':>8} {'times':>6} {'run MB':>8} {'live MB':>8}")
         for lanes in (1, 16):
-            text = lines_of(count, lanes)
-            compare(f"{lanes} lanes, in memory", text, memory)
-            compare(f"{lanes} lanes, on a file", text, disk)
+            compare(f"{lanes} lanes, in memory", lines_of(count, lanes), memory)
+            compare(f"{lanes} lanes, on a file", lines_of(count // 20, lanes), disk)
         print("an answer over a pipe, ms: half within, 99 of a hundred within")
         for name, act, folder in (("POSITION, in memory", "1 POSITION A", memory), ("FUND, in memory", "1 FUND A 1.00", memory), ("FUND, on a file", "1 FUND A 1.00", disk)):
             times = exchanges(act, folder)

@@ -19,8 +19,10 @@ answer() {
     done
 }
 
+# An office that has closed by a fault takes no more.
+trap '' PIPE
 while read -r request; do
-    printf '%s\nFENCE\n' "$request" >&"$requests"
+    printf '%s\nFENCE\n' "$request" >&"$requests" 2>/dev/null || break
     answer
 done
 exec {requests}>&-

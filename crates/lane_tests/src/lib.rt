@@ -10,6 +10,8 @@ mod funded;
 #[cfg(test)]
 mod lanes;
 #[cfg(test)]
+mod live;
+#[cfg(test)]
 mod many;
 #[cfg(test)]
 mod pools;

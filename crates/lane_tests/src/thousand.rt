@@ -53,8 +53,8 @@ fn are_due(rt: &impl Abort, desk: &mut MemoryDesk, history: &[Entry]) {
     }
 }
 
-// Whether the entries of a lane are its lines, in order.
-fn are_lines_of(lane: u32, requests: &[Request], history: &[Entry]) -> bool {
+/// Whether the entries of a lane are its lines, in order.
+pub fn are_lines_of(lane: u32, requests: &[Request], history: &[Entry]) -> bool {
     let lines = || requests.iter().filter(|request| request.lane == lane);
     let entries = || history.iter().filter(|entry| entry.caller == lane);
     lines().count() == entries().count()
