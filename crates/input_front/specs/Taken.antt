@@ -18,7 +18,7 @@ most_taken = 2 ^ 26
 
 -- the most bytes that a source is asked for at once
 abbrev pub most_at_once : ℕ
-most_at_once = 4096
+most_at_once = 32768
 
 -- the most bytes that are taken, those taken, how many of them and how many lines were read, how many batches have begun, and whether
 -- the last of these ended with a fence

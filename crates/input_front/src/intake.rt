@@ -10,7 +10,7 @@ use std::alloc::{AllocError, Global};
 use std::marker::Model;
 
 /// How many bytes a source is asked for at once, at most.
-pub const PIECE: usize = 4096;
+pub const PIECE: usize = 32_768;
 
 /// What came of asking a source for more.
 #[derive(Clone, Copy, PartialEq, Eq)]
@@ -98,6 +98,14 @@ impl Intake {
         ensures few { self.now.served ≤ length self.now.taken + 1 }
     {
         let _ = &self.limit;
+    }
+
+    /// The bytes that were taken and not read.
+    pub fn unread(&self) -> &[u8]
+        ensures { result.now ≡ drop self.now.read self.now.taken }
+    {
+        let (_, rest) = self.bytes.split_at(self.read);
+        rest
     }
 
     /// How many lines were read.

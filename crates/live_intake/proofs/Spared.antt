@@ -9,7 +9,7 @@ use Rattle.std.specs.declared.alloc.Global.{Global}
 use Rattle.served_lines.specs.declared.answer.Answer.{Answer}
 use Rattle.request_text.specs.declared.request.Request.{Request}
 use Rattle.input_front.specs.Front.{is_feed, whole_lines, whole_of_parts}
-use Rattle.input_front.specs.Taken.{HasAsked, HasBatches, HasNoFeed, HasNoLine, HasPiece, HasRead, IntakeView}
+use Rattle.input_front.specs.Taken.{HasAsked, HasBatches, HasNoFeed, HasNoLine, HasPiece, HasRead, IntakeView, most_at_once}
 use Rattle.live_intake.specs.declared.stop.Stop.{Stop}
 use Rattle.live_intake.specs.Reading.{most_asked}
 use Rattle.live_intake.specs.Sparing.{HasSpare, KeepsSpare}
@@ -91,7 +91,7 @@ module _ (v : IntakeView) (batches : HasBatches v) (olds : Vec Answer Global) (n
         moves = λ none. absurd (let is = none in cc);
       }
 
-    pub keeps_piece : (left_old left_new : Option (List ℕ)) (u w : IntakeView) (why : Option Stop) → u ≡ v → HasNoLine v → HasPiece left_old left_new u w → noted ≤ most_asked → vec_len olds + (most_asked + 4097) ≤ vec_capacity news → KeepsSpare v w olds news noted why
+    pub keeps_piece : (left_old left_new : Option (List ℕ)) (u w : IntakeView) (why : Option Stop) → u ≡ v → HasNoLine v → HasPiece left_old left_new u w → noted ≤ most_asked → vec_len olds + (most_asked + (most_at_once + 1)) ≤ vec_capacity news → KeepsSpare v w olds news noted why
     keeps_piece left_old left_new u w why same none p few room =
         let taken : w.taken ≡ v.taken ++ p.piece = ap (λ (x : IntakeView). x.taken) p.same ∙ ap (λ (x : IntakeView). x.taken ++ p.piece) same in
         let lines : w.lines ≡ v.lines = ap (λ (x : IntakeView). x.lines) p.same ∙ ap (λ (x : IntakeView). x.lines) same in

@@ -7,6 +7,7 @@
 #![tactic(auto)]
 
 mod answers;
+mod filling;
 mod fork;
 mod handed;
 mod lane;

@@ -7,6 +7,7 @@ ghost use Rattle.live_intake.specs.Joining.{AreJoined, AreOpen, HaveHanded, Have
 ghost use Rattle.live_intake.specs.Segments.{HaveServed, IsFit};
 ghost use Rattle.live_intake.specs.Sparing.{HasSpare, KeepsSpare};
 
+use crate::filling::fills_one_lane;
 use crate::fork::serve_lanes;
 use crate::lane::LiveLane;
 use crate::meeting::meet;
@@ -20,13 +21,14 @@ use input_front::Intake;
 use lane_runner::Gate;
 use request_text::Request;
 use served_lines::Answer;
+use setoff_model::limits::MOST_LANES;
 use shared_bureau::{Pause, Shared};
 use std::alloc::Global;
 use std::sync::Wait;
 use std::thread::{Threads, join_mut};
 
 /// Reads lines in this thread and hands each to its lane, while the lanes serve them in threads of their own. Where no thread can be
-/// made, the lanes serve them afterwards.
+/// made, or where one lane alone has lines and they were taken before, the lanes serve them afterwards.
 pub fn run_segment<
     D: Disk + Send + Sync,
     R: Threads + Wait + Sync,
@@ -65,10 +67,104 @@ pub fn run_segment<
         intake.old intake.new requests.new.items result }
     ensures answers { KeepsSpare intake.old intake.new answers.old answers.new (vec_len requests.new) result }
 {
-    let stop = run_both(
+    let stop = run_lanes(
         rt, alloc, shared, lanes, rings, intake, source, requests, answers, solver, gate, pause,
     );
     meet(lanes, rings);
+    stop
+}
+
+// Runs the lanes and the reader of their lines: in this thread, one after another, where lines of one lane alone stand next that fill
+// its ring or end the batch; else side by side.
+fn run_lanes<
+    D: Disk + Send + Sync,
+    R: Threads + Wait + Sync,
+    V: Solver + Sync,
+    G: Gate + Sync,
+    P: Pause + Sync,
+    S: Source,
+>(
+    rt: &R,
+    alloc: Global,
+    shared: &Shared<D>,
+    lanes: &mut [LiveLane<D>],
+    rings: &mut [Ring],
+    intake: &mut Intake,
+    source: &mut S,
+    requests: &mut Vec<Request>,
+    answers: &mut Vec<Answer>,
+    solver: &V,
+    gate: &G,
+    pause: &P,
+) -> Option<Stop>
+    requires begun { intake.old.fenced ≡ false }
+    requires all { length rings.old ≡ MOST_LANES }
+    requires fresh { (requests.old.items ≡ []) × (vec_len requests.old ≡ 0) × (most_asked ≤ vec_capacity requests.old) }
+    requires answers { HasSpare intake.old answers.old (vec_len requests.old) }
+    requires fit { All (IsFit shared.now.turn) lanes.old }
+    requires open { AreOpen rings.old }
+    ensures handed { HaveHanded rings.old rings.new requests.new.items }
+    ensures served { HaveServed shared.now.turn lanes.old lanes.new }
+    ensures own { All (λ r. IsLane r.lane) requests.new.items }
+    ensures few { vec_len requests.new ≤ most_asked }
+    ensures spare { most_asked ≤ vec_capacity requests.new }
+    ensures taken { HasTaken (S.left source.old) (S.left source.new) (S.faults source.old) (S.faults source.new)
+        intake.old intake.new }
+    ensures ends { Ends (S.left source.new) (S.faults source.old) (S.faults source.new)
+        intake.old intake.new requests.new.items result }
+    ensures answers { KeepsSpare intake.old intake.new answers.old answers.new (vec_len requests.new) result }
+{
+    if fills_one_lane(intake.unread()) {
+        return run_in_turn(
+            rt, alloc, shared, lanes, rings, intake, source, requests, answers, solver, gate, pause,
+        );
+    }
+    run_both(
+        rt, alloc, shared, lanes, rings, intake, source, requests, answers, solver, gate, pause,
+    )
+}
+
+// Reads the lines of a segment that were all taken before, and serves them then.
+fn run_in_turn<
+    D: Disk + Send + Sync,
+    R: Threads + Wait + Sync,
+    V: Solver + Sync,
+    G: Gate + Sync,
+    P: Pause + Sync,
+    S: Source,
+>(
+    rt: &R,
+    alloc: Global,
+    shared: &Shared<D>,
+    lanes: &mut [LiveLane<D>],
+    rings: &mut [Ring],
+    intake: &mut Intake,
+    source: &mut S,
+    requests: &mut Vec<Request>,
+    answers: &mut Vec<Answer>,
+    solver: &V,
+    gate: &G,
+    pause: &P,
+) -> Option<Stop>
+    requires begun { intake.old.fenced ≡ false }
+    requires all { length rings.old ≡ MOST_LANES }
+    requires fresh { (requests.old.items ≡ []) × (vec_len requests.old ≡ 0) × (most_asked ≤ vec_capacity requests.old) }
+    requires answers { HasSpare intake.old answers.old (vec_len requests.old) }
+    requires fit { All (IsFit shared.now.turn) lanes.old }
+    requires open { AreOpen rings.old }
+    ensures handed { HaveHanded rings.old rings.new requests.new.items }
+    ensures served { HaveServed shared.now.turn lanes.old lanes.new }
+    ensures own { All (λ r. IsLane r.lane) requests.new.items }
+    ensures few { vec_len requests.new ≤ most_asked }
+    ensures spare { most_asked ≤ vec_capacity requests.new }
+    ensures taken { HasTaken (S.left source.old) (S.left source.new) (S.faults source.old) (S.faults source.new)
+        intake.old intake.new }
+    ensures ends { Ends (S.left source.new) (S.faults source.old) (S.faults source.new)
+        intake.old intake.new requests.new.items result }
+    ensures answers { KeepsSpare intake.old intake.new answers.old answers.new (vec_len requests.new) result }
+{
+    let stop = read_segment(alloc, intake, source, rings, requests, answers);
+    serve_lanes(rt, alloc, shared, lanes, 1, solver, gate, pause);
     stop
 }
 
@@ -116,7 +212,7 @@ fn run_both<
         &mut ||
             requires { All (IsFit shared.now.turn) lanes.now }
             ensures { HaveServed shared.entry.now.turn lanes.entry.now lanes.exit.now }
-        { serve_lanes(rt, alloc, shared, lanes, solver, gate, pause) },
+        { serve_lanes(rt, alloc, shared, lanes, MOST_LANES, solver, gate, pause) },
         &mut || -> Option<Stop>
             requires { (intake.now.fenced ≡ false) × (length rings.now ≡ MOST_LANES) × AreOpen rings.now × (requests.now.items ≡ []) × (vec_len requests.now ≡ 0) × (most_asked ≤ vec_capacity requests.now) × HasSpare intake.now answers.now (vec_len requests.now) }
             ensures { HaveHanded rings.entry.now rings.exit.now requests.exit.now.items

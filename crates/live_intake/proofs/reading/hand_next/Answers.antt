@@ -100,7 +100,7 @@ returns-in-Some-clause-answers g c =
     let none : (c.next.new.self ≡ c.args.intake.now) × HasNoLine c.args.intake.now = search rules in
     let p : HasPiece (g.S.Source.left c.args.source.now) (g.S.Source.left c.more.new.source) c.next.new.self c.more.new.self = search rules in
     let few : vec_len c.args.requests.now ≤ most_asked = omega (arith, c.requires.few.0) in
-    let room : vec_len c.args.answers.now + (most_asked + 4097) ≤ vec_capacity c.reserve.new.self = search rules in
+    let room : vec_len c.args.answers.now + (most_asked + 32769) ≤ vec_capacity c.reserve.new.self = search rules in
     keeps_piece c.args.intake.now c.batches.ensures.batches c.args.answers.now (vec_len c.args.requests.now) c.requires.answers c.reserve.new.self c.reserve.ensures.items c.reserve.ensures.len
     (g.S.Source.left c.args.source.now) (g.S.Source.left c.more.new.source) c.next.new.self c.more.new.self None none.0 none.1 p few room
 
