@@ -5,7 +5,7 @@ ghost use Rattle.round_cut.specs.CutOfFacts.{has_account as has, IsClaimOf, AreF
 
 use claim_history::{AccountFact, ClaimFact};
 use setoff_model::limits::{FIRST_CEILING, MOST_AMOUNT, MOST_CLAIMS, MOST_FIRMS};
-use setoff_model::{Key, Name, same_names};
+use setoff_model::{Key, Name};
 
 pub(crate) fn are_facts(claims: &[ClaimFact], accounts: &[AccountFact]) -> bool
     ensures { IsTrue result → AreFacts claims.now accounts.now }
@@ -65,9 +65,7 @@ fn is_claim_of(accounts: &[AccountFact], claim: &ClaimFact) -> bool
 fn has_account(accounts: &[AccountFact], firm: &Name) -> bool
     ensures { IsTrue result → IsTrue (has accounts.now firm.now) }
 {
-    accounts
-        .iter()
-        .any(|account| same_names(firm, &account.firm))
+    accounts.iter().any(|account| *firm == account.firm)
 }
 
 pub(crate) fn keeps_limits(account: &AccountFact) -> bool

@@ -1,4 +1,4 @@
-pub mod Same
+pub mod Added
 pub mod Rows
 pub mod Places
 pub mod Pushed

@@ -4,7 +4,7 @@ ghost use Rattle.std.specs.List.{list_any};
 ghost use Rattle.setoff_model.specs.Same.{same_key};
 
 use indexmap::IndexSet;
-use setoff_model::{Key, same_keys};
+use setoff_model::Key;
 use std::alloc::{AllocError, Global};
 use std::marker::Model;
 
@@ -47,7 +47,7 @@ impl KeyIndex {
     {
         let keys = self.keys.as_slice();
         for place in from..keys.len() {
-            if same_keys(key, &keys[place]) {
+            if *key == keys[place] {
                 return Some(place);
             }
         }

@@ -4,7 +4,7 @@ ghost use Rattle.std.specs.List.{list_any};
 ghost use Rattle.setoff_model.specs.Same.{same_name};
 
 use indexmap::IndexSet;
-use setoff_model::{Name, same_names};
+use setoff_model::Name;
 use std::alloc::{AllocError, Global};
 use std::marker::Model;
 
@@ -45,7 +45,7 @@ impl NameIndex {
         ensures { result ≡ position (same_name name.now) self.now.names }
     {
         let names = self.names.as_slice();
-        if guess < names.len() && same_names(name, &names[guess]) {
+        if guess < names.len() && *name == names[guess] {
             return Some(guess);
         }
         self.place(name)

@@ -4,8 +4,8 @@ use Rattle.std.specs.Option.{option_eq}
 use Rattle.std.proofs.Common.{◌≡◌, ◌==◌, ◌&&◌, ℕ, true, refl, ap, true≢false, sym, int_eq}
 use Rattle.std.proofs.lemmas.Bool.{and_parts}
 use Rattle.std.proofs.lemmas.Bool.Decides.{Decides-int_eq, Decides-eqb}
-use Rattle.setoff_model.specs.contracts.name.NamePartialEq.TheImpl as names
-use Rattle.name_index.proofs.Same.{names_tell}
+use Rattle.setoff_model.specs.Same.{same_name}
+use Rattle.setoff_model.proofs.SameNames.{same_name_is}
 use Rattle.claim_history.specs.declared.fact.AccountFact.{AccountFact}
 use Rattle.claim_history.specs.declared.fact.Position.{Position}
 use Rattle.claim_history.specs.contracts.fact.AccountFactPartialEq.TheImpl as accounts
@@ -18,11 +18,11 @@ number_same m n e = (Decides-eqb m n).0 e
 
 account_same : (a b : AccountFact) → accounts.eq-value.it a b ≡ true → a ≡ b
 account_same a b e =
-    let p = and_parts (names.eq-value.it a.firm b.firm) (int_eq a.balance b.balance && ((a.credit == b.credit) && ((a.ceiling == b.ceiling) && (a.offer == b.offer)))) e in
+    let p = and_parts (same_name a.firm b.firm) (int_eq a.balance b.balance && ((a.credit == b.credit) && ((a.ceiling == b.ceiling) && (a.offer == b.offer)))) e in
     let q = and_parts (int_eq a.balance b.balance) ((a.credit == b.credit) && ((a.ceiling == b.ceiling) && (a.offer == b.offer))) p.1 in
     let r = and_parts (a.credit == b.credit) ((a.ceiling == b.ceiling) && (a.offer == b.offer)) q.1 in
     let s = and_parts (a.ceiling == b.ceiling) (a.offer == b.offer) r.1 in
-    let firm = (names_tell a.firm b.firm).0 p.0 in
+    let firm = (same_name_is a.firm b.firm).0 p.0 in
     let balance = (Decides-int_eq a.balance b.balance).0 q.0 in
     let credit = number_same a.credit b.credit r.0 in
     let ceiling = number_same a.ceiling b.ceiling s.0 in
