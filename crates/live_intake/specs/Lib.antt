@@ -5,6 +5,7 @@ pub mod Meeting
 pub mod Joining
 pub mod Reading
 pub mod Sparing
+pub mod Reader
 pub mod Batching
 pub mod Rooms
 pub mod Live

@@ -74,7 +74,7 @@ module _ (left_new : Option (List ℕ)) (faults_old faults_new : ℕ) (old new :
       (IsRequestText new.taken (ended ++ (batch ++ requests) ∷ []) ⊎ IsRequestText new.taken ((ended ++ (batch ++ requests) ∷ []) ++ [] ∷ []))
       × IsBatchAt new.taken true (length ended) (batch ++ requests))
 
-  -- Why the reading ended, by what was read; None: a lane was handed all that it may be.
+  -- Why the reading ended, by what was read; None: the batch goes on.
   abbrev pub Ends : Option Stop → Type 0
   Ends None = (new.fenced ≡ false) × HasReadThese old new requests
   Ends (Some stop.Fence) = (new.fenced ≡ true) × HasReadFence

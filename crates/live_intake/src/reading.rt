@@ -4,8 +4,8 @@ ghost use Rattle.setoff_model.specs.declared.limits.TheConstants.{MOST_LANES};
 ghost use Rattle.claim_history.specs.Acts.{is_request};
 ghost use Rattle.request_text.specs.Lanes.{IsLane};
 ghost use Rattle.input_front.specs.Taken.{HasNoFeed};
-ghost use Rattle.live_intake.specs.Joining.{HaveHanded};
-ghost use Rattle.live_intake.specs.Reading.{Ends, GoesOn, HasGoneOn, HasReadLast, HasTaken, end_of, most_asked};
+ghost use Rattle.live_intake.specs.Reading.{GoesOn, HasGoneOn, HasReadLast, end_of, most_asked};
+ghost use Rattle.live_intake.specs.Reader.{HasReadSegment, MayRead};
 ghost use Rattle.live_intake.specs.Rings.{HasHanded, HasRoom, IsOpen};
 ghost use Rattle.live_intake.specs.Sparing.{HasSpare, KeepsSpare};
 
@@ -35,8 +35,8 @@ pub enum Step {
     Over(Stop),
 }
 
-/// Reads the lines of a segment and hands each to its lane, and then marks its end for each lane. None: a lane was handed all that it
-/// may be in a segment, and the batch goes on.
+/// Reads the lines of a segment, by so many steps at most, and hands each to its lane, and then marks its end for each lane. None: the
+/// batch goes on.
 pub fn read_segment<S: Source>(
     alloc: Global,
     intake: &mut Intake,
@@ -44,28 +44,19 @@ pub fn read_segment<S: Source>(
     rings: &mut [Ring],
     requests: &mut Vec<Request>,
     answers: &mut Vec<Answer>,
+    steps: usize,
 ) -> Option<Stop>
-    requires begun { intake.old.fenced ≡ false }
-    requires all { length rings.old ≡ MOST_LANES }
-    requires open { All IsOpen rings.old }
-    requires fresh { (requests.old.items ≡ []) × (vec_len requests.old ≡ 0) × (most_asked ≤ vec_capacity requests.old) }
-    requires answers { HasSpare intake.old answers.old (vec_len requests.old) }
-    ensures handed { HaveHanded rings.old rings.new requests.new.items }
-    ensures own { All (λ r. IsLane r.lane) requests.new.items }
-    ensures few { vec_len requests.new ≤ most_asked }
-    ensures spare { most_asked ≤ vec_capacity requests.new }
-    ensures taken { HasTaken (S.left source.old) (S.left source.new) (S.faults source.old) (S.faults source.new)
-        intake.old intake.new }
-    ensures ends { Ends (S.left source.new) (S.faults source.old) (S.faults source.new)
-        intake.old intake.new requests.new.items result }
-    ensures answers { KeepsSpare intake.old intake.new answers.old answers.new (vec_len requests.new) result }
+    requires ready { MayRead intake.old rings.old requests.old answers.old }
+    requires some { 1 ≤ steps }
+    ensures { HasReadSegment (S.left source.old) (S.left source.new) (S.faults source.old) (S.faults source.new)
+        intake.old intake.new rings.old rings.new requests.new answers.old answers.new result }
 {
-    let stop = hand_lines(alloc, intake, source, rings, requests, answers);
+    let stop = hand_lines(alloc, intake, source, rings, requests, answers, steps);
     mark(rings);
     stop
 }
 
-// Reads lines and hands each to its lane, until the batch ends, or a lane was handed all that it may be in a segment; then None.
+// Takes so many steps of the reader, or less where the batch ends, or a lane was handed all that it may be in a segment.
 fn hand_lines<S: Source>(
     alloc: Global,
     intake: &mut Intake,
@@ -73,25 +64,28 @@ fn hand_lines<S: Source>(
     rings: &mut [Ring],
     requests: &mut Vec<Request>,
     answers: &mut Vec<Answer>,
+    steps: usize,
 ) -> Option<Stop>
     requires begun { intake.old.fenced ≡ false }
     requires all { length rings.old ≡ MOST_LANES }
     requires open { All IsOpen rings.old }
     requires few { (vec_len requests.old < most_asked) × (most_asked ≤ vec_capacity requests.old) }
     requires answers { HasSpare intake.old answers.old (vec_len requests.old) }
+    requires some { 1 ≤ steps }
     ensures gone { HasGoneOn (S.left source.old) (S.left source.new) (S.faults source.old) (S.faults source.new) intake.old intake.new
         rings.old rings.new requests.old.items requests.new.items result }
     ensures room { All HasRoom rings.new }
     ensures few { (vec_len requests.new ≤ most_asked) × (most_asked ≤ vec_capacity requests.new) }
     ensures answers { KeepsSpare intake.old intake.new answers.old answers.new (vec_len requests.new) result }
 {
-    loop {
+    for _ in 0..steps {
         match hand_next(alloc, intake, source, rings, requests, answers) {
-            Step::On => intake.batches(),
+            Step::On => {}
             Step::Full => return None,
             Step::Over(stop) => return Some(stop),
         }
     }
+    None
 }
 
 // Reads a line and hands it to its lane, or takes more of the input, for which the room for the answers of its lines is made before.

@@ -3,11 +3,12 @@ ghost use Rattle.std.specs.Prelude.{◌≡◌, ◌≤◌, false, [], length, All
 ghost use Rattle.setoff_model.specs.declared.limits.TheConstants.{MOST_LANES};
 ghost use Rattle.request_text.specs.Lanes.{IsLane};
 ghost use Rattle.live_intake.specs.Reading.{Ends, HasTaken, most_asked};
-ghost use Rattle.live_intake.specs.Joining.{AreJoined, AreOpen, HaveHanded, HaveServedThese};
+ghost use Rattle.live_intake.specs.Reader.{HasReadSegment, MayRead};
+ghost use Rattle.live_intake.specs.Joining.{AreJoined, HaveServedThese};
 ghost use Rattle.live_intake.specs.Segments.{HaveServed, IsFit};
 ghost use Rattle.live_intake.specs.Sparing.{HasSpare, KeepsSpare};
 
-use crate::filling::fills_one_lane;
+use crate::alone::steps_alone;
 use crate::fork::serve_lanes;
 use crate::lane::LiveLane;
 use crate::meeting::meet;
@@ -28,7 +29,8 @@ use std::sync::Wait;
 use std::thread::{Threads, join_mut};
 
 /// Reads lines in this thread and hands each to its lane, while the lanes serve them in threads of their own. Where no thread can be
-/// made, or where one lane alone has lines and they were taken before, the lanes serve them afterwards.
+/// made, where the source has to be asked before there is any line, and where lines of one lane alone stand next, the lanes serve
+/// them afterwards in this thread.
 pub fn run_segment<
     D: Disk + Send + Sync,
     R: Threads + Wait + Sync,
@@ -74,8 +76,7 @@ pub fn run_segment<
     stop
 }
 
-// Runs the lanes and the reader of their lines: in this thread, one after another, where lines of one lane alone stand next that fill
-// its ring or end the batch; else side by side.
+// Runs the reader and the lanes, and decides how: one after another in this thread, or side by side.
 fn run_lanes<
     D: Disk + Send + Sync,
     R: Threads + Wait + Sync,
@@ -97,34 +98,24 @@ fn run_lanes<
     gate: &G,
     pause: &P,
 ) -> Option<Stop>
-    requires begun { intake.old.fenced ≡ false }
-    requires all { length rings.old ≡ MOST_LANES }
-    requires fresh { (requests.old.items ≡ []) × (vec_len requests.old ≡ 0) × (most_asked ≤ vec_capacity requests.old) }
-    requires answers { HasSpare intake.old answers.old (vec_len requests.old) }
+    requires ready { MayRead intake.old rings.old requests.old answers.old }
     requires fit { All (IsFit shared.now.turn) lanes.old }
-    requires open { AreOpen rings.old }
-    ensures handed { HaveHanded rings.old rings.new requests.new.items }
+    ensures read { HasReadSegment (S.left source.old) (S.left source.new) (S.faults source.old) (S.faults source.new)
+        intake.old intake.new rings.old rings.new requests.new answers.old answers.new result }
     ensures served { HaveServed shared.now.turn lanes.old lanes.new }
-    ensures own { All (λ r. IsLane r.lane) requests.new.items }
-    ensures few { vec_len requests.new ≤ most_asked }
-    ensures spare { most_asked ≤ vec_capacity requests.new }
-    ensures taken { HasTaken (S.left source.old) (S.left source.new) (S.faults source.old) (S.faults source.new)
-        intake.old intake.new }
-    ensures ends { Ends (S.left source.new) (S.faults source.old) (S.faults source.new)
-        intake.old intake.new requests.new.items result }
-    ensures answers { KeepsSpare intake.old intake.new answers.old answers.new (vec_len requests.new) result }
 {
-    if fills_one_lane(intake.unread()) {
-        return run_in_turn(
+    match steps_alone(intake.unread()) {
+        Some(steps) => run_in_turn(
+            rt, alloc, shared, lanes, rings, intake, source, requests, answers, solver, gate,
+            pause, steps,
+        ),
+        None => run_both(
             rt, alloc, shared, lanes, rings, intake, source, requests, answers, solver, gate, pause,
-        );
+        ),
     }
-    run_both(
-        rt, alloc, shared, lanes, rings, intake, source, requests, answers, solver, gate, pause,
-    )
 }
 
-// Reads the lines of a segment that were all taken before, and serves them then.
+// Runs the reader for so many steps at most, and the lanes then.
 fn run_in_turn<
     D: Disk + Send + Sync,
     R: Threads + Wait + Sync,
@@ -145,25 +136,16 @@ fn run_in_turn<
     solver: &V,
     gate: &G,
     pause: &P,
+    steps: usize,
 ) -> Option<Stop>
-    requires begun { intake.old.fenced ≡ false }
-    requires all { length rings.old ≡ MOST_LANES }
-    requires fresh { (requests.old.items ≡ []) × (vec_len requests.old ≡ 0) × (most_asked ≤ vec_capacity requests.old) }
-    requires answers { HasSpare intake.old answers.old (vec_len requests.old) }
+    requires ready { MayRead intake.old rings.old requests.old answers.old }
     requires fit { All (IsFit shared.now.turn) lanes.old }
-    requires open { AreOpen rings.old }
-    ensures handed { HaveHanded rings.old rings.new requests.new.items }
+    requires some { 1 ≤ steps }
+    ensures read { HasReadSegment (S.left source.old) (S.left source.new) (S.faults source.old) (S.faults source.new)
+        intake.old intake.new rings.old rings.new requests.new answers.old answers.new result }
     ensures served { HaveServed shared.now.turn lanes.old lanes.new }
-    ensures own { All (λ r. IsLane r.lane) requests.new.items }
-    ensures few { vec_len requests.new ≤ most_asked }
-    ensures spare { most_asked ≤ vec_capacity requests.new }
-    ensures taken { HasTaken (S.left source.old) (S.left source.new) (S.faults source.old) (S.faults source.new)
-        intake.old intake.new }
-    ensures ends { Ends (S.left source.new) (S.faults source.old) (S.faults source.new)
-        intake.old intake.new requests.new.items result }
-    ensures answers { KeepsSpare intake.old intake.new answers.old answers.new (vec_len requests.new) result }
 {
-    let stop = read_segment(alloc, intake, source, rings, requests, answers);
+    let stop = read_segment(alloc, intake, source, rings, requests, answers, steps);
     serve_lanes(rt, alloc, shared, lanes, 1, solver, gate, pause);
     stop
 }
@@ -190,22 +172,11 @@ fn run_both<
     gate: &G,
     pause: &P,
 ) -> Option<Stop>
-    requires begun { intake.old.fenced ≡ false }
-    requires all { length rings.old ≡ MOST_LANES }
-    requires fresh { (requests.old.items ≡ []) × (vec_len requests.old ≡ 0) × (most_asked ≤ vec_capacity requests.old) }
-    requires answers { HasSpare intake.old answers.old (vec_len requests.old) }
+    requires ready { MayRead intake.old rings.old requests.old answers.old }
     requires fit { All (IsFit shared.now.turn) lanes.old }
-    requires open { AreOpen rings.old }
-    ensures handed { HaveHanded rings.old rings.new requests.new.items }
+    ensures read { HasReadSegment (S.left source.old) (S.left source.new) (S.faults source.old) (S.faults source.new)
+        intake.old intake.new rings.old rings.new requests.new answers.old answers.new result }
     ensures served { HaveServed shared.now.turn lanes.old lanes.new }
-    ensures own { All (λ r. IsLane r.lane) requests.new.items }
-    ensures few { vec_len requests.new ≤ most_asked }
-    ensures spare { most_asked ≤ vec_capacity requests.new }
-    ensures taken { HasTaken (S.left source.old) (S.left source.new) (S.faults source.old) (S.faults source.new)
-        intake.old intake.new }
-    ensures ends { Ends (S.left source.new) (S.faults source.old) (S.faults source.new)
-        intake.old intake.new requests.new.items result }
-    ensures answers { KeepsSpare intake.old intake.new answers.old answers.new (vec_len requests.new) result }
 {
     let (_, stop) = join_mut(
         rt,
@@ -214,17 +185,10 @@ fn run_both<
             ensures { HaveServed shared.entry.now.turn lanes.entry.now lanes.exit.now }
         { serve_lanes(rt, alloc, shared, lanes, MOST_LANES, solver, gate, pause) },
         &mut || -> Option<Stop>
-            requires { (intake.now.fenced ≡ false) × (length rings.now ≡ MOST_LANES) × AreOpen rings.now × (requests.now.items ≡ []) × (vec_len requests.now ≡ 0) × (most_asked ≤ vec_capacity requests.now) × HasSpare intake.now answers.now (vec_len requests.now) }
-            ensures { HaveHanded rings.entry.now rings.exit.now requests.exit.now.items
-                × All (λ r. IsLane r.lane) requests.exit.now.items
-                × (vec_len requests.exit.now ≤ most_asked)
-                × (most_asked ≤ vec_capacity requests.exit.now)
-                × HasTaken (S.left source.entry.now) (S.left source.exit.now) (S.faults source.entry.now) (S.faults source.exit.now)
-                intake.entry.now intake.exit.now
-                × Ends (S.left source.exit.now) (S.faults source.entry.now) (S.faults source.exit.now)
-                intake.entry.now intake.exit.now requests.exit.now.items result
-                × KeepsSpare intake.entry.now intake.exit.now answers.entry.now answers.exit.now (vec_len requests.exit.now) result }
-        { read_segment(alloc, intake, source, rings, requests, answers) },
+            requires { MayRead intake.now rings.now requests.now answers.now }
+            ensures { HasReadSegment (S.left source.entry.now) (S.left source.exit.now) (S.faults source.entry.now) (S.faults source.exit.now)
+                intake.entry.now intake.exit.now rings.entry.now rings.exit.now requests.exit.now answers.entry.now answers.exit.now result }
+        { read_segment(alloc, intake, source, rings, requests, answers, usize::MAX) },
     );
     stop
 }

@@ -1,12 +1,12 @@
-use Rattle.std.proofs.Common.{◌≡◌, ◌+◌, ◌-◌, ◌*◌, ◌<◌, ◌≤◌, None, false, All, length, vec_len, vec_capacity}
+use Rattle.std.proofs.Common.{◌≡◌, ◌+◌, ◌<◌, ◌≤◌, None, false, All, length, vec_len, vec_capacity}
 use Rattle.setoff_model.specs.declared.limits.TheConstants.{MOST_LANES}
 use Rattle.live_intake.specs.Reading.{HasGoneOn, most_asked}
 use Rattle.live_intake.specs.Rings.{IsOpen}
-use Rattle.live_intake.specs.Sparing.{HasSpare}
+use Rattle.live_intake.specs.Sparing.{HasSpare, KeepsSpare}
 use Rattle.live_intake.proofs.reading.hand_lines.Given as goal
 
-abbrev pub invariant-loop-intake : goal.invariant-loop-intake
-invariant-loop-intake g l = record {
+abbrev pub invariant-loop : goal.invariant-loop
+invariant-loop g l = record {
   begun : l.intake.fenced ≡ false;
   all : length l.rings ≡ MOST_LANES;
   open_ : All IsOpen l.rings;
@@ -17,7 +17,5 @@ invariant-loop-intake g l = record {
   len : vec_len l.answers ≡ vec_len l.fn.answers;
   answers : HasSpare l.intake l.answers (vec_len l.requests);
   later : l.fn.intake.read + length l.fn.intake.taken ≤ l.intake.read + length l.intake.taken;
+  kept : 0 < l.counter → KeepsSpare l.fn.intake l.intake l.fn.answers l.answers (vec_len l.requests) None;
 }
-
-abbrev pub decreases-loop-intake : goal.decreases-loop-intake
-decreases-loop-intake g l = 2 * (l.intake.limit + 1) - (l.intake.read + length l.intake.taken)

@@ -5,24 +5,18 @@ use Rattle.live_intake.specs.Reading.{Ends, HaveSentAll}
 use Rattle.live_intake.proofs.InReading.{all_handed}
 use Rattle.live_intake.proofs.reading.read_segment.Goals as goal
 
-pub returns-clause-handed : goal.returns-clause-handed
-returns-clause-handed g c =
-    let told = c.hand_lines-stop.ensures.gone in
-    let is : c.hand_lines-stop.new.requests.items ≡ told.more = told.noted ∙ ap (λ (l : List Request). l ++ told.more) c.requires.fresh.0 in
-    all_handed c.args.rings.now c.hand_lines-stop.new.rings c.mark.new.rings c.hand_lines-stop.new.requests.items
-    (subst (HaveSentAll c.args.rings.now c.hand_lines-stop.new.rings) (sym is) told.sent) c.mark.ensures
-
-pub returns-clause-own : goal.returns-clause-own
-returns-clause-own g c =
-    let told = c.hand_lines-stop.ensures.gone in
-    let is : c.hand_lines-stop.new.requests.items ≡ told.more = told.noted ∙ ap (λ (l : List Request). l ++ told.more) c.requires.fresh.0 in
-    subst (λ (l : List Request). All (λ r. IsLane r.lane) l) (sym is) told.own
-
-pub returns-clause-taken : goal.returns-clause-taken
-returns-clause-taken g c = c.hand_lines-stop.ensures.gone.taken
-
-pub returns-clause-ends : goal.returns-clause-ends
-returns-clause-ends g c =
-    let told = c.hand_lines-stop.ensures.gone in
-    let is : c.hand_lines-stop.new.requests.items ≡ told.more = told.noted ∙ ap (λ (l : List Request). l ++ told.more) c.requires.fresh.0 in
-    subst (λ (l : List Request). Ends (g.S.Source.left c.hand_lines-stop.new.source) (g.S.Source.faults c.args.source.now) (g.S.Source.faults c.hand_lines-stop.new.source) c.args.intake.now c.hand_lines-stop.new.intake l c.hand_lines-stop.result) (sym is) told.ends
+pub returns : goal.returns
+returns g c =
+    let new = c.hand_lines-stop.new in
+    let ensured = c.hand_lines-stop.ensures in
+    let told = ensured.gone in
+    let is : new.requests.items ≡ told.more = told.noted ∙ ap (λ (l : List Request). l ++ told.more) c.requires.ready.3 in
+    record {
+      handed = all_handed c.args.rings.now new.rings c.mark.new.rings new.requests.items (subst (HaveSentAll c.args.rings.now new.rings) (sym is) told.sent) c.mark.ensures;
+      own = subst (λ (l : List Request). All (λ r. IsLane r.lane) l) (sym is) told.own;
+      few = ensured.few.0;
+      spare = ensured.few.1;
+      taken = told.taken;
+      ends = subst (λ (l : List Request). Ends (g.S.Source.left new.source) (g.S.Source.faults c.args.source.now) (g.S.Source.faults new.source) c.args.intake.now new.intake l c.hand_lines-stop.result) (sym is) told.ends;
+      answers = ensured.answers;
+    }
