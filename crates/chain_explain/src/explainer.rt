@@ -59,7 +59,7 @@ impl Explainer {
         let listed = claims_listed(alloc, &cut)?;
         let path = vec![in alloc; 0u32; parties]?;
         let marks = vec![in alloc; 0usize; parties]?;
-        let advice = Advice::new(alloc, &cut)?;
+        let advice = Advice::new(alloc, &cut, &left.rests)?;
         Ok(Explainer {
             cut,
             left,
@@ -85,7 +85,9 @@ impl Explainer {
             (λ chain. HasGiven (obligations self.old.cut) self.old (chain_view chain self.new.claims) self.new) }
         ensures none { IsNone result ↔ IsDone (obligations self.old.cut) self.old }
     {
-        if begin(&self.cut, &mut self.left, &mut self.walk) {
+        self.advice.note(&self.cut, &self.left, &self.walk);
+        let advised = self.advice.first();
+        if begin(&self.cut, &mut self.left, &mut self.walk, advised) {
             Some(give(
                 &self.cut,
                 &mut self.left,

@@ -13,8 +13,8 @@ use crate::lowering::{take_closed, take_open};
 use crate::walk::{Walk, walk_on};
 use setoff_model::Cut;
 
-// Begins a walk where none has begun. False where all is explained.
-pub(crate) fn begin(cut: &Cut, left: &mut Left, walk: &mut Walk) -> bool
+// Begins a walk where none has begun, at the debtor of the advised claim where that can be. False where all is explained.
+pub(crate) fn begin(cut: &Cut, left: &mut Left, walk: &mut Walk, advised: usize) -> bool
     requires cut { WellFormed cut.now }
     requires between { IsBetween (obligations cut.now) left.old walk.old }
     ensures left { IsLeft (obligations cut.now) left.new }
@@ -34,7 +34,7 @@ pub(crate) fn begin(cut: &Cut, left: &mut Left, walk: &mut Walk) -> bool
     if walk.walked > 0 {
         return true;
     }
-    match origin(cut, left) {
+    match origin(cut, left, advised) {
         Some(party) => {
             walk.from = party;
             walk.at = party;
@@ -63,7 +63,7 @@ pub(crate) fn give(
     ensures chain { IsChainOf (obligations cut.now) (chain_view result (last_chain walk.new)) }
     ensures taken { IsTaken (obligations cut.now) left.old (chain_view result (last_chain walk.new)) left.new }
 {
-    advice.seek(&left.rests, &left.ends, walk.at);
+    advice.seek(cut, left, walk.at);
     match walk_on(cut, left, listed, walk, advice) {
         Some(place) => give_closed(cut, left, walk, place),
         None => give_open(cut, left, walk),
