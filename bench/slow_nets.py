@@ -82,10 +82,10 @@ def cost(path, net):
     if len(claims) > MOST_CLAIMS:
         return 0.0, len(claims), 0.0
     write(path, windows, claims)
-    reading = min(solver.run(path, 0)[1] for _ in range(2))
-    words, once = solver.run(path, 1)
+    reading = min(solver.run("timed_solver", path, 0)[1] for _ in range(2))
+    words, once = solver.run("timed_solver", path, 1)
     times = max(1, min(20, int(0.3 / max(once - reading, 0.001))))
-    spent = min(solver.run(path, times)[1] - reading for _ in range(2)) / times
+    spent = min(solver.run("timed_solver", path, times)[1] - reading for _ in range(2)) / times
     return spent * 1e6 / max(int(words[1]), 1), int(words[1]), spent * 1e3
 
 

@@ -1,5 +1,5 @@
 #!/usr/bin/env python3
-"""Times the level solver beside LEMON on drawn nets: bench/solver.py [weighted] [growth] [FAMILY[:SEED[:SIZE]]]..
+"""Times the level solver beside LEMON on drawn nets: bench/solver.py [weighted|growth|ratio] [FAMILY[:SEED[:SIZE]]]..
 
 The families are those of bench/nets.py; without one all are taken, at full size. With the word `weighted` the claims have drawn weights
 and are not merged, and the weighted set-off is timed. Each net is solved by a program that is made of the
@@ -9,10 +9,12 @@ milliseconds of either side, with the building of its graph, the least of three;
 best of LEMON; the bytes that the solver held at most, for each arc; and the load of the machine. The totals are compared, and the
 status is 1 where two differ.
 
-With the word `growth` the solver alone is timed, on each family at a quarter, a half and the whole of its size.
+With the word `growth` the solver alone is timed, on each family at a quarter, a half and the whole of its size. With `ratio` the
+weighted set-off is timed beside the one without weights, by turns.
 
 The solver's milliseconds are those of the whole program that solves some times, less those of the one that reads alone. With
-BENCH_SECONDS a run of LEMON has so many seconds, by default 25. Run by hand.
+BENCH_SECONDS a run of LEMON has so many seconds, by default 25; with BENCH_ENOUGH the solver solves for so many, by default 1.5. Run
+by hand.
 """
 
 import os
@@ -30,15 +32,16 @@ COUNTER = OUT / "allocations.so"
 SECONDS = int(os.environ.get("BENCH_SECONDS", "25"))
 METHODS = ("simplex", "scaling", "push", "augment")
 WORDS = sys.argv[1:]
-WEIGHTED = WORDS[:1] == ["weighted"] and bool(WORDS.pop(0))
-GROWTH = WORDS[:1] == ["growth"] and bool(WORDS.pop(0))
-NAME = "timed_weighted" if WEIGHTED else "timed_solver"
-PROGRAM = COPY / "crates" / NAME / "out" / NAME
-DEPENDENCIES = "bureau_edge setoff_model statement_text " + ("weighted_setoff" if WEIGHTED else "flow_solver level_solver netting_graph")
-FORM = "weighted" if WEIGHTED else "dimacs"
+MODE = WORDS.pop(0) if WORDS[:1] and WORDS[0] in ("weighted", "growth", "ratio") else "plain"
+DEPENDENCIES = {
+    "timed_solver": "bureau_edge setoff_model statement_text flow_solver level_solver netting_graph",
+    "timed_weighted": "bureau_edge setoff_model statement_text weighted_setoff",
+}
+NAMES = {"weighted": ["timed_weighted"], "ratio": ["timed_solver", "timed_weighted"]}.get(MODE, ["timed_solver"])
+FORM = "weighted" if MODE == "weighted" else "dimacs"
 RUNS = 3
-# The program solves so often that this takes about so many seconds, and so many times at most.
-ENOUGH, MOST_SOLVES = 1.5, 100
+# A program solves so often that this takes about so many seconds, and so many times at most.
+ENOUGH, MOST_SOLVES = float(os.environ.get("BENCH_ENOUGH", "1.5")), 100
 
 
 def families():
@@ -69,59 +72,85 @@ def copy(crate, to):
     shutil.copytree(crate, to, ignore=shutil.ignore_patterns("out"), dirs_exist_ok=True)
 
 
+def program(name):
+    return COPY / "crates" / name / "out" / name
+
+
+def put_source(name):
+    """Puts the sources of a program among the copies."""
+    folder = COPY / "crates" / name
+    text = (HERE / f"{name}.txt").read_bytes()
+    source = folder / "src/main.rt"
+    if not source.exists() or source.read_bytes() != text:
+        source.parent.mkdir(parents=True, exist_ok=True)
+        source.write_bytes(text)
+    for part in ("specs", "proofs"):
+        (folder / part).mkdir(exist_ok=True)
+        (folder / part / "Lib.antt").touch()
+
+
+def link(name):
+    """Proves and links a program."""
+    print(f"bench: proving and linking {name}", file=sys.stderr)
+    with open(OUT / "build.log", "w") as log:
+        subprocess.run(["rt", "run", "--", "0"], cwd=COPY / "crates" / name, stdin=subprocess.DEVNULL, stdout=log, stderr=log)
+    if not program(name).exists():
+        sys.exit(f"bench: {name} was not built; {OUT / 'build.log'} says why")
+
+
 def build():
-    """Proves and links the program that solves, and compiles the one over LEMON."""
+    """Proves and links the programs that solve, and compiles the one over LEMON."""
     OUT.mkdir(exist_ok=True)
-    wanted = below(DEPENDENCIES.split())
+    wanted = below({crate for words in DEPENDENCIES.values() for crate in words.split()})
     (COPY / "crates").mkdir(parents=True, exist_ok=True)
     subprocess.run(["git", "init", "--quiet", COPY], check=True)
     shutil.copy(HERE.parent / "HANDLES", COPY)
     for name in wanted:
         copy(HERE.parent / "crates" / name, COPY / "crates" / name)
-    source = COPY / "crates" / NAME / "src/main.rt"
-    text = HERE / f"{NAME}.txt"
-    if not source.exists() or source.read_bytes() != text.read_bytes():
-        source.parent.mkdir(parents=True, exist_ok=True)
-        shutil.copyfile(text, source)
-    for folder in ("specs", "proofs"):
-        (source.parent.parent / folder).mkdir(exist_ok=True)
-        (source.parent.parent / folder / "Lib.antt").touch()
-    (COPY / "crates.txt").write_text("\n".join([*wanted.values(), f"{NAME}: {DEPENDENCIES}"]) + "\n")
-    print("bench: proving and linking the solver", file=sys.stderr)
-    with open(OUT / "build.log", "w") as log:
-        subprocess.run(["rt", "run", "--", "0"], cwd=source.parent.parent, stdin=subprocess.DEVNULL, stdout=log, stderr=log)
-    if not PROGRAM.exists():
-        sys.exit(f"bench: the solver was not built; {OUT / 'build.log'} says why")
+    (COPY / "crates.txt").write_text("\n".join([*wanted.values(), *(f"{name}: {DEPENDENCIES[name]}" for name in NAMES)]) + "\n")
+    for name in NAMES:
+        put_source(name)
+    for name in NAMES:
+        link(name)
     subprocess.run(["cc", "-O2", "-shared", "-fPIC", "-o", COUNTER, HERE / "allocations.c", "-ldl"], check=True)
-    subprocess.run(["c++", "-O3", "-march=native", "-o", LEMON, HERE / "lemon.cc", "-llemon"], check=True)
+    if MODE in ("plain", "weighted"):
+        subprocess.run(["c++", "-O3", "-march=native", "-o", LEMON, HERE / "lemon.cc", "-llemon"], check=True)
 
 
-def run(statement, times):
+def run(name, statement, times):
     """What a run of the program wrote, and its processor seconds."""
     with open(statement, "rb") as text, tempfile.TemporaryFile() as output:
-        process = subprocess.Popen([PROGRAM, str(times)], stdin=text, stdout=output)
+        process = subprocess.Popen([program(name), str(times)], stdin=text, stdout=output)
         _, status, used = os.wait4(process.pid, 0)
         process.returncode = os.waitstatus_to_exitcode(status)
         output.seek(0)
         return output.read().decode().split(), used.ru_utime + used.ru_stime
 
 
-def allocations(statement, times, after):
+def allocations(name, statement, times, after):
     """How many allocations a run made, and how much more it held at most than at that one."""
     with open(statement, "rb") as text:
-        words = subprocess.run([PROGRAM, str(times)], stdin=text, env={"LD_PRELOAD": str(COUNTER), "AFTER": str(after)}, capture_output=True, check=True)
+        words = subprocess.run(
+            [program(name), str(times)], stdin=text, env={"LD_PRELOAD": str(COUNTER), "AFTER": str(after)}, capture_output=True, check=True)
     return tuple(map(int, words.stderr.split()))
 
 
+def timed(names, statement):
+    """For each program the words that it wrote, and the least milliseconds of three, which are taken by turns."""
+    reading = {name: min(run(name, statement, 0)[1] for _ in range(RUNS)) for name in names}
+    once = {name: run(name, statement, 1) for name in names}
+    times = {name: max(1, min(MOST_SOLVES, int(ENOUGH / max(once[name][1] - reading[name], 0.001)))) for name in names}
+    rounds = [{name: (run(name, statement, times[name])[1] - reading[name]) / times[name] for name in names} for _ in range(RUNS)]
+    return [(once[name][0], min(taken[name] for taken in rounds) * 1e3) for name in names]
+
+
 def solver(statement):
-    """The total, the arcs, the least milliseconds of three, and the bytes that were held for each arc at most."""
-    reading = min(run(statement, 0)[1] for _ in range(RUNS))
-    words, once = run(statement, 1)
-    times = max(1, min(MOST_SOLVES, int(ENOUGH / max(once - reading, 0.001))))
-    least = min((run(statement, times)[1] - reading) / times for _ in range(RUNS))
+    """The total, the arcs, the milliseconds, and the bytes that were held for each arc at most."""
+    name = NAMES[0]
+    [(words, milliseconds)] = timed([name], statement)
     total, arcs, _ = map(int, words)
-    held = allocations(statement, 1, allocations(statement, 0, 0)[0])[1]
-    return total, arcs, least * 1e3, held / max(arcs, 1)
+    held = allocations(name, statement, 1, allocations(name, statement, 0, 0)[0])[1]
+    return total, arcs, milliseconds, held / max(arcs, 1)
 
 
 def lemon(problem):
@@ -144,8 +173,17 @@ def growth(word, folder):
     cells = []
     for size in (0.25, 0.5, 1):
         draw(folder, "statement", family, seed, size)
-        cells.append(f"{solver(folder / 'statement')[2]:,.1f}")
+        [(_, milliseconds)] = timed(NAMES, folder / "statement")
+        cells.append(f"{milliseconds:,.1f}")
     print(f"| {family} | {' | '.join(cells)} | {os.getloadavg()[0]:.1f} |", flush=True)
+    return True
+
+
+def ratio(word, folder):
+    family, seed, size = (word.split(":") + ["1", "1"][word.count(":"):])
+    draw(folder, "statement", family, seed, size)
+    [(_, plain), (_, weighted)] = timed(NAMES, folder / "statement")
+    print(f"| {family} | {plain:,.1f} | {weighted:,.1f} | {weighted / plain:.2f} | {os.getloadavg()[0]:.1f} |", flush=True)
     return True
 
 
@@ -169,15 +207,21 @@ def row(word, folder):
     return all(value is None or value[1] == total for value in others.values())
 
 
+COLUMNS = {
+    "growth": "net | a quarter, ms | a half, ms | whole, ms | load",
+    "ratio": "net | without weights, ms | with weights, ms | times as long | load",
+}
+ROWS = {"growth": growth, "ratio": ratio}
+
+
 def main():
     words = WORDS or families()
     build()
-    columns = "net | a quarter, ms | a half, ms | whole, ms | load" if GROWTH else (
-        "net | seed | arcs | total | solver, ms | simplex, ms | scaling, ms | times as fast | bytes an arc | load")
+    columns = COLUMNS.get(MODE, "net | seed | arcs | total | solver, ms | simplex, ms | scaling, ms | times as fast | bytes an arc | load")
     print(f"| {columns} |")
     print("|---" * (columns.count("|") + 1) + "|")
     with tempfile.TemporaryDirectory() as folder:
-        same = [(growth if GROWTH else row)(word, pathlib.Path(folder)) for word in words]
+        same = [ROWS.get(MODE, row)(word, pathlib.Path(folder)) for word in words]
     sys.exit(0 if all(same) else 1)
 
 

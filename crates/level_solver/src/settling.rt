@@ -12,7 +12,8 @@ use std::alloc::{AllocError, Global};
 // After so many turns, each of twice as much work, the levels go on alone.
 const TURNS: u32 = 8;
 
-// After so many levels the whole is sought once from where nothing is set off.
+// After so many levels the whole is sought once from where nothing is set off, if there are at most six halves of arcs at a node.
+// Else it is sought before the first.
 const LEVELS_BEFORE_COLD: usize = 2;
 
 /// Moves excess until no node of the state has any above 0: one level of prices after another, and the rest at once where levels
@@ -52,26 +53,42 @@ fn levels_at_first(
     requires { IsState state.old }
     ensures { OnOk result (StaysOn state.old state.new) }
 {
-    let mut advice = Advice::new(alloc, &state.edges, state.excess.len())?;
+    let halves = Halves::of(alloc, &state.edges, state.excess.len())?;
+    let levels = levels_before_cold(halves.len(), state.excess.len());
+    take_cold(alloc, state, &halves, windows, turns, levels == 0)?;
+    if surplus_of(&state.excess) == 0 {
+        return Ok(halves);
+    }
+    let mut advice = Advice::over(alloc, halves, state.edges.len(), state.excess.len())?;
     let mut past = Vec::with_capacity(alloc, MOST_WEIGHTED)?;
-    first_levels(alloc, state, &mut advice, &mut past, LEVELS_BEFORE_COLD)?;
-    take_cold(alloc, state, advice.halves(), windows, turns)?;
+    first_levels(alloc, state, &mut advice, &mut past, levels)?;
+    take_cold(alloc, state, advice.halves(), windows, turns, levels != 0)?;
     first_levels(alloc, state, &mut advice, &mut past, usize::MAX)?;
     Ok(advice.into_halves())
 }
 
-// Takes a whole solution that is found from where nothing is set off, where any excess is left and there are turns.
+// How many levels come before the whole is sought from where nothing is set off.
+fn levels_before_cold(halves: usize, nodes: usize) -> usize {
+    if halves / 6 <= nodes {
+        LEVELS_BEFORE_COLD
+    } else {
+        0
+    }
+}
+
+// Takes a whole solution that is found from where nothing is set off, where it is time, any excess is left, and there are turns.
 fn take_cold(
     alloc: Global,
     state: &mut State,
     halves: &Halves,
     windows: &[u64],
     turns: u32,
+    now: bool,
 ) -> Result<(), AllocError>
     requires { IsState state.old }
     ensures { OnOk result (StaysOn state.old state.new) }
 {
-    if turns == 0 || surplus_of(&state.excess) == 0 {
+    if !now || turns == 0 || surplus_of(&state.excess) == 0 {
         return Ok(());
     }
     if let Some(Solution { flows, prices }) = found_cold(alloc, state, halves, windows)? {

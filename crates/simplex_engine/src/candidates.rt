@@ -1,20 +1,21 @@
 //! Which arc enters the tree.
-use crate::arcs::{Arc, NO_ARC};
-use crate::tree::{NOBODY, Tree};
 use level_engine::Halves;
 use loose_places::{at, put};
+use spanning_tree::{Arc, NO_ARC, NOBODY, Part, Tree};
 use std::alloc::{AllocError, Global};
 
-// The arcs of a run stand together in the list of arcs. Runs are looked at in an order that spreads over the net.
+// The arcs of a run stand together in the list of arcs, at first so many. Runs are looked at in an order that spreads over the net.
 const RUN: usize = 16;
 
 // A change of potentials is followed by a look at the arcs around it where they are at most so many halves.
 const AROUND: u64 = 1_024;
 
-// Bad arcs that wait, how far the round over all runs is, and how many arcs were priced in it and looked at besides.
+// Bad arcs that wait, how long a run is, how many runs there are and are in a block, how far the round over all of them is, and how
+// many arcs were priced in it and looked at besides.
 #[derive(Drop)]
 pub(crate) struct Candidates {
     list: Vec<u32>,
+    length: usize,
     run: usize,
     runs: usize,
     stride: usize,
@@ -22,6 +23,7 @@ pub(crate) struct Candidates {
     idle: usize,
     priced: u64,
     looked: u64,
+    looks: bool,
     pub(crate) work: u64,
 }
 
@@ -39,18 +41,28 @@ const NONE_BAD: Worst = Worst {
 
 impl Candidates {
     pub(crate) fn new(alloc: Global, arcs: usize) -> Result<Candidates, AllocError> {
-        let runs = (arcs / RUN).saturating_add(1);
-        Ok(Candidates {
+        let mut candidates = Candidates {
             list: Vec::with_capacity(alloc, arcs)?,
+            length: RUN,
             run: 0,
-            runs,
-            stride: stride_over(runs),
+            runs: 0,
+            stride: 1,
             block: (root_of(arcs) / 8 / RUN).max(1),
             idle: 0,
             priced: 0,
             looked: 0,
+            looks: true,
             work: 0,
-        })
+        };
+        candidates.begin_round(arcs);
+        Ok(candidates)
+    }
+
+    // Begins a round over all arcs, of which there are so many.
+    fn begin_round(&mut self, arcs: usize) {
+        self.run = 0;
+        self.runs = (arcs / self.length.max(1)).saturating_add(1);
+        self.stride = stride_over(self.runs);
     }
 
     // Whether no arc was bad in a whole round.
@@ -87,15 +99,16 @@ impl Candidates {
     fn worst_of_block(&mut self, arcs: &[Arc], potentials: &[i32]) -> Worst {
         let mut worst = NONE_BAD;
         for _ in 0..self.block {
-            let first = self.run.wrapping_mul(RUN);
-            worst = worst_of_run(arcs, potentials, first, worst);
+            let first = self.run.wrapping_mul(self.length);
+            let end = first.saturating_add(self.length);
+            worst = worst_of_run(arcs, potentials, first, end, worst);
             self.run = self.run.wrapping_add(self.stride);
             if self.runs <= self.run {
                 self.run = self.run.wrapping_sub(self.runs);
             }
         }
         self.idle = self.idle.saturating_add(self.block);
-        let priced = self.block.wrapping_mul(RUN) as u64;
+        let priced = self.block.wrapping_mul(self.length) as u64;
         self.priced = self.priced.saturating_add(priced);
         self.work = self.work.saturating_add(priced);
         worst
@@ -105,7 +118,7 @@ impl Candidates {
     fn worst_of_list(&mut self, arcs: &mut [Arc], potentials: &[i32]) -> Worst {
         let mut worst = NONE_BAD;
         let mut place = self.list.len();
-        for _ in 0..self.block.wrapping_mul(RUN) {
+        for _ in 0..self.block.wrapping_mul(self.length) {
             if place == 0 {
                 return worst;
             }
@@ -143,36 +156,45 @@ impl Candidates {
         self.list.truncate(last);
     }
 
+    // Lets bad arcs be found in blocks alone.
+    pub(crate) fn stop_looking(&mut self) {
+        self.looks = false;
+    }
+
+    // Lets each block be one run. There are so many arcs.
+    pub(crate) fn lengthen_runs(&mut self, arcs: usize) {
+        self.length = self.block.wrapping_mul(self.length);
+        self.block = 1;
+        self.begin_round(arcs);
+    }
+
     // At how many halves a look is taken at most: none where it was looked at more than twice what was priced.
     pub(crate) fn most_around(&self) -> u64 {
-        if self.looked / 2 <= self.priced {
+        if self.looks && self.looked / 2 <= self.priced {
             AROUND
         } else {
             0
         }
     }
 
-    // Lists the bad arcs around the nodes that hang at a top, without those at `spared`. So many halves are there.
+    // Lists the bad arcs around the nodes of a part. So many halves are there.
     pub(crate) fn look(
         &mut self,
         arcs: &mut [Arc],
         halves: &Halves,
         tree: &Tree,
-        top: u16,
-        spared: u16,
+        part: Part,
         around: u64,
     ) -> Result<(), AllocError> {
         self.looked = self.looked.saturating_add(around);
         self.work = self.work.saturating_add(around);
-        let mut node = top;
+        let mut node = part.first;
         for _ in 0..u16::MAX {
             if node == NOBODY {
                 return Ok(());
             }
-            if node != spared {
-                self.look_at(arcs, halves, &tree.potentials, node)?;
-            }
-            node = tree.after(node, top, spared);
+            self.look_at(arcs, halves, &tree.potentials, node)?;
+            node = tree.step(part, node);
         }
         Ok(())
     }
@@ -206,9 +228,15 @@ impl Candidates {
 
 // The worst of the arcs of a run and one found before.
 #[inline(always)]
-fn worst_of_run(arcs: &[Arc], potentials: &[i32], first: usize, before: Worst) -> Worst {
+fn worst_of_run(
+    arcs: &[Arc],
+    potentials: &[i32],
+    first: usize,
+    end: usize,
+    before: Worst,
+) -> Worst {
     let mut worst = before;
-    for place in first..first.saturating_add(RUN) {
+    for place in first..end {
         let badness = at(arcs, place, NO_ARC).badness(potentials);
         if worst.badness < badness {
             worst = Worst { place, badness };

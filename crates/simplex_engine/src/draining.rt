@@ -63,6 +63,11 @@ impl Drain {
         Ok(())
     }
 
+    // Whether no node has any excess.
+    pub(crate) fn is_over(&self) -> bool {
+        self.excess.iter().all(|&amount| amount <= 0)
+    }
+
     // The flows, and the excess that is left.
     pub(crate) fn drained(self) -> (Vec<u64>, Vec<i64>) {
         (self.flows, self.excess)

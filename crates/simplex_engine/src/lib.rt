@@ -11,13 +11,10 @@
 //! Ahuja, Magnanti and Orlin, "Network Flows", 1993, chapter 11, with strongly feasible trees.
 #![tactic(auto)]
 
-mod arcs;
 mod buckets;
 mod candidates;
 mod draining;
-mod forest;
 mod simplex;
-mod tree;
 mod turns;
 
 pub use turns::{Position, Solution, seek_cold, seek_solution};

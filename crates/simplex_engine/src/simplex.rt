@@ -1,11 +1,11 @@
 //! A network simplex.
-use crate::arcs::{Arc, NO_ARC, arcs_of};
 use crate::candidates::Candidates;
-use crate::forest::{MUCH, Start, own_code, plant};
-use crate::tree::{Branch, Circle, NOBODY, Tree};
 use level_engine::Halves;
 use loose_places::{at, put, short, small};
 use residual_network::Edge;
+use spanning_tree::{
+    Arc, Branch, Circle, MUCH, NO_ARC, NOBODY, Part, Start, Tree, arcs_of, own_code, plant,
+};
 use std::alloc::{AllocError, Global};
 
 // The arcs, the tree, the bad arcs, and what is still to be brought into the tree: arcs that were neither full nor empty at the
@@ -69,6 +69,16 @@ impl Simplex {
             begun: 0,
             pivots: 0,
         })
+    }
+
+    // Lets the arcs around changed potentials not be looked at.
+    pub(crate) fn stop_looking(&mut self) {
+        self.candidates.stop_looking();
+    }
+
+    // Lets more arcs that stand together be priced at once, which takes fewer reads from afar.
+    pub(crate) fn lengthen_runs(&mut self) {
+        self.candidates.lengthen_runs(self.arcs.len());
     }
 
     // Goes on for so much work. Whether no arc is bad any more.
@@ -232,23 +242,24 @@ impl Simplex {
         } else {
             (root, part, by.wrapping_neg())
         };
-        let nodes = self.tree.change(top, spared, by);
+        let moved = self.tree.part(top, spared);
+        let nodes = self.tree.change(moved, by);
         self.candidates.work = self.candidates.work.saturating_add(nodes.wrapping_mul(2));
-        self.look(halves, top, spared)
+        self.look(halves, moved)
     }
 
     // Looks at the arcs around a part, where they are few.
-    fn look(&mut self, halves: &Halves, top: u16, spared: u16) -> Result<(), AllocError> {
+    fn look(&mut self, halves: &Halves, part: Part) -> Result<(), AllocError> {
         let most = self.candidates.most_around();
         if most == 0 {
             return Ok(());
         }
-        let around = self.tree.around(halves, top, spared, most);
+        let around = self.tree.around(halves, part, most);
         if most < around {
             return Ok(());
         }
         self.candidates
-            .look(&mut self.arcs, halves, &self.tree, top, spared, around)
+            .look(&mut self.arcs, halves, &self.tree, part, around)
     }
 
     // Lets the arc of a half be empty or full. An arc to the root has no side.

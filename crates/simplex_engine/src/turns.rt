@@ -30,51 +30,109 @@ pub struct Position<'a> {
     pub windows: &'a [u64],
 }
 
-// The work that a drain is worth, for each half.
+// The work for each half that a drain has at first, and where the whole was sought in vain.
+const BRIEF: u64 = 32;
+
 const DRAIN: u64 = 400;
 
 // The work for each half that the undrained simplex has at first, where there are few.
 const SPARSE: u64 = 700;
 
-// The work for each half that the cold simplex has at first, and what it has more where its work was at most so much for each arc that
+// How a simplex is tried: its work for each half at first, and what it has in all where that was at most so much for each arc that
 // entered.
-const TRIED: u64 = 4;
+#[derive(Clone, Copy)]
+struct Trial {
+    first: u64,
+    light: u64,
+    all: u64,
+}
 
-const COLD: u64 = 124;
+const FEW_HALVES: Trial = Trial {
+    first: 4,
+    light: 48,
+    all: 128,
+};
 
-const LIGHT: u64 = 80;
+const MANY_HALVES: Trial = Trial {
+    first: 16,
+    light: 200,
+    all: 128,
+};
+
+// The work for each half that the cold simplex has where a drain takes long, besides a quarter of the square of the nodes.
+const COLD: u64 = 400;
 
 /// A solution from where nothing is set off, if one is found with little work for each arc that enters.
 ///
-/// It is sought where there are more than three halves of arcs at a node, and at most six. Nothing is proved of it. An error is want
-/// of memory.
+/// It is sought where there are more than three halves of arcs at a node and at most six, or where more than three fifths of what is
+/// set off are in excess. Nothing is proved of it. An error is want of memory.
 pub fn seek_cold(
     alloc: Global,
     position: &Position,
     halves: &Halves,
 ) -> Result<Option<Solution>, AllocError> {
     let (many, nodes) = (halves.len() as u64, position.excess.len() as u64);
-    if many / 3 <= nodes || nodes < many / 6 {
+    if many / 3 <= nodes {
         return Ok(None);
     }
+    if many / 6 <= nodes {
+        return tried_cold(alloc, position, halves, FEW_HALVES);
+    }
+    if is_far(position) {
+        tried_cold(alloc, position, halves, MANY_HALVES)
+    } else {
+        Ok(None)
+    }
+}
+
+// Whether more than three fifths of what is set off are in excess, and so have to go back.
+fn is_far(position: &Position) -> bool {
+    let mut left = 0u128;
+    for &amount in position.excess {
+        if 0 < amount {
+            left = left.saturating_add(amount.unsigned_abs());
+        }
+    }
+    let mut set_off = 0u128;
+    let claims = position.flows.len().saturating_sub(position.windows.len());
+    for &flow in position.flows.iter().take(claims) {
+        set_off = set_off.saturating_add(u128::from(flow));
+    }
+    set_off / 5 * 3 < left
+}
+
+// A solution from where nothing is set off, if the trial comes to its end.
+fn tried_cold(
+    alloc: Global,
+    position: &Position,
+    halves: &Halves,
+    trial: Trial,
+) -> Result<Option<Solution>, AllocError> {
     let mut cold = cold_simplex(alloc, position, halves)?;
-    if ends_lightly(&mut cold, position.edges, halves)? {
+    cold.lengthen_runs();
+    if ends_lightly(&mut cold, position.edges, halves, trial)? {
         answer(alloc, position.edges, &cold)
     } else {
         Ok(None)
     }
 }
 
-// Whether the cold simplex comes to its end. It does not go on where it is not light.
-fn ends_lightly(cold: &mut Simplex, edges: &[Edge], halves: &Halves) -> Result<bool, AllocError> {
+// Whether the simplex comes to its end. It does not go on where it is not light.
+fn ends_lightly(
+    simplex: &mut Simplex,
+    edges: &[Edge],
+    halves: &Halves,
+    trial: Trial,
+) -> Result<bool, AllocError> {
     let many = halves.len() as u64;
-    if cold.run(edges, halves, many.saturating_mul(TRIED))? {
+    if simplex.run(edges, halves, many.saturating_mul(trial.first))? {
         return Ok(true);
     }
-    if !cold.is_light(LIGHT) {
+    if !simplex.is_light(trial.light) {
         return Ok(false);
     }
-    cold.run(edges, halves, many.saturating_mul(COLD))
+    let more = trial.all.saturating_sub(trial.first);
+    simplex.run(edges, halves, many.saturating_mul(more))
 }
 
 /// A solution, if one is found in so many turns, each of twice as much work as the one before.
@@ -94,8 +152,34 @@ pub fn seek_solution(
     if warm.run(position.edges, halves, work_where_sparse(position, halves))? {
         return answer(alloc, position.edges, &warm);
     }
-    let mut drained = drained_simplex(alloc, position, halves, &prices)?;
+    let mut drain = drain_for(alloc, position, halves, BRIEF)?;
+    if !drain.is_over() {
+        drop(drain);
+        if let Some(solution) = whole_at_once(alloc, position, halves)? {
+            return Ok(Some(solution));
+        }
+        drain = drain_for(alloc, position, halves, DRAIN)?;
+    }
+    let mut drained = drained_simplex(alloc, position, halves, drain, &prices)?;
     by_turns(alloc, position, halves, &mut drained, &mut warm, turns)
+}
+
+// A solution from where nothing is set off, if one is found in time.
+fn whole_at_once(
+    alloc: Global,
+    position: &Position,
+    halves: &Halves,
+) -> Result<Option<Solution>, AllocError> {
+    let nodes = position.excess.len() as u64;
+    let work = (nodes.saturating_mul(nodes) / 4).saturating_add(
+        (halves.len() as u64).saturating_mul(COLD),
+    );
+    let mut cold = cold_simplex(alloc, position, halves)?;
+    if cold.run(position.edges, halves, work)? {
+        answer(alloc, position.edges, &cold)
+    } else {
+        Ok(None)
+    }
 }
 
 // The work that the undrained simplex has first: none where there are more than three halves at a node.
@@ -158,7 +242,23 @@ fn cold_simplex(
     }
     let prices = vec![in alloc; 0i32; nodes]?;
     let excess = vec![in alloc; 0i64; nodes]?;
-    Simplex::new(alloc, position.edges, halves, flows, &prices, excess)
+    let mut cold = Simplex::new(alloc, position.edges, halves, flows, &prices, excess)?;
+    cold.stop_looking();
+    Ok(cold)
+}
+
+// The position drained of its excess, with so much work for each half.
+fn drain_for(
+    alloc: Global,
+    position: &Position,
+    halves: &Halves,
+    work: u64,
+) -> Result<Drain, AllocError> {
+    let excess = cents(alloc, position.excess)?;
+    let mut drain = Drain::new(alloc, position.flows, excess, position.windows)?;
+    let most = (halves.len() as u64).saturating_mul(work);
+    drain.run(alloc, halves, most)?;
+    Ok(drain)
 }
 
 // A simplex that starts from the position after the rest of the excess was drained.
@@ -166,12 +266,9 @@ fn drained_simplex(
     alloc: Global,
     position: &Position,
     halves: &Halves,
+    drain: Drain,
     prices: &[i32],
 ) -> Result<Simplex, AllocError> {
-    let excess = cents(alloc, position.excess)?;
-    let mut drain = Drain::new(alloc, position.flows, excess, position.windows)?;
-    let most = (halves.len() as u64).saturating_mul(DRAIN);
-    drain.run(alloc, halves, most)?;
     let (flows, excess) = drain.drained();
     Simplex::new(alloc, position.edges, halves, flows, prices, excess)
 }

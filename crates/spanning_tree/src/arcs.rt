@@ -3,19 +3,23 @@ use loose_places::{at, small};
 use residual_network::Edge;
 use std::alloc::{AllocError, Global};
 
-// An arc: its ends, what a cent on it counts, the bound that its flow is at, and whether it waits as a candidate.
-//
-// The side is 1 where it is empty and -1 where it is full. It is 0 in the tree, and where the arc holds nothing.
+/// An arc.
 #[derive(Clone, Copy)]
-pub(crate) struct Arc {
-    pub(crate) tail: u16,
-    pub(crate) head: u16,
-    pub(crate) reward: u16,
-    pub(crate) side: i8,
-    pub(crate) listed: bool,
+pub struct Arc {
+    /// The node that it goes from.
+    pub tail: u16,
+    /// The node that it goes to.
+    pub head: u16,
+    /// What a cent on it counts.
+    pub reward: u16,
+    /// The bound that its flow is at: 1 where it is empty and -1 where it is full. It is 0 in the tree, and where the arc holds nothing.
+    pub side: i8,
+    /// Whether it waits as a candidate.
+    pub listed: bool,
 }
 
-pub(crate) const NO_ARC: Arc = Arc {
+/// An arc that holds nothing.
+pub const NO_ARC: Arc = Arc {
     tail: 0,
     head: 0,
     reward: 0,
@@ -24,27 +28,23 @@ pub(crate) const NO_ARC: Arc = Arc {
 };
 
 impl Arc {
-    // What a cent more on the arc gains at these potentials.
+    /// What a cent more on the arc gains at these potentials.
     #[inline(always)]
-    pub(crate) fn gain(&self, potentials: &[i32]) -> i32 {
+    pub fn gain(&self, potentials: &[i32]) -> i32 {
         let tail = at(potentials, usize::from(self.tail), 0);
         let head = at(potentials, usize::from(self.head), 0);
         i32::from(self.reward).wrapping_sub(tail).wrapping_add(head)
     }
 
-    // What a cent gains that leaves the bound. The arc is bad where this is above 0.
+    /// What a cent gains that leaves the bound. The arc is bad where this is above 0.
     #[inline(always)]
-    pub(crate) fn badness(&self, potentials: &[i32]) -> i32 {
+    pub fn badness(&self, potentials: &[i32]) -> i32 {
         self.gain(potentials).wrapping_mul(i32::from(self.side))
     }
 }
 
-// The arcs with these flows.
-pub(crate) fn arcs_of(
-    alloc: Global,
-    edges: &[Edge],
-    flows: &[u64],
-) -> Result<Vec<Arc>, AllocError> {
+/// The arcs with these flows. An error is want of memory.
+pub fn arcs_of(alloc: Global, edges: &[Edge], flows: &[u64]) -> Result<Vec<Arc>, AllocError> {
     let mut arcs = Vec::with_capacity(alloc, edges.len())?;
     for (place, edge) in edges.iter().enumerate() {
         arcs.push(Arc {
