@@ -1,6 +1,7 @@
 #!/usr/bin/env bash
 # Prints how many nanoseconds it takes to show one entry of a book with 100 and with 16,384 firms, and what 1, 2, 4 and 8 readers read
-# a second, in rows, beside a writer that shows an entry at a time: of a board, and of a book behind a lock. The program is
+# a second, in rows, beside a writer that shows an entry at a time, one at once after another, or with the nanoseconds between them that
+# an act takes which is synced to a disk: of a board, and of a book behind a lock. The program is
 # bench/timed_readers.txt with its proofs in bench/timed_readers_proofs.txt. It is proved and linked in a copy of the repository under
 # bench/out, and run three times, each with the load of the machine. Run by hand.
 set -eu
@@ -31,6 +32,6 @@ fi
 for _ in 1 2 3; do
   out/readers_timed | awk '
     $1 == "show" { printf "show one entry of %d firms: %d ns\n", $2, $3 }
-    $1 == "read" { printf "readers %d: of copies %d rows a second, of a locked book %d\n", $2, $3, $4 }'
+    $1 == "read" { printf "an entry each %d ns, readers %d: of copies %d rows a second, of a locked book %d\n", $2, $3, $4, $5 }'
   echo "load: $(cut -d ' ' -f 1 /proc/loadavg)"
 done

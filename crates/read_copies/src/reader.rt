@@ -19,7 +19,11 @@ use std::sync::Wait;
 pub struct BoardReader {
     reader: TableReader,
     told: Told,
+    apart: Apart,
 }
+
+// Keeps what a reader writes out of the cache lines of the next one in a list: both would wait for each other.
+type Apart = [u64; 16];
 
 impl Model for BoardReader {
     ghost use Rattle.left_right.specs.Sides.{view as known};
@@ -65,7 +69,11 @@ impl BoardReader {
         requires { KnowsBoard told.board (view reader.place) }
         ensures { result ≡ told }
     {
-        BoardReader { reader, told }
+        BoardReader {
+            reader,
+            told,
+            apart: [0; 16],
+        }
     }
 
     /// How many entries the history has that is shown now, and the row of a firm in it; None exactly where the firm is not
