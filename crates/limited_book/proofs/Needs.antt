@@ -1,6 +1,7 @@
 -- What a call needs, as the books find it.
-use Rattle.std.specs.Prelude.{Result, IfOk, IfErr, ◌-◌}
-use Rattle.std.proofs.Common.{◌≡◌, ℕ, ◌+◌, ◌*◌, true, false, List, length, refl, sym, ◌∙◌, ap, ap₂, true≢false, arith}
+use Rattle.std.specs.Prelude.{Result, IfOk, IfErr, Option, reverse, ◌-◌}
+use Rattle.std.proofs.Common.{◌≡◌, ℕ, ◌+◌, ◌*◌, true, false, List, [], ◌∷◌, ◌++◌, length, refl, sym, ◌∙◌, ap, ap₂, true≢false, arith}
+use Rattle.std.proofs.lemmas.List.{reverse-append}
 use Rattle.std.proofs.lemmas.Result.{IfOk-weaker, MatchResult-weaker}
 use Rattle.setoff_model.specs.CutView.{CutView}
 use Rattle.claim_history.specs.declared.act.Act.{Act}
@@ -10,14 +11,16 @@ use Rattle.claim_history.specs.declared.call.Call.{Call}
 use Rattle.claim_history.specs.declared.call.PoolEntry.{PoolEntry}
 use Rattle.claim_history.specs.declared.record_bytes.TheConstants.{RECORD_HEAD, CLOSE_BODY}
 use Rattle.claim_history.specs.Cut.{cut_of}
-use Rattle.claim_history.specs.States.{State, after}
+use Rattle.claim_history.specs.declared.entry.Entry.{Entry}
+use Rattle.claim_history.specs.States.{OpenRound, State, after, state}
 use Rattle.claim_history.specs.History.{is_opening, replied}
 use Rattle.claim_history.specs.Needs.{endings_with, endings_entries, open_after}
-use Rattle.claim_history.specs.Pools.{due_reply, ledger_in, open_round_in, state_in}
-use Rattle.claim_history.specs.PoolNeeds.{is_full, needed_bytes_of, needed_entries_of, own_bytes, pool_bytes, pool_endings_bytes, reserved_bytes_of, reserved_entries_of, used_bytes_of, used_entries_of}
+use Rattle.claim_history.specs.Pools.{due_reply, entries_in, ledger_in, open_round_in, state_in}
+use Rattle.claim_history.specs.PoolNeeds.{is_full, needed_bytes_of, needed_entries_of, open_in, own_bytes, pool_bytes, pool_endings_bytes, reserved_bytes_of, reserved_entries_of, used_bytes_of, used_entries_of}
 use Rattle.claim_history.specs.PoolRounds.{IsCutDue}
 use Rattle.claim_history.proofs.Replies.{IsOpening, opens}
-use Rattle.claim_history.proofs.PoolRoom.{needs_law, reserve_law}
+use Rattle.claim_history.proofs.Pools.{in_reverse}
+use Rattle.claim_history.proofs.PoolRoom.{needs_law, open_own, reserve_law}
 use Rattle.limited_book.specs.declared.room.Room.{Room}
 use Rattle.limited_book.specs.declared.room.Room.TheVariants.{Entries, Bytes}
 use Rattle.limited_book.specs.declared.full.Full.{Full}
@@ -29,6 +32,16 @@ after_reply : (caller : ℕ) (a : Act) (r : Reply) (s : State) → is_opening r 
 after_reply caller a (reply.Opened round) s e = absurd (true≢false e)
 after_reply caller a r s e = refl
 
+-- what is open after a member that opens no round
+pub open_then : (history : List PoolEntry) (m : PoolEntry) → is_opening m.entry.reply ≡ false
+    → open_round_in (history ++ m ∷ []) m.pool ≡ round_after m.entry.reply (open_round_in history m.pool)
+open_then history m no_opening =
+    let past = reverse history in
+    let open_of : List Entry → Option OpenRound = λ es. (state es).open_round in
+    sym (ap open_of (in_reverse m.pool (history ++ m ∷ []))) ∙ ap (λ (p : List PoolEntry). open_in p m.pool) (reverse-append history (m ∷ []))
+    ∙ open_own m past ∙ after_reply m.entry.caller m.entry.act m.entry.reply (state (entries_in m.pool past)) no_opening
+    ∙ ap (λ (es : List Entry). round_after m.entry.reply (state es).open_round) (in_reverse m.pool history)
+
 module _ (history : List PoolEntry) (call : Call) (r : Reply) (due : r ≡ due_reply history call) (no_opening : is_opening r ≡ false) where
   -- what is open after the one reply
   later_is : open_after (state_in history call.pool) call.caller call.act ≡ round_after r (open_round_in history call.pool)
@@ -36,17 +49,17 @@ module _ (history : List PoolEntry) (call : Call) (r : Reply) (due : r ≡ due_r
       ap (λ (x : Reply). (after call.caller call.act x (state_in history call.pool)).open_round) (sym due)
       ∙ after_reply call.caller call.act r (state_in history call.pool) no_opening
 
-  pub entries_needed : (used reserved now later : ℕ) → used ≡ used_entries_of history → reserved ≡ reserved_entries_of history
-      → now ≡ endings_entries (open_round_in history call.pool) → later ≡ endings_entries (round_after r (open_round_in history call.pool))
-      → used + 1 + (reserved - now + later) ≡ needed_entries_of history call
-  entries_needed used reserved now later used_is reserved_is now_is later_are =
-      omega (arith, (needs_law history call).entries, (reserve_law history call.pool).entries, used_is, reserved_is, now_is, later_are, ap endings_entries later_is)
+  pub entries_needed : (used rest : ℕ) → used ≡ used_entries_of history
+      → rest ≡ reserved_entries_of history - endings_entries (open_round_in history call.pool) + endings_entries (round_after r (open_round_in history call.pool))
+      → used + 1 + rest ≡ needed_entries_of history call
+  entries_needed used rest used_is rest_is =
+      omega (arith, (needs_law history call).entries, (reserve_law history call.pool).entries, used_is, rest_is, ap endings_entries later_is)
 
-  pub bytes_needed : (used own reserved now later : ℕ) → used ≡ used_bytes_of history → own ≡ own_bytes call r → reserved ≡ reserved_bytes_of history
-      → now ≡ pool_endings_bytes call.pool (open_round_in history call.pool) → later ≡ pool_endings_bytes call.pool (round_after r (open_round_in history call.pool))
-      → used + own + (reserved - now + later) ≡ needed_bytes_of history call
-  bytes_needed used own reserved now later used_is own_is reserved_is now_is later_are =
-      omega (arith, (needs_law history call).bytes, (reserve_law history call.pool).bytes, used_is, own_is, ap (own_bytes call) due, reserved_is, now_is, later_are, ap (pool_endings_bytes call.pool) later_is)
+  pub bytes_needed : (used own rest : ℕ) → used ≡ used_bytes_of history → own ≡ own_bytes call r
+      → rest ≡ reserved_bytes_of history - pool_endings_bytes call.pool (open_round_in history call.pool) + pool_endings_bytes call.pool (round_after r (open_round_in history call.pool))
+      → used + own + rest ≡ needed_bytes_of history call
+  bytes_needed used own rest used_is own_is rest_is =
+      omega (arith, (needs_law history call).bytes, (reserve_law history call.pool).bytes, used_is, own_is, ap (own_bytes call) due, rest_is, ap (pool_endings_bytes call.pool) later_is)
 
 -- ---- a Close that opens a round
 

@@ -1,18 +1,19 @@
 //! The books of all pools within the limits.
-ghost use Rattle.std.specs.Prelude.{ℕ, List, ◌≡◌, ◌+◌, ◌*◌, ◌<◌, ◌≤◌, ◌++◌, ◌∷◌, [], IfOk, IfErr, OnOk, OnErr, true, false};
+ghost use Rattle.std.specs.Prelude.{ℕ, List, ◌≡◌, ◌+◌, ◌-◌, ◌*◌, ◌<◌, ◌≤◌, ◌++◌, ◌∷◌, [], IfOk, IfErr, OnOk, OnErr, true, false};
 ghost use Rattle.setoff_model.specs.declared.limits.TheConstants.{MOST_ENTRIES, MOST_JOURNAL_BYTES};
 ghost use Rattle.setoff_model.specs.CutView.{WellFormed};
 ghost use Rattle.claim_history.specs.History.{is_opening, is_no_refusal};
 ghost use Rattle.claim_history.specs.Acts.{is_valid, is_publication, is_close};
 ghost use Rattle.claim_history.specs.Pools.{IsLegal, AreValid, MayFollow, call_of, due_reply, entries_in, member_of, open_round_in, state_in};
-ghost use Rattle.claim_history.specs.PoolNeeds.{Fits, IsReserved, IsWithinLimits, is_full, reserved_bytes_of, reserved_entries_of, used_bytes_of, used_entries_of};
+ghost use Rattle.claim_history.specs.Needs.{endings_entries};
+ghost use Rattle.claim_history.specs.PoolNeeds.{Fits, IsReserved, IsWithinLimits, is_full, pool_endings_bytes, reserved_bytes_of, reserved_entries_of, used_bytes_of, used_entries_of};
 ghost use Rattle.claim_history.specs.PoolRounds.{IsCutDue};
 ghost use Rattle.claim_book.specs.Book.{room_for, room_needed, KeepsRoom, GivesCut};
 ghost use Rattle.claim_book.specs.Pools.{KeepsRooms, room_in};
-ghost use Rattle.limited_book.specs.Limited.{IsFull};
+ghost use Rattle.limited_book.specs.Limited.{IsFull, round_after};
 
 use crate::full::{Full, within_limits};
-use crate::need::{Need, endings_after, endings_in, endings_of, more, moved, own_bytes, use_of};
+use crate::need::{Need, endings_in, endings_of, is_ending, more, moved, own_bytes, use_of};
 use crate::publication::publication_reply;
 use claim_book::Books;
 use claim_history::record_bytes::{CLOSE_BODY, RECORD_HEAD};
@@ -117,6 +118,26 @@ impl LimitedBooks {
         self.reserved
     }
 
+    // What the open rounds reserve after a reply in a pool that opens none, which is no more than before.
+    fn reserved_after(&self, pool: &Name, reply: Reply) -> Need
+        ensures entries { result.entries ≡ reserved_entries_of self.now.members - endings_entries (open_round_in self.now.members pool.now)
+            + endings_entries (round_after reply (open_round_in self.now.members pool.now)) }
+        ensures bytes { result.bytes ≡ reserved_bytes_of self.now.members - pool_endings_bytes pool.now (open_round_in self.now.members pool.now)
+            + pool_endings_bytes pool.now (round_after reply (open_round_in self.now.members pool.now)) }
+        ensures fewer { result.entries ≤ reserved_entries_of self.now.members }
+        ensures shorter { result.bytes ≤ reserved_bytes_of self.now.members }
+    {
+        let reserved = self.reserved();
+        if !is_ending(reply) {
+            return reserved;
+        }
+        let now = endings_in(&self.books, pool);
+        Need {
+            entries: reserved.entries - now.entries,
+            bytes: reserved.bytes - now.bytes,
+        }
+    }
+
     /// Makes the room that the entry of a call needs in its pool, as `Books::reserve` does: of one entry and, where a round is
     /// open there or the act is a Close, of one publication beside it. It lowers no room that was made before, of this pool or
     /// another.
@@ -172,10 +193,7 @@ impl LimitedBooks {
         ensures full { IfErr result (IsFull self.now.members call.now) }
     {
         let used = self.used();
-        let reserved = self.reserved();
-        let now = endings_in(&self.books, &call.pool);
-        let later = endings_after(&self.books, &call.pool, reply);
-        let rest = moved(reserved, now, later);
+        let rest = self.reserved_after(&call.pool, reply);
         let entries = used.entries + 1 + rest.entries;
         let bytes = used.bytes + own_bytes(&call.pool, &call.act, reply) + rest.bytes;
         within_limits(entries, bytes)
@@ -233,13 +251,11 @@ impl LimitedBooks {
         ensures others { KeepsRooms pool self.old.rooms self.new.rooms }
     {
         let used = self.used();
-        let reserved = self.reserved();
+        let rest = self.reserved_after(&pool, entry.reply);
         let own = use_of(&pool, &entry);
-        let now = endings_in(&self.books, &pool);
         self.books.apply(pool, entry);
-        let later = endings_in(&self.books, &pool);
         self.used = more(used, own);
-        self.reserved = moved(reserved, now, later);
+        self.reserved = rest;
     }
 
     /// Puts the entry of a Close of a pool at the end that opens a round, as `Books::apply_close` does, with the cut of that

@@ -1,4 +1,5 @@
-use Rattle.std.proofs.Common.{◌++◌, ◌∷◌, [], ◌∙◌, ap}
+use Rattle.std.proofs.Common.{◌++◌, ◌∷◌, [], List, ◌∙◌, ap, arith}
+use Rattle.claim_history.specs.declared.call.PoolEntry.{PoolEntry}
 use Rattle.claim_history.specs.Needs.{endings_entries}
 use Rattle.claim_history.specs.Pools.{member_of, open_round_in, call_of}
 use Rattle.claim_history.specs.PoolNeeds.{pool_endings_bytes}
@@ -13,21 +14,18 @@ invariant_of-self c =
     let now_entries = c.endings_in-now.ensures.entries ∙ ap (λ (b : BooksView). endings_entries (open_round_in b.members c.args.pool)) c.self.view_is in
     let now_bytes = c.endings_in-now.ensures.bytes ∙ ap (λ (b : BooksView). pool_endings_bytes c.args.pool (open_round_in b.members c.args.pool)) c.self.view_is in
     let fits = publication_fits members (call_of m) c.used-used.ensures.legal c.used-used.ensures.within c.requires.publishes c.requires.fits in
-    limited_grows members c.apply_publish-cut.new.self.members m c.used-used.result c.reserved-reserved.result c.use_of-own.result c.endings_in-now.result c.endings_in-later.result _ _ c.used-used.ensures.within fits
+    let is = c.apply_publish-cut.ensures.members ∙ ap (λ (b : BooksView). b.members ++ m ∷ []) c.self.view_is in
+    let later_entries = c.endings_in-later.ensures.entries ∙ ap (λ (h : List PoolEntry). endings_entries (open_round_in h m.pool)) is in
+    let later_bytes = c.endings_in-later.ensures.bytes ∙ ap (λ (h : List PoolEntry). pool_endings_bytes m.pool (open_round_in h m.pool)) is in
+    limited_grows members c.apply_publish-cut.new.self.members m c.used-used.result c.use_of-own.result _ _ c.used-used.ensures.within fits
     (record {
-      is = c.apply_publish-cut.ensures.members ∙ ap (λ (b : BooksView). b.members ++ m ∷ []) c.self.view_is;
+      is = is;
       used_entries_are = c.used-used.ensures.entries;
       used_bytes_are = c.used-used.ensures.bytes;
-      reserved_entries_are = c.reserved-reserved.ensures.entries;
-      reserved_bytes_are = c.reserved-reserved.ensures.bytes;
       own_entries = c.use_of-own.ensures.entries;
       own_bytes_are = c.use_of-own.ensures.bytes;
-      now_entries = now_entries;
-      now_bytes = now_bytes;
-      later_entries = c.endings_in-later.ensures.entries;
-      later_bytes = c.endings_in-later.ensures.bytes;
       used_entries_then = c.more-self-inside.ensures.entries;
       used_bytes_then = c.more-self-inside.ensures.bytes;
-      reserved_entries_then = c.moved-self-inside.ensures.entries;
-      reserved_bytes_then = c.moved-self-inside.ensures.bytes;
+      reserved_entries_then = omega (arith, c.moved-self-inside.ensures.entries, c.reserved-reserved.ensures.entries, now_entries, later_entries);
+      reserved_bytes_then = omega (arith, c.moved-self-inside.ensures.bytes, c.reserved-reserved.ensures.bytes, now_bytes, later_bytes);
     })
