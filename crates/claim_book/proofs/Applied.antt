@@ -1,9 +1,12 @@
 -- The books of all pools, and what contracts see of them, as an entry is applied or room is made.
-use Rattle.std.specs.Prelude.{set, position, Option, Some, None, is_some, ◌-◌}
+use Rattle.std.specs.Prelude.{set, position, Some, None, ◌-◌}
 use Rattle.std.specs.List.{list_any}
-use Rattle.std.proofs.Common.{◌≡◌, ℕ, zero, suc, ◌+◌, ◌<◌, ◌≤◌, true, List, [], ◌∷◌, ◌++◌, length, get_or, refl, sym, ◌∙◌, ap, subst, subst₂, true≢false, arith, false}
+use Rattle.std.proofs.Common.{◌≡◌, ℕ, zero, suc, ◌+◌, ◌<◌, ◌≤◌, true, List, [], ◌∷◌, ◌++◌, length, get_or, refl, sym, ◌∙◌, ap, subst, subst₂, arith, false}
 use Rattle.std.proofs.lemmas.List.Quantifiers.{position-Some}
 use Rattle.setoff_model.specs.Same.{same_name}
+use Rattle.setoff_model.proofs.Lists.{position_none}
+use Rattle.setoff_model.proofs.SameNames.{name_same}
+use Rattle.name_index.proofs.Pushed.{pushed_here}
 use Rattle.name_index.proofs.Rows.{no_row, row_place}
 use Rattle.claim_history.specs.declared.entry.Entry.{Entry}
 use Rattle.claim_history.specs.declared.call.PoolEntry.{PoolEntry}
@@ -15,7 +18,7 @@ use Rattle.claim_book.specs.Changes.{HasGrown, HasRoomMade, IsNew}
 use Rattle.claim_book.specs.Pools.{AreBooks, BooksParts, BooksView, KeepsRooms, PoolRoom, is_book, members_at, no_book, room_in, rooms_of}
 use Rattle.claim_book.specs.declared.pool_book.PoolBook.{PoolBook}
 use Rattle.claim_book.specs.declared.pool_book.Place.{Place}
-use Rattle.claim_book.proofs.Pools.{are_grown, are_pushed, are_roomy, entries_are, found_room, kept_room, members_grow, members_push, members_stay, no_history, no_room, promised_room, pushed_found, room_push, room_made, room_shrinks, rooms_grow, rooms_stay}
+use Rattle.claim_book.proofs.Pools.{are_grown, are_pushed, are_roomy, entries_are, found_room, kept_room, members_grow, members_push, members_stay, no_history, no_room, promised_room, room_push, room_made, room_shrinks, rooms_grow, rooms_stay}
 
 abbrev pub view_of : BooksParts → BooksView
 view_of parts = record { members = members_at parts.books parts.places; rooms = rooms_of parts.books }
@@ -28,10 +31,6 @@ within_get (x ∷ xs) (suc i) d e lt = within_get xs i d e (omega (arith, lt))
 
 pub kept_at : (pool : List ℕ) (books : List PoolBook) (i : ℕ) (kept : PoolBook) → position (is_book pool) books ≡ Some i → kept ≡ get_or books i kept → kept ≡ get_or books i no_book
 kept_at pool books i kept found is = is ∙ within_get books i kept no_book (position-Some (is_book pool) books i no_book found).0
-
-pub is_none : {X : Type 0} (o : Option X) → is_some o ≡ false → o ≡ None
-is_none None e = refl
-is_none (Some x) e = absurd (true≢false e)
 
 module _ (parts : BooksParts) (are : AreBooks parts) (now : BooksView) (view_is : view_of parts ≡ now) (pool : List ℕ) where
   members_are : members_at parts.books parts.places ≡ now.members
@@ -67,10 +66,11 @@ module _ (parts : BooksParts) (are : AreBooks parts) (now : BooksView) (view_is 
     pub pushed_rooms : (any : List ℕ) → room_in any (rooms_of books) ≡ room_in any now.rooms
     pushed_rooms any = ap (λ (bs : List PoolBook). room_in any (rooms_of bs)) books_are ∙ room_push any parts.books b new.room ∙ ap (room_in any) rooms_are
 
-    pub pushed_place : is_some (position (λ (r : PoolRoom). same_name pool r.pool) (rooms_of books)) ≡ true
-    pushed_place =
-        ap is_some (sym (row_place (λ (x : PoolBook). record { pool = x.pool; room = x.room }) (rooms_of books) books refl (λ (r : PoolRoom). same_name pool r.pool) _ refl) ∙ ap (position (is_book pool)) books_are)
-        ∙ pushed_found pool parts.books b new.pool_is
+    pub pushed_place : position (is_book pool) parts.books ≡ None → position (λ (r : PoolRoom). same_name pool r.pool) (rooms_of books) ≡ Some (length parts.books)
+    pushed_place none =
+        sym (row_place (λ (x : PoolBook). record { pool = x.pool; room = x.room }) (rooms_of books) books refl (λ (r : PoolRoom). same_name pool r.pool) _ refl)
+        ∙ ap (position (is_book pool)) books_are
+        ∙ pushed_here (is_book pool) parts.books b (position_none (is_book pool) parts.books none) (ap (same_name pool) new.pool_is ∙ name_same pool)
 
   -- room for one is known
   pub is_known : (xs : List PoolBook) (n : ℕ) → xs ≡ parts.books → 1 ≤ n → n ≤ room_in pool now.rooms → 1 ≤ room_in pool (rooms_of xs)

@@ -1,16 +1,15 @@
 -- The books of all pools, as one of them changes.
-use Rattle.std.specs.Prelude.{map, set, find, position, All, Option, Some, None, is_some, ◌-◌, if◌then◌else◌}
-use Rattle.std.specs.List.{list_any, position_or_len}
-use Rattle.std.proofs.Common.{◌≡◌, ℕ, zero, suc, ◌+◌, ◌<◌, ◌≤◌, Bool, true, false, cond, List, [], ◌∷◌, ◌++◌, nat_lt, length, get_or, refl, sym, ◌∙◌, ap, ap₂, subst, true≢false, arith, inl, inr, ◌⊎◌, ◌||◌}
+use Rattle.std.specs.Prelude.{map, set, find, position, All, Option, Some, None, ◌-◌, if◌then◌else◌}
+use Rattle.std.specs.List.{position_or_len}
+use Rattle.std.proofs.Common.{◌≡◌, ℕ, zero, suc, ◌+◌, ◌<◌, ◌≤◌, Bool, true, false, cond, List, [], ◌∷◌, ◌++◌, nat_lt, length, get_or, refl, sym, ◌∙◌, ap, ap₂, subst, arith, inl, inr, ◌⊎◌}
 use Rattle.std.proofs.lemmas.Bool.{cases_eq, cond-false}
 use Rattle.std.proofs.lemmas.Option.{cond_some}
 use Rattle.std.proofs.lemmas.List.{length-append, length-set, get_or-append-add, get_or-set_same, get_or-set_other, map-append, map-set, set-get_or, append-nil, get_or-map}
 use Rattle.std.proofs.lemmas.List.Elements.{All-append, All-cons, All-get_or, All-head, All-nil, All-set, All-tail, All-weaker}
-use Rattle.std.proofs.lemmas.List.Folds.{find-set, list_any-append}
+use Rattle.std.proofs.lemmas.List.Folds.{find-set}
 use Rattle.std.proofs.lemmas.List.Quantifiers.{position-Some}
 use Rattle.std.proofs.lemmas.List.Sums.{get_or-le-sum_by, sum_by-append, sum_by-cons, sum_by-set}
 use Rattle.setoff_model.specs.Same.{same_name}
-use Rattle.setoff_model.proofs.Lists.{position_none}
 use Rattle.name_index.proofs.Rows.{longer}
 use Rattle.setoff_model.proofs.SameNames.{name_same, same_name_is}
 use Rattle.claim_history.specs.declared.entry.Entry.{Entry}
@@ -328,17 +327,3 @@ are_pushed parts pool b are new =
       legal = subst IsLegal (sym same) are.legal;
       valid = subst AreValid (sym same) are.valid;
     }
-
--- it is found
-some_step : (p : PoolBook → Bool) (xs : List PoolBook) (o : Option ℕ) → position p xs ≡ o → list_any p xs ≡ true → is_some o ≡ true
-some_step p xs None e any = absurd (true≢false (sym any ∙ position_none p xs e))
-some_step p xs (Some i) e any = refl
-
-either_last : (a b : Bool) → b ≡ true → (a || (b || false)) ≡ true
-either_last true b e = refl
-either_last false b e = rw e refl
-
-pub pushed_found : (pool : List ℕ) (books : List PoolBook) (b : PoolBook) → b.pool ≡ pool → is_some (position (is_book pool) (books ++ b ∷ [])) ≡ true
-pushed_found pool books b is =
-    some_step (is_book pool) (books ++ b ∷ []) (position (is_book pool) (books ++ b ∷ [])) refl
-    (list_any-append (is_book pool) books (b ∷ []) ∙ either_last (list_any (is_book pool) books) (is_book pool b) (ap (same_name pool) is ∙ name_same pool))

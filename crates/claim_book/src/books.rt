@@ -12,7 +12,7 @@ ghost use Rattle.claim_book.specs.Changes.{IsNew};
 ghost use Rattle.claim_book.specs.Pools.{KeepsRooms, is_book, room_in, rooms_of, told_entries};
 
 use crate::book::Book;
-use crate::pool_book::{Place, PoolBook, apply_in, close_in, make_room, publish_in};
+use crate::pool_book::{Place, PoolBook, apply_in, close_in, make_room, prepare_in, publish_in};
 use claim_history::{Act, Entry, Reply, each_pool_has_its_history};
 use name_index::NameIndex;
 use setoff_model::{Cut, Name};
@@ -75,42 +75,76 @@ impl Books {
         ensures kept { (any : List ℕ) → room_in any self.old.rooms ≤ room_in any self.new.rooms }
         ensures needed { OnErr result (room_in pool self.old.rooms < room_for (state_in self.old.members pool) act.now) }
     {
-        self.add_book(pool)?;
-        self.add_room(pool, act)
+        let place = self.added_place(pool)?;
+        self.add_room(pool, place, act)
     }
 
-    // Adds a book without entries for a pool that has none.
-    fn add_book(&mut self, pool: Name) -> Result<(), AllocError>
+    // The place of the book of a pool. Where it has none, one without entries is added.
+    fn added_place(&mut self, pool: Name) -> Result<usize, AllocError>
         ensures members { self.new.members ≡ self.old.members }
         ensures rooms { (any : List ℕ) → room_in any self.new.rooms ≡ room_in any self.old.rooms }
-        ensures added { OnOk result (is_some (position (λ r. same_name pool r.pool) self.new.rooms) ≡ true) }
+        ensures place { IfOk result (λ place. position (λ r. same_name pool r.pool) self.new.rooms ≡ Some place) }
         ensures needed { OnErr result (room_in pool self.old.rooms ≡ 0) }
     {
-        if book_place(&self.names, &self.books, &pool).is_some() {
-            return Ok(());
+        match book_place(&self.names, &self.books, &pool) {
+            Some(place) => Ok(place),
+            None => self.add_book(pool),
         }
+    }
+
+    // Adds a book without entries for a pool that has none, and gives its place.
+    fn add_book(&mut self, pool: Name) -> Result<usize, AllocError>
+        requires { position (λ r. same_name pool r.pool) self.old.rooms ≡ None }
+
+        ensures members { self.new.members ≡ self.old.members }
+        ensures rooms { (any : List ℕ) → room_in any self.new.rooms ≡ room_in any self.old.rooms }
+        ensures place { IfOk result (λ place. position (λ r. same_name pool r.pool) self.new.rooms ≡ Some place) }
+        ensures needed { OnErr result (room_in pool self.old.rooms ≡ 0) }
+    {
         self.names.reserve(1)?;
         self.books.reserve(1)?;
         let alloc = *self.places.allocator();
+        let place = self.books.as_slice().len();
         self.names.add(pool);
         put_book(&mut self.books, new_book(alloc, pool));
-        Ok(())
+        Ok(place)
     }
 
-    // Makes the room that an act needs in a pool that has a book.
-    fn add_room(&mut self, pool: Name, act: &Act) -> Result<(), AllocError>
-        requires { is_some (position (λ r. same_name pool r.pool) self.old.rooms) ≡ true }
+    // Makes the room that an act needs in a pool, whose book stands at a place.
+    fn add_room(&mut self, pool: Name, place: usize, act: &Act) -> Result<(), AllocError>
+        requires { position (λ r. same_name pool r.pool) self.old.rooms ≡ Some place }
 
         ensures members { self.new.members ≡ self.old.members }
         ensures room { OnOk result (room_for (state_in self.old.members pool) act.now ≤ room_in pool self.new.rooms) }
         ensures kept { (any : List ℕ) → room_in any self.old.rooms ≤ room_in any self.new.rooms }
         ensures needed { OnErr result (room_in pool self.old.rooms < room_for (state_in self.old.members pool) act.now) }
     {
-        let Some(place) = book_place(&self.names, &self.books, &pool) else {
-            unreachable!();
-        };
+        let _ = pool;
         let kept = &mut self.books[place];
         make_room(kept, &mut self.places, &mut self.promised, act)
+    }
+
+    /// Takes memory ahead for so many entries of a pool, so that their list need not grow. It lowers no room.
+    ///
+    /// The only error is that memory is missing, and it leaves the history as before.
+    pub fn prepare(&mut self, pool: Name, entries: usize) -> Result<(), AllocError>
+        ensures members { self.new.members ≡ self.old.members }
+        ensures kept { (any : List ℕ) → room_in any self.old.rooms ≤ room_in any self.new.rooms }
+    {
+        let place = self.added_place(pool)?;
+        self.prepare_at(pool, place, entries)
+    }
+
+    // The same for a pool whose book stands at a place.
+    fn prepare_at(&mut self, pool: Name, place: usize, entries: usize) -> Result<(), AllocError>
+        requires { position (λ r. same_name pool r.pool) self.old.rooms ≡ Some place }
+
+        ensures members { self.new.members ≡ self.old.members }
+        ensures kept { (any : List ℕ) → room_in any self.old.rooms ≤ room_in any self.new.rooms }
+    {
+        let _ = pool;
+        let kept = &mut self.books[place];
+        prepare_in(kept, &mut self.places, entries)
     }
 
     /// The book of a pool, which has its entries. It takes no memory.

@@ -36,7 +36,7 @@ pub struct Place {
 }
 
 // Where a book has too little room, room is made for one entry more for each so many that it has, so that most acts find theirs.
-const SHARE_AHEAD: usize = 8;
+const SHARE_AHEAD: usize = 64;
 
 /// Makes the room that an act needs in a book and among the places, of which so many are promised.
 pub fn make_room(
@@ -69,6 +69,24 @@ pub fn make_room(
     *promised = wanted;
     kept.room = room;
     Ok(())
+}
+
+/// Takes memory ahead for so many entries of a book and for their places, and for what room is made for beside them.
+pub fn prepare_in(
+    kept: &mut PoolBook,
+    places: &mut Vec<Place>,
+    entries: usize,
+) -> Result<(), AllocError>
+    requires kept { kept.old.room ≤ kept.old.book.room }
+
+    ensures made { HasRoomMade kept.old kept.new }
+    ensures room { kept.new.room ≡ kept.old.room }
+    ensures spare { vec_capacity places.old - vec_len places.old ≤ vec_capacity places.new - vec_len places.new }
+    ensures places { places.new.items ≡ places.old.items }
+{
+    let all = entries.saturating_add(entries / SHARE_AHEAD + 2);
+    kept.book.prepare(all)?;
+    places.reserve(all)
 }
 
 /// Applies an entry that publishes nothing and opens no round, and gives its place in the book.

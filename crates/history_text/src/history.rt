@@ -12,7 +12,7 @@ ghost use Rattle.printed_text.specs.Writing.{GoesThrough, Wrote};
 ghost use Rattle.history_text.specs.declared.told.Told.TheVariants as told;
 ghost use Rattle.history_text.specs.Histories.{HasPrinted, HasTold, IsHistoryDue, cuts_given, history_text, told_members};
 
-use crate::replaying::put_next;
+use crate::replaying::{books_for, put_next};
 use crate::told::{Told, told_at, told_len};
 use bureau_edge::{Failed, Sink};
 use claim_book::Books;
@@ -130,7 +130,7 @@ fn print_replayed<K: Sink>(
     ensures cause { IsCounted (K.faults sink.old) (K.faults sink.new) result }
     ensures room { OUTPUT_BYTES ≤ vec_capacity buffer.new }
 {
-    let mut replayed = Books::new(alloc);
+    let mut replayed = books_for(alloc, books, pool);
     let told = print_told(alloc, sink, buffer, books, pool, &mut replayed);
     drop(replayed);
     told

@@ -13,7 +13,7 @@ ghost use Rattle.printed_text.specs.Printing.{IsPrintableAt, statement_of};
 ghost use Rattle.printed_text.specs.Writing.{IsWritten, Wrote};
 ghost use Rattle.history_text.specs.Histories.{IsRoundDue, cuts_given, no_round_text, publication_place, publishes_round, told_members, was_published};
 
-use crate::replaying::put_next;
+use crate::replaying::{books_for, put_next};
 use crate::told::{told_at, told_len};
 use bureau_edge::{Failed, Sink};
 use claim_book::Books;
@@ -71,7 +71,7 @@ fn published_cut(
     requires { place < length (told_members (Some pool) books.now.members) }
     ensures { IfOk result (λ cut. cuts_given cut ≡ cuts_after place (take (place + 1) (told_members (Some pool) books.now.members))) }
 {
-    let mut replayed = Books::new(alloc);
+    let mut replayed = books_for(alloc, books, &Some(pool));
     let cut = cut_at(alloc, books, pool, place, &mut replayed);
     drop(replayed);
     cut
