@@ -1,16 +1,24 @@
 -- The text of members that are printed one by one.
-use Rattle.std.specs.Prelude.{slice_get, Option, Some}
-use Rattle.std.proofs.Common.{◌≡◌, ◌∙◌, ℕ, ◌+◌, List, [], ◌∷◌, ◌++◌, length, take, drop, refl, sym, ap, ap₂, subst, append_assoc}
+use Rattle.std.specs.Prelude.{slice_get, get_or, is_some, Option, Some, None}
+use Rattle.std.proofs.Common.{◌≡◌, ◌∙◌, ℕ, ◌+◌, ◌<◌, List, [], ◌∷◌, ◌++◌, length, take, drop, true, refl, sym, ap, subst, append_assoc, true≢false}
 use Rattle.std.specs.Io.KnownBytes.{Appends}
 use Rattle.std.proofs.lemmas.List.{append-nil}
-use Rattle.std.proofs.Math.Seq.{drop-append_seam, take-append_seam}
+use Rattle.std.proofs.lemmas.Option.{slice_get-get_or}
+use Rattle.setoff_model.specs.CutView.{CutView}
 use Rattle.bureau_edge.specs.Streams.{AppendsPart}
 use Rattle.claim_history.specs.declared.call.PoolEntry.{PoolEntry}
-use Rattle.printed_text.specs.Printing.{added_text, member_text}
+use Rattle.claim_history.specs.declared.act.Act.{Act}
+use Rattle.claim_history.specs.declared.act.Act.TheVariants as act
+use Rattle.claim_history.specs.declared.entry.Reply.TheVariants as reply
+use Rattle.claim_history.specs.Pools.{main_pool, member_of}
+use Rattle.claim_history.specs.PoolRounds.{open_cut_in}
+use Rattle.entry_text.specs.Entries.{entry_line}
+use Rattle.printed_text.specs.Printing.{IsPrintableAt, added_text, member_text, statement_of}
 use Rattle.printed_text.specs.Writing.{GoesThrough}
-use Rattle.printed_text.proofs.Members.{added_from, one_more}
+use Rattle.printed_text.proofs.Members.{added_from, from_it}
+use Rattle.printed_text.proofs.Printing.{same_statement}
 use Rattle.printed_text.proofs.Passing.{GoesThroughUpTo, part_left, part_more, part_of_text, pass_none, pass_then, pass_whole, up_breaks, up_more}
-use Rattle.history_text.specs.Histories.{HasPrinted, HasTold}
+use Rattle.history_text.specs.Histories.{HasPrinted, HasTold, told_text}
 use Rattle.history_text.specs.declared.told.Told.{Told}
 use Rattle.history_text.specs.declared.told.Told.TheVariants as told
 
@@ -20,47 +28,74 @@ use Rattle.history_text.specs.declared.told.Told.TheVariants as told
 pub none_told : (x : Option (List ℕ)) (a text : List ℕ) → HasTold told.Short x x a a text
 none_told x a text = ([], text, refl, pass_none x a)
 
--- the text of the last member of books
-pub last_text : (before after : List PoolEntry) (m : PoolEntry) → after ≡ before ++ m ∷ [] → added_text (take (length before) after) (drop (length before) after) ≡ member_text before m
-last_text before after m is =
-    ap (λ (h : List PoolEntry). added_text (take (length before) h) (drop (length before) h)) is
-    ∙ ap₂ added_text (take-append_seam before (m ∷ [])) (drop-append_seam before (m ∷ [])) ∙ append-nil (member_text before m)
+-- the text of the member at a place
+pub told_is : (history : List PoolEntry) (i : ℕ) (m : PoolEntry) → slice_get history i ≡ Some m → told_text history i ≡ member_text (take i history) m
+told_is history i m is = ap (λ (l : List PoolEntry). added_text (take i history) (take 1 l)) (from_it history i m is) ∙ append-nil (member_text (take i history) m)
 
-pub from_text : (from : ℕ) (before after : List PoolEntry) (m : PoolEntry) → from ≡ length before → after ≡ before ++ m ∷ [] → added_text (take from after) (drop from after) ≡ member_text before m
-from_text from before after m place is = ap (λ (n : ℕ). added_text (take n after) (drop n after)) place ∙ last_text before after m is
+-- as after members that are those before it, where it publishes a round
+pub shown_is : (history : List PoolEntry) (i : ℕ) (m : PoolEntry) → slice_get history i ≡ Some m → (members : List PoolEntry)
+    → ((total : ℕ) → m.entry.reply ≡ reply.Published total → members ≡ take i history) → member_text members m ≡ told_text history i
+shown_is history i m is members own =
+    ap (λ (t : List ℕ). entry_line m ++ t) (same_statement (open_cut_in members m.pool) (open_cut_in (take i history) m.pool) m.entry.act m.entry.reply
+    (λ total published. ap (λ (before : List PoolEntry). open_cut_in before m.pool) (own total published)))
+    ∙ sym (told_is history i m is)
 
--- books that have the members before a place, with one more
-pub replayed_more : (history : List PoolEntry) (i : ℕ) (m : PoolEntry) → slice_get history i ≡ Some m → (before after : List PoolEntry) → before ≡ take i history → after ≡ before ++ m ∷ [] → after ≡ take (i + 1) history
-replayed_more history i m is before after before_is put = put ∙ ap (λ (h : List PoolEntry). h ++ m ∷ []) before_is ∙ sym (one_more history i m is)
+-- the text of a member by its line and the cuts of the round that it publishes
+pub line_shown : (before : List PoolEntry) (m : PoolEntry) (rounds : List CutView) → ((total : ℕ) → m.entry.reply ≡ reply.Published total → slice_get rounds 0 ≡ open_cut_in before m.pool)
+    → entry_line m ++ statement_of (slice_get rounds 0) m.entry.act m.entry.reply ≡ member_text before m
+line_shown before m rounds own = ap (λ (t : List ℕ). entry_line m ++ t) (same_statement (slice_get rounds 0) (open_cut_in before m.pool) m.entry.act m.entry.reply own)
+
+-- the cut that is open is the one of the list
+one_open : (o : Option CutView) (rounds : List CutView) → is_some o ≡ true → ((cut : CutView) → o ≡ Some cut → rounds ≡ cut ∷ []) → slice_get rounds 0 ≡ o
+one_open (Some cut) rounds is_open one = ap (λ (cuts : List CutView). slice_get cuts 0) (one cut refl)
+one_open None rounds is_open one = absurd (true≢false (sym is_open))
+
+open_printable : (o : Option CutView) (rounds : List CutView) (a : Act) → is_some o ≡ true → ((cut : CutView) → o ≡ Some cut → rounds ≡ cut ∷ []) → ((cut : CutView) → o ≡ Some cut → IsPrintableAt (cut ∷ []) 0 a) → IsPrintableAt rounds 0 a
+open_printable (Some cut) rounds a is_open one printable = subst (λ (cuts : List CutView). IsPrintableAt cuts 0 a) (sym (one cut refl)) (printable cut refl)
+open_printable None rounds a is_open one printable = absurd (true≢false (sym is_open))
+
+pub shown_printable : (before : List PoolEntry) (m : PoolEntry) (rounds : List CutView) → is_some (open_cut_in before m.pool) ≡ true → ((cut : CutView) → open_cut_in before m.pool ≡ Some cut → rounds ≡ cut ∷ [])
+    → ((cut : CutView) → open_cut_in before m.pool ≡ Some cut → IsPrintableAt (cut ∷ []) 0 m.entry.act) → IsPrintableAt rounds 0 m.entry.act
+shown_printable before m rounds is_open one printable = open_printable (open_cut_in before m.pool) rounds m.entry.act is_open one printable
+
+pub open_shown : (before : List PoolEntry) (m : PoolEntry) (rounds : List CutView) → is_some (open_cut_in before m.pool) ≡ true → ((cut : CutView) → open_cut_in before m.pool ≡ Some cut → rounds ≡ cut ∷ [])
+    → entry_line m ++ statement_of (slice_get rounds 0) m.entry.act m.entry.reply ≡ member_text before m
+open_shown before m rounds is_open one = line_shown before m rounds (λ total published. one_open (open_cut_in before m.pool) rounds is_open one)
 
 -- what was told whole was told up to its end
 pub as_short : (done : Told) (x y : Option (List ℕ)) (a b text : List ℕ) → HasTold done x y a b text → HasTold told.Short x y a b text
 as_short told.Whole x y a b text passes = (text, [], sym (append-nil text), passes)
 as_short told.Short x y a b text short = short
 
-module _ (history : List PoolEntry) (i : ℕ) (m : PoolEntry) (is : slice_get history i ≡ Some m) (before : List PoolEntry) (before_is : before ≡ take i history) (x y z : Option (List ℕ)) (a b c all : List ℕ)
+module _ (history : List PoolEntry) (i : ℕ) (within : i < length history) (x y z : Option (List ℕ)) (a b c all : List ℕ)
     (up : GoesThroughUpTo x y a b (added_text (take i history) (drop i history)) all) where
   abbrev rest : List ℕ
   rest = added_text (take (i + 1) history) (drop (i + 1) history)
 
-  parts : added_text (take i history) (drop i history) ≡ member_text before m ++ rest
-  parts = added_from history i m is ∙ ap (λ (h : List PoolEntry). member_text h m ++ rest) (sym before_is)
+  any : PoolEntry
+  any = member_of main_pool (record { caller = 0; act = act.Abandon; reply = reply.Done })
 
-  up_to : GoesThroughUpTo x y a b (member_text before m ++ rest) all
+  parts : added_text (take i history) (drop i history) ≡ told_text history i ++ rest
+  parts =
+      let m = get_or history i any in
+      let is : slice_get history i ≡ Some m = slice_get-get_or history i any within in
+      added_from history i m is ∙ ap (λ (t : List ℕ). t ++ rest) (sym (told_is history i m is))
+
+  up_to : GoesThroughUpTo x y a b (told_text history i ++ rest) all
   up_to = subst (λ (t : List ℕ). GoesThroughUpTo x y a b t all) parts up
 
-  pub told_more : GoesThrough y z b c (member_text before m) → GoesThroughUpTo x z a c rest all
-  told_more passes = up_more x y z a b c (member_text before m) rest all up_to passes
+  pub told_more : GoesThrough y z b c (told_text history i) → GoesThroughUpTo x z a c rest all
+  told_more passes = up_more x y z a b c (told_text history i) rest all up_to passes
 
-  pub told_short : HasTold told.Short y z b c (member_text before m) → HasTold told.Short x z a c all
+  pub told_short : HasTold told.Short y z b c (told_text history i) → HasTold told.Short x z a c all
   told_short short =
       let whole : all ≡ (up_to.so_far ++ short.0) ++ (short.1 ++ rest) =
       sym up_to.whole ∙ ap (λ (t : List ℕ). up_to.so_far ++ (t ++ rest)) short.2 ∙ ap (λ (t : List ℕ). up_to.so_far ++ t) (append_assoc short.0 short.1 rest)
       ∙ sym (append_assoc up_to.so_far short.0 (short.1 ++ rest)) in
       (up_to.so_far ++ short.0, short.1 ++ rest, whole, pass_then x y z a b c up_to.so_far short.0 up_to.passes short.3)
 
-  pub told_breaks : AppendsPart y z (b ++ member_text before m) → AppendsPart x z (a ++ all)
-  told_breaks part = up_breaks x y z a b (member_text before m) rest all up_to part
+  pub told_breaks : AppendsPart y z (b ++ told_text history i) → AppendsPart x z (a ++ all)
+  told_breaks part = up_breaks x y z a b (told_text history i) rest all up_to part
 
 -- ---- the end
 

@@ -1,10 +1,10 @@
 -- The round that an entry of a pool publishes.
 use Rattle.std.specs.Prelude.{slice_get, is_some, Option, Some, None, if◌then◌else◌}
 use Rattle.std.specs.Option.{option_map}
-use Rattle.std.proofs.Common.{◌≡◌, ◌∙◌, ℕ, ◌+◌, ◌<◌, Bool, true, false, List, [], ◌∷◌, ◌++◌, get_or, length, take, refl, sym, ap, subst, true≢false, arith}
-use Rattle.std.proofs.lemmas.List.{length-take-le, take-map}
+use Rattle.std.proofs.Common.{◌≡◌, ◌∙◌, ℕ, ◌<◌, Bool, true, false, List, [], ◌∷◌, get_or, length, take, refl, sym, ap, subst, true≢false, arith}
+use Rattle.std.proofs.lemmas.List.{take-map}
 use Rattle.std.proofs.lemmas.List.Quantifiers.{position-Some}
-use Rattle.std.proofs.lemmas.Option.{slice_get-get_or, slice_get_within}
+use Rattle.std.proofs.lemmas.Option.{slice_get-get_or}
 use Rattle.setoff_model.specs.CutView.{CutView}
 use Rattle.claim_history.specs.declared.act.Act.{Act}
 use Rattle.claim_history.specs.declared.act.Act.TheVariants as act
@@ -13,15 +13,14 @@ use Rattle.claim_history.specs.declared.entry.Entry.{Entry}
 use Rattle.claim_history.specs.declared.entry.Reply.{Reply}
 use Rattle.claim_history.specs.declared.entry.Reply.TheVariants as reply
 use Rattle.claim_history.specs.States.{OpenRound}
-use Rattle.claim_history.specs.Rounds.{cut_published, open_cut_of}
-use Rattle.claim_history.specs.Pools.{AreValid, IsLegal, entries_in, main_pool, member_of, open_round_in}
+use Rattle.claim_history.specs.Rounds.{open_cut_of}
+use Rattle.claim_history.specs.Pools.{AreValid, IsLegal, entries_in, main_pool, member_of}
 use Rattle.claim_history.specs.PoolRounds.{cuts_after, open_cut_in}
 use Rattle.claim_history.proofs.Pools.{main_law}
 use Rattle.printed_text.specs.declared.exit_status.ExitStatus.TheVariants as statuses
 use Rattle.printed_text.specs.Printing.{IsPrintable, IsPrintableAt, statement_of}
-use Rattle.printed_text.proofs.Members.{one_more, published_at}
-use Rattle.history_text.specs.Histories.{IsRoundText, IsTextWhere, cuts_given, is_published_by, no_round_text, publication_place, publishes_round, round_status, told_members, was_published}
-use Rattle.history_text.proofs.Replayed.{cut_of_last}
+use Rattle.printed_text.proofs.Members.{published_at}
+use Rattle.history_text.specs.Histories.{IsRoundText, IsTextWhere, is_published_by, no_round_text, publication_place, publishes_round, round_status, told_members, was_published}
 use Rattle.history_text.proofs.Telling.{told_entry, told_legal, told_many, told_valid}
 
 -- ---- the entry
@@ -55,33 +54,19 @@ module _ (round : ℕ) (pool : List ℕ) (history : List PoolEntry) (place : ℕ
 
 -- ---- its cut
 
--- the cut is that of the round that was open, and the statement of it and of the outcome can be written
-pub record IsStated (cut : Option CutView) (before : List PoolEntry) (m : PoolEntry) : Type 0 where
+-- a round was open whose statement can be written, by its cut and the outcome
+pub record IsStated (before : List PoolEntry) (m : PoolEntry) : Type 0 where
   pub given : CutView
-  pub cut_is : cut ≡ Some given
   pub was_open : open_cut_in before m.pool ≡ Some given
   pub printable : IsPrintableAt (given ∷ []) 0 m.entry.act
 
-one_cut : (cut : Option CutView) (c : CutView) → cuts_given cut ≡ c ∷ [] → cut ≡ Some c
-one_cut None c e = absurd (cc e)
-one_cut (Some x) c e = let same : x ≡ c = cc e in ap (λ y. Some y) same
-
-pub stated : (history : List PoolEntry) (i : ℕ) (m : PoolEntry) → slice_get history i ≡ Some m → IsLegal history → AreValid history → (total : ℕ) → m.entry.reply ≡ reply.Published total
-    → (cut : Option CutView) → cuts_given cut ≡ cuts_after i (take (i + 1) history) → IsStated cut (take i history) m
-stated history i m is legal valid total published cut given =
-    let before = take i history in
-    let cuts = cuts_after 0 history in
-    let next = length (cuts_after 0 before) in
-    let p = published_at 0 history i m is (omega arith) cuts next total legal valid refl refl published in
-    let place : i ≡ length before = omega (arith, length-take-le i history (omega (arith, slice_get_within history i m is))) in
-    let last : cuts_after i (take (i + 1) history) ≡ cut_published (open_round_in before m.pool) m.entry.reply =
-    ap (cuts_after i) (one_more history i m is) ∙ ap (λ (n : ℕ). cuts_after n (before ++ m ∷ [])) place ∙ cut_of_last before m in
-    let own : cut_published (open_round_in before m.pool) m.entry.reply ≡ p.round.cut ∷ [] =
-    ap (λ (r : Reply). cut_published (open_round_in before m.pool) r) published ∙ ap (λ (o : Option OpenRound). cut_published o (reply.Published total)) p.was_open in
+pub stated : (history : List PoolEntry) (i : ℕ) (m : PoolEntry) → slice_get history i ≡ Some m → IsLegal history → AreValid history → (total : ℕ) → m.entry.reply ≡ reply.Published total → IsStated (take i history) m
+stated history i m is legal valid total published =
+    let next = length (cuts_after 0 (take i history)) in
+    let p = published_at 0 history i m is (omega arith) (cuts_after 0 history) next total legal valid refl refl published in
     let same : p.printable.cut ≡ p.round.cut = let both : Some p.printable.cut ≡ Some p.round.cut = sym p.printable.cut_is ∙ p.cut_is in cc both in
     record {
       given = p.round.cut;
-      cut_is = one_cut cut p.round.cut (given ∙ last ∙ own);
       was_open = ap (λ (o : Option OpenRound). option_map (λ (r : OpenRound). r.cut) o) p.was_open;
       printable = record {
         number = p.printable.number;
@@ -101,26 +86,26 @@ open_told pool history i =
     ap (λ (h : List PoolEntry). open_cut_in h main_pool) (take-map (member_of main_pool) i (entries_in pool history))
     ∙ ap open_cut_of (main_law.same (take i (entries_in pool history)))
 
--- the cut of the round that the entry at a place publishes, by which its statement can be written
-pub record IsStatedAt (cut : Option CutView) (place : ℕ) (entries : List Entry) : Type 0 where
+-- a round was open before the entry at a place whose statement can be written, by its cut and the outcome
+pub record IsStatedAt (place : ℕ) (entries : List Entry) (before : List PoolEntry) : Type 0 where
   pub given : CutView
-  pub cut_is : cut ≡ Some given
-  pub was_open : open_cut_of (take place entries) ≡ Some given
+  pub was_open : open_cut_in before main_pool ≡ Some given
+  pub was_there : open_cut_of (take place entries) ≡ Some given
   pub printable : (e : Entry) → slice_get entries place ≡ Some e → IsPrintableAt (given ∷ []) 0 e.act
 
 pub stated_at : (round : ℕ) (pool : List ℕ) (history : List PoolEntry) (place : ℕ) → publication_place round pool history ≡ Some place → IsLegal history → AreValid history
-    → (cut : Option CutView) → cuts_given cut ≡ cuts_after place (take (place + 1) (told_members (Some pool) history)) → IsStatedAt cut place (entries_in pool history)
-stated_at round pool history place found legal valid cut given =
+    → (before : List PoolEntry) → before ≡ take place (told_members (Some pool) history) → IsStatedAt place (entries_in pool history) before
+stated_at round pool history place found legal valid before before_is =
     let h = told_members (Some pool) history in
     let any : Entry = record { caller = 0; act = act.Abandon; reply = reply.Done } in
     let e : Entry = get_or (entries_in pool history) place any in
     let stands : slice_get (entries_in pool history) place ≡ Some e = slice_get-get_or (entries_in pool history) place any (place_within round pool history place found) in
     let p = publishes_there round pool history place found e stands in
-    let s = stated h place (member_of main_pool e) (told_entry pool history place e stands) (told_legal (Some pool) history legal) (told_valid (Some pool) history valid) p.0 p.1 cut given in
+    let s = stated h place (member_of main_pool e) (told_entry pool history place e stands) (told_legal (Some pool) history legal) (told_valid (Some pool) history valid) p.0 p.1 in
     record {
       given = s.given;
-      cut_is = s.cut_is;
-      was_open = sym (open_told pool history place) ∙ s.was_open;
+      was_open = ap (λ (b : List PoolEntry). open_cut_in b main_pool) before_is ∙ s.was_open;
+      was_there = sym (open_told pool history place) ∙ s.was_open;
       printable = λ other is.
           let both : Some e ≡ Some other = sym stands ∙ is in
           let same : e ≡ other = cc both in

@@ -1,7 +1,6 @@
 -- What a history comes to as text: the entries of all pools or of one, and the statement of one round.
-use Rattle.std.specs.Prelude.{◌≡◌, ℕ, Bool, true, false, ◌==◌, List, [], ◌∷◌, ◌++◌, map, take, position, slice_get, is_some, codes, decimal, Option, Some, None, if◌then◌else◌}
+use Rattle.std.specs.Prelude.{◌≡◌, ℕ, Bool, true, false, ◌==◌, List, [], ◌++◌, ◌≤◌, length, map, take, drop, position, slice_get, is_some, codes, decimal, Option, Some, None, if◌then◌else◌}
 use Rattle.std.specs.Io.KnownBytes.{Appends}
-use Rattle.setoff_model.specs.CutView.{CutView}
 use Rattle.claim_history.specs.declared.act.Act.{Act}
 use Rattle.claim_history.specs.declared.act.Act.TheVariants as act
 use Rattle.claim_history.specs.declared.call.PoolEntry.{PoolEntry}
@@ -97,7 +96,11 @@ abbrev pub HasPrinted : Told → Option (List ℕ) → Option (List ℕ) → Lis
 HasPrinted told.Whole held_old held_new text = Appends held_old held_new text
 HasPrinted told.Short held_old held_new text = AppendsPart held_old held_new text
 
--- the cuts of the rounds that one member published
-abbrev pub cuts_given : Option CutView → List CutView
-cuts_given None = []
-cuts_given (Some cut) = cut ∷ []
+-- the text of the member at a place
+abbrev pub told_text : List PoolEntry → ℕ → List ℕ
+told_text history place = added_text (take place history) (take 1 (drop place history))
+
+-- they are the first members of a history, at most so many
+pub record AreFirst (most : ℕ) (history members : List PoolEntry) : Type 0 where
+  pub are : members ≡ take (length members) history
+  pub few : length members ≤ most

@@ -1,85 +1,142 @@
-//! The entries of a history, printed as they are replayed.
-ghost use Rattle.std.specs.Prelude.{◌≡◌, ◌<◌, ◌≤◌, ◌++◌, ◌∷◌, [], true, OnErr, OnOk, IfOk, length, take, drop, vec_capacity};
+//! The entries of a history, printed in order. They are replayed only where a round is published behind them.
+ghost use Rattle.std.specs.Prelude.{ℕ, ◌≡◌, ◌<◌, ◌≤◌, ◌++◌, ◌∷◌, [], true, is_some, Some, OnErr, OnOk, IfOk, length, slice_get, take, vec_capacity};
 ghost use Rattle.setoff_model.specs.declared.limits.TheConstants.{OUTPUT_BYTES};
+ghost use Rattle.setoff_model.specs.CutView.{CutView};
 ghost use Rattle.fault_count.specs.Counts.{HasRisen, IsCounted};
 ghost use Rattle.bureau_edge.specs.Streams.{AppendsPart};
+ghost use Rattle.claim_history.specs.declared.entry.Reply.TheVariants as reply;
 ghost use Rattle.claim_history.specs.Acts.{is_valid};
-ghost use Rattle.claim_history.specs.Pools.{MayFollow, member_of};
-ghost use Rattle.claim_history.specs.PoolRounds.{cuts_after};
+ghost use Rattle.claim_history.specs.Laws.{IsReplyInRange};
+ghost use Rattle.claim_history.specs.Pools.{member_of};
+ghost use Rattle.claim_history.specs.PoolRounds.{open_cut_in};
 ghost use Rattle.printed_text.specs.declared.exit_status.ExitStatus.TheVariants as statuses;
-ghost use Rattle.printed_text.specs.Printing.{added_text, member_text};
+ghost use Rattle.entry_text.specs.Entries.{entry_line};
+ghost use Rattle.printed_text.specs.Printing.{IsPrintableAt, member_text, statement_of};
 ghost use Rattle.printed_text.specs.Writing.{GoesThrough, Wrote};
 ghost use Rattle.history_text.specs.declared.told.Told.TheVariants as told;
-ghost use Rattle.history_text.specs.Histories.{HasPrinted, HasTold, IsHistoryDue, cuts_given, history_text, told_members};
+ghost use Rattle.history_text.specs.Histories.{AreFirst, HasPrinted, HasTold, IsHistoryDue, history_text, told_members, told_text};
 
-use crate::replaying::{books_for, put_next};
+use crate::replaying::{books_for, open_cut, replay_to};
 use crate::told::{Told, told_at, told_len};
 use bureau_edge::{Failed, Sink};
 use claim_book::Books;
-use claim_history::Entry;
-use printed_text::{ExitStatus, flush, print_members, tell_no_memory};
+use claim_history::{Entry, Reply};
+use printed_text::{ExitStatus, flush, print_member, tell_no_memory};
 use setoff_model::{Cut, Name};
-use std::alloc::Global;
+use std::alloc::{AllocError, Global};
 
-// Prints the members of books from a place on, with the statement of the round that they published, whose cut is given.
-fn print_from<K: Sink>(
+// Prints a member, where the cut of the round that it publishes is the first of those that are given.
+fn print_one<K: Sink>(
     sink: &mut K,
     buffer: &mut Vec<u8>,
-    books: &Books,
-    from: u64,
-    cut: Option<Cut>,
+    pool: &Name,
+    entry: &Entry,
+    rounds: &[Cut],
 ) -> Result<(), Failed>
-    requires from { from ≤ length books.now.members }
-    requires cut { cuts_given cut ≡ cuts_after from books.now.members }
+    requires valid { is_valid entry.now.act ≡ true }
+    requires range { IsReplyInRange entry.now.reply }
+    requires publication { (total : ℕ) → entry.now.reply ≡ reply.Published total → IsPrintableAt rounds.now 0 entry.now.act }
     requires spare { OUTPUT_BYTES ≤ vec_capacity buffer.old }
 
     // The text went through, or the sink failed and took some first bytes of it.
     ensures ok { OnOk result (GoesThrough (K.held sink.old) (K.held sink.new) buffer.old.items buffer.new.items
-        (added_text (take from books.now.members) (drop from books.now.members))) }
+        (entry_line (member_of pool.now entry.now) ++ statement_of (slice_get rounds.now 0) entry.now.act entry.now.reply)) }
     ensures part { OnErr result (AppendsPart (K.held sink.old) (K.held sink.new)
-        (buffer.old.items ++ added_text (take from books.now.members) (drop from books.now.members))) }
+        (buffer.old.items ++ (entry_line (member_of pool.now entry.now) ++ statement_of (slice_get rounds.now 0) entry.now.act entry.now.reply))) }
     ensures cause { IsCounted (K.faults sink.old) (K.faults sink.new) result }
     ensures room { OUTPUT_BYTES ≤ vec_capacity buffer.new }
 {
-    match cut {
-        Some(cut) => print_members(sink, buffer, books, from, &[cut]),
-        None => print_members(sink, buffer, books, from, &[]),
+    let _next = print_member(sink, buffer, pool, entry, rounds, 0)?;
+    Ok(())
+}
+
+// Prints a member. Where it publishes a round, those before it were replayed, and the round is open in its pool.
+fn print_shown<K: Sink>(
+    sink: &mut K,
+    buffer: &mut Vec<u8>,
+    replayed: &Books,
+    pool: &Name,
+    entry: &Entry,
+) -> Result<(), Failed>
+    requires valid { is_valid entry.now.act ≡ true }
+    requires range { IsReplyInRange entry.now.reply }
+    requires open { (total : ℕ) → entry.now.reply ≡ reply.Published total → is_some (open_cut_in replayed.now.members pool.now) ≡ true }
+    requires printable { (total : ℕ) → entry.now.reply ≡ reply.Published total
+        → (cut : CutView) → open_cut_in replayed.now.members pool.now ≡ Some cut → IsPrintableAt (cut ∷ []) 0 entry.now.act }
+    requires spare { OUTPUT_BYTES ≤ vec_capacity buffer.old }
+
+    // The text went through, or the sink failed and took some first bytes of it.
+    ensures ok { OnOk result (GoesThrough (K.held sink.old) (K.held sink.new) buffer.old.items buffer.new.items
+        (member_text replayed.now.members (member_of pool.now entry.now))) }
+    ensures part { OnErr result (AppendsPart (K.held sink.old) (K.held sink.new)
+        (buffer.old.items ++ member_text replayed.now.members (member_of pool.now entry.now))) }
+    ensures cause { IsCounted (K.faults sink.old) (K.faults sink.new) result }
+    ensures room { OUTPUT_BYTES ≤ vec_capacity buffer.new }
+{
+    match entry.reply {
+        Reply::Published { .. } => {
+            print_one(sink, buffer, pool, entry, open_cut(replayed, pool))
+        }
+        _ => print_one(sink, buffer, pool, entry, &[]),
     }
 }
 
-// Puts an entry of a pool at the end of books, where it may stand next, and prints it with the statement of the round that it
-// publishes. Where memory was missing, nothing is printed.
+// Replays the members before a place where the entry there publishes a round.
+fn replay_for(
+    alloc: Global,
+    books: &Books,
+    pool: &Option<Name>,
+    place: u64,
+    entry: &Entry,
+    replayed: &mut Books,
+) -> Result<(), AllocError>
+    requires place { place ≤ length (told_members pool.now books.now.members) }
+    requires first { AreFirst place (told_members pool.now books.now.members) replayed.old.members }
+    ensures first { OnOk result (AreFirst place (told_members pool.now books.now.members) replayed.new.members) }
+    ensures all { OnOk result ((total : ℕ) → entry.now.reply ≡ reply.Published total
+        → replayed.new.members ≡ take place (told_members pool.now books.now.members)) }
+{
+    let Reply::Published { .. } = entry.reply else {
+        return Ok(());
+    };
+    replay_to(alloc, books, pool, place, replayed)
+}
+
+// Prints the member that is told at a place, for which those before it may have to be replayed. Where memory was missing for this,
+// nothing is printed.
 fn print_next<K: Sink>(
     alloc: Global,
     sink: &mut K,
     buffer: &mut Vec<u8>,
-    books: &mut Books,
-    pool: Name,
-    entry: &Entry,
+    books: &Books,
+    pool: &Option<Name>,
+    replayed: &mut Books,
+    place: u64,
 ) -> Result<Told, Failed>
-    requires valid { is_valid entry.now.act ≡ true }
-    requires next { MayFollow books.old.members (member_of pool entry.now) }
+    requires place { place < length (told_members pool.now books.now.members) }
+    requires first { AreFirst place (told_members pool.now books.now.members) replayed.old.members }
     requires spare { OUTPUT_BYTES ≤ vec_capacity buffer.old }
 
     // The text went through, or the sink failed and took some first bytes of it.
     ensures ok { IfOk result (λ done. HasTold done (K.held sink.old) (K.held sink.new) buffer.old.items buffer.new.items
-        (member_text books.old.members (member_of pool entry.now))) }
-    ensures members { IfOk result (λ done. done ≡ told.Whole
-        → books.new.members ≡ books.old.members ++ member_of pool entry.now ∷ []) }
+        (told_text (told_members pool.now books.now.members) place)) }
+    ensures first { IfOk result (λ done. done ≡ told.Whole
+        → AreFirst place (told_members pool.now books.now.members) replayed.new.members) }
     ensures part { OnErr result (AppendsPart (K.held sink.old) (K.held sink.new)
-        (buffer.old.items ++ member_text books.old.members (member_of pool entry.now))) }
+        (buffer.old.items ++ told_text (told_members pool.now books.now.members) place)) }
     ensures cause { IsCounted (K.faults sink.old) (K.faults sink.new) result }
     ensures room { OUTPUT_BYTES ≤ vec_capacity buffer.new }
 {
-    let from = books.len();
-    let Ok(cut) = put_next(alloc, books, pool, entry) else {
+    let _len = told_len(books, pool);
+    let (shown, entry) = told_at(books, pool, place);
+    let Ok(()) = replay_for(alloc, books, pool, place, entry, replayed) else {
         return Ok(Told::Short);
     };
-    print_from(sink, buffer, books, from, cut)?;
+    print_shown(sink, buffer, replayed, &shown, entry)?;
     Ok(Told::Whole)
 }
 
-// Prints the members that are told of books, as they are replayed into empty ones.
+// Prints the members that are told of books, of which some are replayed into empty ones.
 fn print_told<K: Sink>(
     alloc: Global,
     sink: &mut K,
@@ -102,8 +159,7 @@ fn print_told<K: Sink>(
 {
     let len = told_len(books, pool);
     for place in 0..len {
-        let (shown, entry) = told_at(books, pool, place);
-        let done = print_next(alloc, sink, buffer, replayed, shown, entry)?;
+        let done = print_next(alloc, sink, buffer, books, pool, replayed, place)?;
         let Told::Whole = done else {
             return Ok(Told::Short);
         };

@@ -1,26 +1,21 @@
 //! The statement of one round.
-ghost use Rattle.std.specs.Prelude.{◌≡◌, ◌+◌, ◌<◌, ◌≤◌, ◌++◌, ◌∷◌, [], IfOk, OnOk, OnErr, Some, length, position, take, slice_get, vec_len, vec_capacity, codes, decimal, true};
+ghost use Rattle.std.specs.Prelude.{◌≡◌, ◌+◌, ◌≤◌, ◌++◌, [], OnOk, OnErr, Some, position, slice_get, vec_len, vec_capacity, codes, decimal, true};
 ghost use Rattle.setoff_model.specs.declared.limits.TheConstants.{LINE_BYTES, OUTPUT_BYTES};
 ghost use Rattle.fault_count.specs.Counts.{HasRisen, IsCounted};
 ghost use Rattle.std.specs.Io.KnownBytes.{Appends};
 ghost use Rattle.bureau_edge.specs.Streams.{AppendsPart};
-ghost use Rattle.claim_history.specs.declared.entry.Entry.{Entry};
-ghost use Rattle.claim_history.specs.Pools.{entries_in};
-ghost use Rattle.claim_history.specs.PoolRounds.{cuts_after};
-ghost use Rattle.claim_history.specs.Rounds.{open_cut_of};
 ghost use Rattle.printed_text.specs.declared.exit_status.ExitStatus.TheVariants as statuses;
 ghost use Rattle.printed_text.specs.Printing.{IsPrintableAt, statement_of};
 ghost use Rattle.printed_text.specs.Writing.{IsWritten, Wrote};
-ghost use Rattle.history_text.specs.Histories.{IsRoundDue, cuts_given, no_round_text, publication_place, publishes_round, told_members, was_published};
+ghost use Rattle.history_text.specs.Histories.{IsRoundDue, no_round_text, publication_place, publishes_round, was_published};
 
-use crate::replaying::{books_for, put_next};
-use crate::told::{told_at, told_len};
+use crate::replaying::{books_for, open_cut, replay_to};
 use bureau_edge::{Failed, Sink};
 use claim_book::Books;
-use claim_history::{Act, Entry, Reply};
+use claim_history::{Act, Entry, Reply, main_pool_name};
 use printed_text::{ExitStatus, end_with, flush, print_publication, tell_no_memory};
 use setoff_model::{Cut, Name, put, write_whole};
-use std::alloc::{AllocError, Global};
+use std::alloc::Global;
 
 // Whether an entry publishes the round of this number.
 fn publishes(entry: &Entry, round: u32) -> bool
@@ -37,66 +32,6 @@ fn place_of(entries: &[Entry], round: u32) -> Option<usize>
     ensures { result ≡ position (publishes_round round) entries.now }
 {
     entries.iter().position(|entry| publishes(entry, round))
-}
-
-// Replays the entries of a pool up to a place into empty books. Gives the cut of the round that the one at the place publishes.
-fn cut_at(
-    alloc: Global,
-    books: &Books,
-    pool: Name,
-    place: u64,
-    replayed: &mut Books,
-) -> Result<Option<Cut>, AllocError>
-    requires empty { replayed.old.members ≡ [] }
-    requires place { place < length (told_members (Some pool) books.now.members) }
-    ensures cut { IfOk result (λ cut. cuts_given cut ≡ cuts_after place (take (place + 1) (told_members (Some pool) books.now.members))) }
-{
-    let only = Some(pool);
-    let _len = told_len(books, &only);
-    for earlier in 0..place {
-        let (shown, entry) = told_at(books, &only, earlier);
-        let _cut = put_next(alloc, replayed, shown, entry)?;
-    }
-    let (shown, entry) = told_at(books, &only, place);
-    put_next(alloc, replayed, shown, entry)
-}
-
-// The same, with the books that they are replayed into.
-fn published_cut(
-    alloc: Global,
-    books: &Books,
-    pool: Name,
-    place: u64,
-) -> Result<Option<Cut>, AllocError>
-    requires { place < length (told_members (Some pool) books.now.members) }
-    ensures { IfOk result (λ cut. cuts_given cut ≡ cuts_after place (take (place + 1) (told_members (Some pool) books.now.members))) }
-{
-    let mut replayed = books_for(alloc, books, &Some(pool));
-    let cut = cut_at(alloc, books, pool, place, &mut replayed);
-    drop(replayed);
-    cut
-}
-
-// The cut of the round that the entry at a place of a pool publishes, by which its statement can be written.
-fn stated_cut(
-    alloc: Global,
-    books: &Books,
-    pool: Name,
-    round: u32,
-    place: usize,
-) -> Result<Cut, AllocError>
-    requires { publication_place round pool books.now.members ≡ Some place }
-    ensures cut { IfOk result (λ cut. open_cut_of (take place (entries_in pool books.now.members)) ≡ Some cut) }
-    ensures printable { IfOk result (λ cut. (e : Entry) → slice_get (entries_in pool books.now.members) place ≡ Some e
-        → IsPrintableAt (cut ∷ []) 0 e.act) }
-{
-    let _ = round;
-    let _len = books.len();
-    let cut = published_cut(alloc, books, pool, place as u64)?;
-    let Some(cut) = cut else {
-        unreachable!();
-    };
-    Ok(cut)
 }
 
 // Writes that no round of this number was published.
@@ -149,7 +84,35 @@ fn tell_stated<K: Sink>(
     }
 }
 
-// Prints the statement of the round that the entry at a place of a pool publishes.
+// Prints the statement of the round that the entry at a place of a pool publishes, as those before it are replayed into empty books.
+fn print_behind<K: Sink>(
+    alloc: Global,
+    sink: &mut K,
+    buffer: &mut Vec<u8>,
+    books: &Books,
+    pool: Name,
+    round: u32,
+    place: usize,
+    replayed: &mut Books,
+) -> ExitStatus
+    requires place { publication_place round pool books.now.members ≡ Some place }
+    requires none { replayed.old.members ≡ [] }
+    requires empty { buffer.old.items ≡ [] }
+    requires spare { OUTPUT_BYTES ≤ vec_capacity buffer.old }
+    ensures wrote { Wrote (IsRoundDue round pool books.now.members) (K.held sink.old) (K.held sink.new) result }
+    ensures write_fault { result ≡ statuses.Sink → HasRisen (K.faults sink.old) (K.faults sink.new) }
+{
+    let _ = round;
+    let _len = books.len();
+    let entries = books.book(&pool).history();
+    let entry = &entries[place];
+    match replay_to(alloc, books, &Some(pool), place as u64, replayed) {
+        Ok(()) => tell_stated(sink, buffer, entry, open_cut(replayed, &main_pool_name())),
+        Err(_) => tell_no_memory(sink),
+    }
+}
+
+// The same, with the books that they are replayed into.
 fn print_round_at<K: Sink>(
     alloc: Global,
     sink: &mut K,
@@ -165,12 +128,19 @@ fn print_round_at<K: Sink>(
     ensures wrote { Wrote (IsRoundDue round pool books.now.members) (K.held sink.old) (K.held sink.new) result }
     ensures write_fault { result ≡ statuses.Sink → HasRisen (K.faults sink.old) (K.faults sink.new) }
 {
-    let entries = books.book(&pool).history();
-    let entry = &entries[place];
-    match stated_cut(alloc, books, pool, round, place) {
-        Ok(cut) => tell_stated(sink, buffer, entry, &[cut]),
-        Err(_) => tell_no_memory(sink),
-    }
+    let mut replayed = books_for(alloc, books, &Some(pool));
+    let status = print_behind(
+        alloc,
+        sink,
+        buffer,
+        books,
+        pool,
+        round,
+        place,
+        &mut replayed,
+    );
+    drop(replayed);
+    status
 }
 
 /// Prints the statement of the round of a pool that was published under a number, or the line that there is none. Gives the status:

@@ -44,7 +44,7 @@ module _ (history : List PoolEntry) (i : ℕ) (m : PoolEntry) (is : slice_get hi
   pub one_more : take (i + 1) history ≡ take i history ++ m ∷ []
   one_more = take_more history i m within ∙ ap (λ (x : PoolEntry). take i history ++ x ∷ []) at_place
 
-  from_it : drop i history ≡ m ∷ drop (i + 1) history
+  pub from_it : drop i history ≡ m ∷ drop (i + 1) history
   from_it = drop_more history i m within ∙ ap (λ (x : PoolEntry). x ∷ drop (i + 1) history) at_place
 
   pub whole : history ≡ take i history ++ m ∷ drop (i + 1) history

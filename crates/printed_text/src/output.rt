@@ -126,8 +126,9 @@ pub fn print_publication<K: Sink>(
     Ok(next + 1)
 }
 
-// Prints the line of an entry of a pool, and at once the statement of the round that it publishes.
-fn print_answer<K: Sink>(
+/// Prints the line of an entry of a pool, and at once the statement of the round that it publishes. The rest is as for
+/// `print_publication`.
+pub fn print_member<K: Sink>(
     sink: &mut K,
     buffer: &mut Vec<u8>,
     pool: &Name,
@@ -180,7 +181,7 @@ pub fn print_members<K: Sink>(
     let mut next = 0;
     for place in from..len {
         let (pool, entry) = books.member(place);
-        next = print_answer(sink, buffer, &pool, entry, rounds, next)?;
+        next = print_member(sink, buffer, &pool, entry, rounds, next)?;
     }
     Ok(())
 }

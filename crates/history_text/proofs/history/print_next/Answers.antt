@@ -1,43 +1,53 @@
-use Rattle.std.proofs.Common.{◌∙◌, ◌++◌, ◌∷◌, [], ℕ, List, ap, length, subst, sym, arith, length-append}
+use Rattle.std.specs.Prelude.{is_some}
+use Rattle.std.proofs.Common.{◌≡◌, ◌∙◌, ◌++◌, ◌∷◌, [], ℕ, List, Some, ap, subst, sym}
 use Rattle.setoff_model.proofs.Lists.{on_err}
+use Rattle.setoff_model.specs.CutView.{CutView}
 use Rattle.bureau_edge.specs.Streams.{AppendsPart}
 use Rattle.claim_history.specs.declared.call.PoolEntry.{PoolEntry}
 use Rattle.claim_history.specs.Pools.{member_of}
-use Rattle.claim_history.specs.PoolRounds.{cuts_after}
-use Rattle.printed_text.specs.Printing.{member_text}
+use Rattle.claim_history.specs.PoolRounds.{open_cut_in}
+use Rattle.printed_text.specs.Printing.{IsPrintableAt}
 use Rattle.printed_text.specs.Writing.{GoesThrough}
-use Rattle.history_text.proofs.Printed.{from_text, none_told}
+use Rattle.printed_text.proofs.Members.{act_valid, reply_in_range}
+use Rattle.history_text.specs.Histories.{told_members}
+use Rattle.history_text.proofs.Printed.{shown_is}
+use Rattle.history_text.proofs.Stated.{stated}
 use Rattle.history_text.proofs.history.print_next.Goals as goal
 
-pub returns-in_default-clause-ok : goal.returns-in_default-clause-ok
-returns-in_default-clause-ok g c = none_told (g.K.Sink.held c.args.sink.now) c.args.buffer.now.items (member_text c.args.books.now.members (member_of c.args.pool c.args.entry.now))
+pub print_shown-requires-clause-valid : goal.print_shown-requires-clause-valid
+print_shown-requires-clause-valid g c =
+    act_valid (told_members c.args.pool.now c.args.books.now.members) c.told_len-len.ensures.legal c.told_len-len.ensures.valid c.args.place (member_of c.told_at-shown.result.0 c.told_at-shown.result.1.now) c.told_at-shown.ensures
 
-pub returns-in_default-clause-members : goal.returns-in_default-clause-members
-returns-in_default-clause-members g c = λ is. cc
+pub print_shown-requires-clause-range : goal.print_shown-requires-clause-range
+print_shown-requires-clause-range g c =
+    reply_in_range (told_members c.args.pool.now c.args.books.now.members) c.told_len-len.ensures.legal c.told_len-len.ensures.valid c.args.place (member_of c.told_at-shown.result.0 c.told_at-shown.result.1.now) c.told_at-shown.ensures
 
-pub print_from-requires-clause-from : goal.print_from-requires-clause-from
-print_from-requires-clause-from g c =
-    let m : PoolEntry = member_of c.args.pool c.args.entry.now in
-    omega (arith, c.len-from.ensures.len, ap (λ (ms : List PoolEntry). length ms) c.in-Ok.ensures.members, length-append c.args.books.now.members (m ∷ []))
+pub print_shown-requires-clause-open : goal.print_shown-requires-clause-open
+print_shown-requires-clause-open g c = λ total published.
+    let m : PoolEntry = member_of c.told_at-shown.result.0 c.told_at-shown.result.1.now in
+    let s = stated (told_members c.args.pool.now c.args.books.now.members) c.args.place m c.told_at-shown.ensures c.told_len-len.ensures.legal c.told_len-len.ensures.valid total published in
+    ap is_some (ap (λ (before : List PoolEntry). open_cut_in before m.pool) (c.in-Ok.ensures.all total published) ∙ s.was_open)
 
-pub print_from-requires-clause-cut : goal.print_from-requires-clause-cut
-print_from-requires-clause-cut g c = c.in-Ok.ensures.cut ∙ ap (λ (n : ℕ). cuts_after n c.put_next.new.books.members) (sym c.len-from.ensures.len)
+pub print_shown-requires-clause-printable : goal.print_shown-requires-clause-printable
+print_shown-requires-clause-printable g c = λ total published cut is.
+    let m : PoolEntry = member_of c.told_at-shown.result.0 c.told_at-shown.result.1.now in
+    let s = stated (told_members c.args.pool.now c.args.books.now.members) c.args.place m c.told_at-shown.ensures c.told_len-len.ensures.legal c.told_len-len.ensures.valid total published in
+    let both : Some s.given ≡ Some cut = sym s.was_open ∙ sym (ap (λ (before : List PoolEntry). open_cut_in before m.pool) (c.in-Ok.ensures.all total published)) ∙ is in
+    let same : s.given ≡ cut = cc both in
+    subst (λ (x : CutView). IsPrintableAt (x ∷ []) 0 m.entry.act) same s.printable
 
-pub returns-in_err-print_from-clause-part : goal.returns-in_err-print_from-clause-part
-returns-in_err-print_from-clause-part g c =
-    let m : PoolEntry = member_of c.args.pool c.args.entry.now in
-    let is = from_text c.len-from.result c.args.books.now.members c.put_next.new.books.members m c.len-from.ensures.len c.in-Ok.ensures.members in
+pub returns-in_err-print_shown-clause-part : goal.returns-in_err-print_shown-clause-part
+returns-in_err-print_shown-clause-part g c =
+    let m : PoolEntry = member_of c.told_at-shown.result.0 c.told_at-shown.result.1.now in
+    let is = shown_is (told_members c.args.pool.now c.args.books.now.members) c.args.place m c.told_at-shown.ensures c.replay_for.new.replayed.members c.in-Ok.ensures.all in
     let y = g.K.Sink.held c.args.sink.now in
-    let z = g.K.Sink.held c.print_from.new.sink in
-    on_err _ _ (subst (λ (t : List ℕ). AppendsPart y z (c.args.buffer.now.items ++ t)) is c.in_err-print_from.ensures.part)
+    let z = g.K.Sink.held c.print_shown.new.sink in
+    on_err _ _ (subst (λ (t : List ℕ). AppendsPart y z (c.args.buffer.now.items ++ t)) is c.in_err-print_shown.ensures.part)
 
 pub returns-clause-ok : goal.returns-clause-ok
 returns-clause-ok g c =
-    let m : PoolEntry = member_of c.args.pool c.args.entry.now in
-    let is = from_text c.len-from.result c.args.books.now.members c.put_next.new.books.members m c.len-from.ensures.len c.in-Ok.ensures.members in
+    let m : PoolEntry = member_of c.told_at-shown.result.0 c.told_at-shown.result.1.now in
+    let is = shown_is (told_members c.args.pool.now c.args.books.now.members) c.args.place m c.told_at-shown.ensures c.replay_for.new.replayed.members c.in-Ok.ensures.all in
     let y = g.K.Sink.held c.args.sink.now in
-    let z = g.K.Sink.held c.print_from.new.sink in
-    subst (GoesThrough y z c.args.buffer.now.items c.print_from.new.buffer.items) is c.in_ok-print_from.ensures.ok
-
-pub returns-clause-members : goal.returns-clause-members
-returns-clause-members g c = λ is. c.in-Ok.ensures.members
+    let z = g.K.Sink.held c.print_shown.new.sink in
+    subst (GoesThrough y z c.args.buffer.now.items c.print_shown.new.buffer.items) is c.in_ok-print_shown.ensures.ok

@@ -1,41 +1,29 @@
-use Rattle.std.proofs.Common.{List, ap, subst, sym, take, arith}
+use Rattle.std.proofs.Common.{List, ap, subst, take, arith}
 use Rattle.std.proofs.lemmas.List.{drop_all}
 use Rattle.setoff_model.proofs.Lists.{on_err}
 use Rattle.claim_history.specs.declared.call.PoolEntry.{PoolEntry}
-use Rattle.claim_history.specs.Pools.{MayFollow, member_of}
-use Rattle.printed_text.specs.Printing.{added_text, member_text}
-use Rattle.printed_text.proofs.Members.{act_valid}
+use Rattle.printed_text.specs.Printing.{added_text}
 use Rattle.printed_text.proofs.Passing.{counted_later, up_begins, up_ends}
-use Rattle.history_text.specs.Histories.{HasTold, history_text, told_members}
+use Rattle.history_text.specs.Histories.{HasTold, history_text, told_members, told_text}
 use Rattle.history_text.specs.declared.told.Told.{Told}
-use Rattle.history_text.proofs.Printed.{as_short, replayed_more, told_breaks, told_more, told_short}
-use Rattle.history_text.proofs.Replayed.{may_follow}
+use Rattle.history_text.proofs.Printed.{as_short, told_breaks, told_more, told_short}
+use Rattle.history_text.proofs.Replayed.{first_later, none_are_first}
 use Rattle.history_text.proofs.history.print_told.Goals as goal
 
-pub told_at-shown-requires : goal.told_at-shown-requires
-told_at-shown-requires g c = omega (arith, c.loop-place-test.true, c.told_len-len.ensures.len)
-
-pub print_next-requires-clause-valid : goal.print_next-requires-clause-valid
-print_next-requires-clause-valid g c =
-    act_valid (told_members c.args.pool.now c.args.books.now.members) c.told_len-len.ensures.legal c.told_len-len.ensures.valid c.loop-place.place (member_of c.told_at-shown.result.0 c.told_at-shown.result.1.now) c.told_at-shown.ensures
-
-pub print_next-requires-clause-next : goal.print_next-requires-clause-next
-print_next-requires-clause-next g c =
-    let m : PoolEntry = member_of c.told_at-shown.result.0 c.told_at-shown.result.1.now in
-    subst (λ (h : List PoolEntry). MayFollow h m) (sym c.loop-place.invariant.replayed)
-    (may_follow (told_members c.args.pool.now c.args.books.now.members) c.loop-place.place m c.told_at-shown.ensures c.told_len-len.ensures.legal)
+pub print_next-requires-clause-place : goal.print_next-requires-clause-place
+print_next-requires-clause-place g c = omega (arith, c.loop-place-test.true, c.told_len-len.ensures.len)
 
 pub loop-place-init : goal.loop-place-init
 loop-place-init g c = record {
   passes = up_begins (g.K.Sink.held c.args.sink.now) c.args.buffer.now.items (history_text c.args.pool.now c.args.books.now.members);
-  replayed = c.requires.empty;
+  first = none_are_first 0 (told_members c.args.pool.now c.args.books.now.members) c.args.replayed.now.members c.requires.empty;
   room = c.requires.spare;
   later = omega arith;
 }
 
 pub returns-in_err-done-clause-part : goal.returns-in_err-done-clause-part
 returns-in_err-done-clause-part g c =
-    on_err _ _ (told_breaks (told_members c.args.pool.now c.args.books.now.members) c.loop-place.place (member_of c.told_at-shown.result.0 c.told_at-shown.result.1.now) c.told_at-shown.ensures c.loop-place.replayed.members c.loop-place.invariant.replayed
+    on_err _ _ (told_breaks (told_members c.args.pool.now c.args.books.now.members) c.loop-place.place (omega (arith, c.loop-place-test.true, c.told_len-len.ensures.len))
     (g.K.Sink.held c.args.sink.now) (g.K.Sink.held c.loop-place.sink) (g.K.Sink.held c.print_next.new.sink) c.args.buffer.now.items c.loop-place.buffer.items c.print_next.new.buffer.items (history_text c.args.pool.now c.args.books.now.members)
     c.loop-place.invariant.passes c.in_err-done.ensures.part)
 
@@ -44,7 +32,7 @@ returns-in_err-done-clause-cause g c = counted_later (g.K.Sink.faults c.args.sin
 
 pub returns-in_default-clause-ok : goal.returns-in_default-clause-ok
 returns-in_default-clause-ok g c =
-    told_short (told_members c.args.pool.now c.args.books.now.members) c.loop-place.place (member_of c.told_at-shown.result.0 c.told_at-shown.result.1.now) c.told_at-shown.ensures c.loop-place.replayed.members c.loop-place.invariant.replayed
+    told_short (told_members c.args.pool.now c.args.books.now.members) c.loop-place.place (omega (arith, c.loop-place-test.true, c.told_len-len.ensures.len))
     (g.K.Sink.held c.args.sink.now) (g.K.Sink.held c.loop-place.sink) (g.K.Sink.held c.print_next.new.sink) c.args.buffer.now.items c.loop-place.buffer.items c.print_next.new.buffer.items (history_text c.args.pool.now c.args.books.now.members)
     c.loop-place.invariant.passes (as_short c.in_ok-done.done _ _ _ _ _ c.in_ok-done.ensures.ok)
 
@@ -57,13 +45,12 @@ returns-in_default-clause-cause g c = record { later = omega (arith, c.loop-plac
 pub loop-place-preserved : goal.loop-place-preserved
 loop-place-preserved g c =
     let h = told_members c.args.pool.now c.args.books.now.members in
-    let m : PoolEntry = member_of c.told_at-shown.result.0 c.told_at-shown.result.1.now in
     let y = g.K.Sink.held c.loop-place.sink in
     let z = g.K.Sink.held c.print_next.new.sink in
-    let passes = subst (λ (t : Told). HasTold t y z c.loop-place.buffer.items c.print_next.new.buffer.items (member_text c.loop-place.replayed.members m)) c.in-Whole.is c.in_ok-done.ensures.ok in
+    let passes = subst (λ (t : Told). HasTold t y z c.loop-place.buffer.items c.print_next.new.buffer.items (told_text h c.loop-place.place)) c.in-Whole.is c.in_ok-done.ensures.ok in
     record {
-      passes = told_more h c.loop-place.place m c.told_at-shown.ensures c.loop-place.replayed.members c.loop-place.invariant.replayed (g.K.Sink.held c.args.sink.now) y z c.args.buffer.now.items c.loop-place.buffer.items c.print_next.new.buffer.items (history_text c.args.pool.now c.args.books.now.members) c.loop-place.invariant.passes passes;
-      replayed = replayed_more h c.loop-place.place m c.told_at-shown.ensures c.loop-place.replayed.members c.print_next.new.books.members c.loop-place.invariant.replayed (c.in_ok-done.ensures.members c.in-Whole.is);
+      passes = told_more h c.loop-place.place (omega (arith, c.loop-place-test.true, c.told_len-len.ensures.len)) (g.K.Sink.held c.args.sink.now) y z c.args.buffer.now.items c.loop-place.buffer.items c.print_next.new.buffer.items (history_text c.args.pool.now c.args.books.now.members) c.loop-place.invariant.passes passes;
+      first = first_later c.loop-place.place h c.print_next.new.replayed.members (c.in_ok-done.ensures.first c.in-Whole.is);
       room = c.in_ok-done.ensures.room;
       later = omega (arith, c.loop-place.invariant.later, c.in_ok-done.ensures.cause.later);
     }

@@ -11,9 +11,7 @@ put_entry-requires-clause-valid c = ap (λ (e : Entry). is_valid e.act) c.in_ok-
 pub put_entry-requires-clause-next : goal.put_entry-requires-clause-next
 put_entry-requires-clause-next c = subst (λ (e : Entry). MayFollow c.args.books.now.members (member_of c.args.pool e)) (sym c.in_ok-copy.ensures) c.requires.next
 
-pub returns-clause-members : goal.returns-clause-members
-returns-clause-members c =
-    subst (λ (e : Entry). OnOk c.put_entry.result (c.put_entry.new.books.members ≡ c.args.books.now.members ++ member_of c.args.pool e ∷ [])) c.in_ok-copy.ensures c.put_entry.ensures.members
-
-pub returns-clause-cut : goal.returns-clause-cut
-returns-clause-cut c = c.put_entry.ensures.cut
+pub returns : goal.returns
+returns c = record {
+  members = subst (λ (e : Entry). OnOk c.put_entry.result (c.put_entry.new.books.members ≡ c.args.books.now.members ++ member_of c.args.pool e ∷ [])) c.in_ok-copy.ensures c.put_entry.ensures.members;
+}

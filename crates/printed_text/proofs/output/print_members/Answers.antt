@@ -15,16 +15,16 @@ use Rattle.printed_text.proofs.output.print_members.Goals as goal
 pub member-pool-requires : goal.member-pool-requires
 member-pool-requires g c = omega (arith, c.loop-place-test.true, c.len-len.ensures.len)
 
-pub print_answer-requires-clause-valid : goal.print_answer-requires-clause-valid
-print_answer-requires-clause-valid g c =
+pub print_member-requires-clause-valid : goal.print_member-requires-clause-valid
+print_member-requires-clause-valid g c =
     act_valid c.args.books.now.members c.len-len.ensures.legal c.len-len.ensures.valid c.loop-place.place (member_of c.member-pool.result.0 c.member-pool.result.1.now) c.member-pool.ensures
 
-pub print_answer-requires-clause-range : goal.print_answer-requires-clause-range
-print_answer-requires-clause-range g c =
+pub print_member-requires-clause-range : goal.print_member-requires-clause-range
+print_member-requires-clause-range g c =
     reply_in_range c.args.books.now.members c.len-len.ensures.legal c.len-len.ensures.valid c.loop-place.place (member_of c.member-pool.result.0 c.member-pool.result.1.now) c.member-pool.ensures
 
-pub print_answer-requires-clause-publication : goal.print_answer-requires-clause-publication
-print_answer-requires-clause-publication g c total is =
+pub print_member-requires-clause-publication : goal.print_member-requires-clause-publication
+print_member-requires-clause-publication g c total is =
     let m = member_of c.member-pool.result.0 c.member-pool.result.1.now in
     (published_at c.args.from c.args.books.now.members c.loop-place.place m c.member-pool.ensures c.loop-place.invariant.from c.args.rounds.now c.loop-place.next total c.len-len.ensures.legal c.len-len.ensures.valid c.requires.rounds c.loop-place.invariant.next_is is).printable
 
@@ -38,7 +38,7 @@ returns-in_err-next-clause-part g c =
     λ total is. published_at c.args.from h i m c.member-pool.ensures c.loop-place.invariant.from c.args.rounds.now c.loop-place.next total c.len-len.ensures.legal c.len-len.ensures.valid c.requires.rounds c.loop-place.invariant.next_is is in
     let x = g.K.Sink.held c.args.sink.now in
     let y = g.K.Sink.held c.loop-place.sink in
-    let z = g.K.Sink.held c.print_answer.new.sink in
+    let z = g.K.Sink.held c.print_member.new.sink in
     let all = added_text (take c.args.from h) (drop c.args.from h) in
     let rest = added_text (take (i + 1) h) (drop (i + 1) h) in
     let part : AppendsPart y z (c.loop-place.buffer.items ++ member_text before m) = subst (λ (t : List ℕ). AppendsPart y z (c.loop-place.buffer.items ++ t)) (member_text_is c.args.rounds.now c.loop-place.next before m publication) c.in_err-next.ensures.part in
@@ -64,13 +64,13 @@ loop-place-preserved g c =
     λ total is. published_at c.args.from h i m c.member-pool.ensures c.loop-place.invariant.from c.args.rounds.now c.loop-place.next total c.len-len.ensures.legal c.len-len.ensures.valid c.requires.rounds c.loop-place.invariant.next_is is in
     let x = g.K.Sink.held c.args.sink.now in
     let y = g.K.Sink.held c.loop-place.sink in
-    let z = g.K.Sink.held c.print_answer.new.sink in
+    let z = g.K.Sink.held c.print_member.new.sink in
     let all = added_text (take c.args.from h) (drop c.args.from h) in
     let rest = added_text (take (i + 1) h) (drop (i + 1) h) in
-    let passes : GoesThrough y z c.loop-place.buffer.items c.print_answer.new.buffer.items (member_text before m) = subst (GoesThrough y z c.loop-place.buffer.items c.print_answer.new.buffer.items) (member_text_is c.args.rounds.now c.loop-place.next before m publication) c.in_ok-next.ensures.ok in
+    let passes : GoesThrough y z c.loop-place.buffer.items c.print_member.new.buffer.items (member_text before m) = subst (GoesThrough y z c.loop-place.buffer.items c.print_member.new.buffer.items) (member_text_is c.args.rounds.now c.loop-place.next before m publication) c.in_ok-next.ensures.ok in
     let up = subst (λ (r : List ℕ). GoesThroughUpTo x y c.args.buffer.now.items c.loop-place.buffer.items r all) (added_from h i m c.member-pool.ensures) c.loop-place.invariant.passes in
     record {
-      passes = up_more x y z c.args.buffer.now.items c.loop-place.buffer.items c.print_answer.new.buffer.items (member_text before m) rest all up passes;
+      passes = up_more x y z c.args.buffer.now.items c.loop-place.buffer.items c.print_member.new.buffer.items (member_text before m) rest all up passes;
       next_is = c.in_ok-next.ensures.next ∙ ap (λ (n : ℕ). n + rounds_in m.entry.reply) c.loop-place.invariant.next_is ∙ sym (next_more c.args.rounds.now c.loop-place.next c.args.from h i m c.member-pool.ensures c.loop-place.invariant.from publication);
       from = omega (arith, c.loop-place.invariant.from);
       room = c.in_ok-next.ensures.room;
@@ -85,4 +85,4 @@ returns-clause-ok g c =
     (ap (λ (rest : List PoolEntry). added_text (take i h) rest) (drop_all i h (omega (arith, c.loop-place-test.false, c.len-len.ensures.len))))
 
 pub returns-in_err-next-clause-cause : goal.returns-in_err-next-clause-cause
-returns-in_err-next-clause-cause g c = counted_later (g.K.Sink.faults c.args.sink.now) (g.K.Sink.faults c.loop-place.sink) (g.K.Sink.faults c.print_answer.new.sink) _ _ c.loop-place.invariant.later c.in_err-next.ensures.cause
+returns-in_err-next-clause-cause g c = counted_later (g.K.Sink.faults c.args.sink.now) (g.K.Sink.faults c.loop-place.sink) (g.K.Sink.faults c.print_member.new.sink) _ _ c.loop-place.invariant.later c.in_err-next.ensures.cause

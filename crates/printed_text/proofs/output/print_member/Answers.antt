@@ -6,7 +6,7 @@ use Rattle.setoff_model.proofs.Lists.{on_err}
 use Rattle.printed_text.proofs.Passing.{on_err_if, on_ok_if, part_then, pass_then}
 use Rattle.printed_text.proofs.Printing.{breaks_at_first}
 use Rattle.std.proofs.Common.{◌++◌, refl}
-use Rattle.printed_text.proofs.output.print_answer.Goals as goal
+use Rattle.printed_text.proofs.output.print_member.Goals as goal
 
 pub returns-in_err-print_entry-clause-part : goal.returns-in_err-print_entry-clause-part
 returns-in_err-print_entry-clause-part g c =

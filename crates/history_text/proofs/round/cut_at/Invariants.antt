@@ -1,9 +1,0 @@
-use Rattle.std.proofs.Common.{◌≡◌, ◌≤◌, Some, take}
-use Rattle.history_text.specs.Histories.{told_members}
-use Rattle.history_text.proofs.round.cut_at.Given as goal
-
-abbrev pub invariant-loop-earlier : goal.invariant-loop-earlier
-invariant-loop-earlier l = record {
-  replayed : l.replayed.members ≡ take l.earlier (told_members (Some l.fn.pool) l.books.members);
-  few : l.earlier ≤ l.place;
-}
