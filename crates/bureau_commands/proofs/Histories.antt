@@ -1,32 +1,36 @@
--- What a run prints is what the history of its journal prints.
-use Rattle.std.specs.Prelude.{filter, map, reverse}
-use Rattle.std.proofs.Common.{◌≡◌, ◌∙◌, ⊎_elim, inl, ℕ, Bool, true, List, [], ◌∷◌, ◌++◌, All, drop, length, refl, sym, ap, ap₂, subst, append_assoc, true≢false}
-use Rattle.std.proofs.lemmas.List.{append-nil, reverse-append, reverse-reverse}
-use Rattle.std.proofs.lemmas.List.Elements.{All-drop, All-filter, All-head, All-map, All-tail}
+-- What is read later of the disk that a run leaves is what the run printed.
+use Rattle.std.specs.Prelude.{filter, map, reverse, if◌then◌else◌, Option, Some, None}
+use Rattle.std.proofs.Common.{◌≡◌, ◌∙◌, ⊎_elim, inl, inr, ℕ, Bool, true, List, [], ◌∷◌, ◌++◌, All, drop, length, refl, sym, ap, ap₂, subst, append_assoc, true≢false}
+use Rattle.std.proofs.lemmas.List.{append-nil, reverse-append}
+use Rattle.std.proofs.lemmas.List.Elements.{All-append, All-drop, All-filter, All-head, All-map, All-push, All-tail, All-weaker, filter_passes}
 use Rattle.std.proofs.Math.Seq.{drop-append_seam}
 use Rattle.disk_model.specs.Calls.{Seen}
 use Rattle.claim_history.specs.declared.call.Call.{Call}
 use Rattle.claim_history.specs.declared.call.PoolEntry.{PoolEntry}
-use Rattle.claim_history.specs.History.{is_accepted}
-use Rattle.claim_history.specs.Pools.{IsLegal, IsLegalPast, accepted_calls, answered, call_of, due_of_past, replay_after, replay_of}
-use Rattle.claim_history.specs.PoolRounds.{ended}
-use Rattle.claim_history.proofs.Calls.{accepted_more}
-use Rattle.claim_history.proofs.Pasts.{all_reverse}
-use Rattle.claim_history.proofs.Replies.{accepted_due}
+use Rattle.claim_history.specs.declared.entry.Reply.{Reply}
+use Rattle.claim_history.specs.declared.entry.Reply.TheVariants as reply
+use Rattle.claim_history.specs.States.{OpenRound}
+use Rattle.claim_history.specs.History.{is_accepted, is_no_refusal}
+use Rattle.claim_history.specs.Pools.{IsLegal, accepted_calls, answered, call_of, due_member, due_of_past, due_reply, open_round_in, replay_after, replay_of}
+use Rattle.claim_history.specs.PoolRounds.{ending_of, ending_reply, is_left_open, left_open, opened}
+use Rattle.claim_history.proofs.PoolRoom.{due_is}
+use Rattle.claim_history.proofs.Pools.{pool_replay_law}
 use Rattle.act_bodies.specs.Bodies.{body_of, is_keepable}
 use Rattle.act_bodies.proofs.Calls.{one_call_law}
 use Rattle.round_journal.specs.Records.{AreKeepable, bodies_of, recorded_call}
 use Rattle.round_journal.specs.declared.record.Record.{Record}
 use Rattle.round_journal.proofs.OneReading.{one_list}
-use Rattle.journal_replay.proofs.Replays.{replay_append}
+use Rattle.journal_replay.specs.Replays.{AreSound, history_of}
 use Rattle.recorded_book.specs.Acting.{IsOpenedHistory}
-use Rattle.recorded_book.specs.Calls.{CanBeKept, LeftBy, StandsForLeft, TriedLast, bodies_of_calls}
-use Rattle.recorded_book.proofs.Recording.{accepted_is_no_device}
+use Rattle.recorded_book.specs.Calls.{CanBeKept, LeftBy, StandsForLeft, bodies_of_calls}
 use Rattle.bureau_desk.specs.Opening.{HasViewed}
 use Rattle.printed_text.specs.Printing.{added_text, ends_text, member_text}
+use Rattle.history_text.specs.Histories.{IsRoundText, history_text}
+use Rattle.history_text.specs.Accepted.{accepted_members, accepted_text}
+use Rattle.history_text.proofs.Accepted.{kept_append, kept_step, publication_accepted, replay_append, replayed_law, replayed_past, retold_law, same_due, same_text, statement_law}
 use Rattle.batch_runs.specs.Runs.{Done, all_added, text_of}
 use Rattle.bureau_commands.specs.Headline.{run_text}
-use Rattle.bureau_commands.specs.Laws.{HistoryLaw}
+use Rattle.bureau_commands.specs.Laws.{AreAllAccepted, HistoryLaw, IsTriedMember, kept_text}
 
 -- ---- the text of what batches added
 
@@ -47,31 +51,36 @@ added_by_all before (b ∷ bs) all =
     ∙ ap (λ (t : List ℕ). t ++ added_text (before ++ b.added) (all_added bs)) (append-nil (added_text before b.added))
     ∙ sym (added_both before b.added (all_added bs))
 
--- ---- the replay of accepted calls
+-- ---- accepted members
 
 abbrev Accepted : PoolEntry → Type 0
 Accepted m = is_accepted m.entry ≡ true
 
--- an accepted member is that of its call and the reply that is due
-due_again : (m : PoolEntry) (past : List PoolEntry) → IsLegalPast (m ∷ past) → Accepted m → answered (call_of m) (due_of_past past (call_of m)) ≡ m
-due_again m past legal accepted = ap (answered (call_of m)) (accepted_due _ (due_of_past past (call_of m)) m.entry.reply legal.0 accepted)
+-- members of which the accepted ones were told one after another
+accepted_both : (before xs ys : List PoolEntry) → accepted_text before (xs ++ ys) ≡ accepted_text before xs ++ accepted_text (before ++ xs) ys
+accepted_both before [] ys = ap (λ (h : List PoolEntry). accepted_text h ys) (sym (append-nil before))
+accepted_both before (m ∷ xs) ys =
+    let here : List ℕ = if is_accepted m.entry then member_text before m else [] in
+    ap (λ (t : List ℕ). here ++ t) (accepted_both (before ++ m ∷ []) xs ys ∙ ap (λ (h : List PoolEntry). accepted_text (before ++ m ∷ []) xs ++ accepted_text h ys) (append_assoc before (m ∷ []) xs))
+    ∙ sym (append_assoc here (accepted_text (before ++ m ∷ []) xs) (accepted_text (before ++ (m ∷ xs)) ys))
 
-replayed_past : (past : List PoolEntry) → IsLegalPast past → All Accepted past → replay_after [] (accepted_calls (reverse past)) ≡ past
-replayed_past [] legal all = refl
-replayed_past (m ∷ past) legal all =
-    let calls = accepted_calls (reverse past) in
-    let call = call_of m in
-    let more : accepted_calls (reverse (m ∷ past)) ≡ calls ++ call ∷ [] = ap accepted_calls (reverse-append (m ∷ []) past) ∙ accepted_more (reverse past) m (All-head Accepted m past all) in
-    let before = replayed_past past legal.1 (All-tail Accepted m past all) in
-    ap (replay_after []) more ∙ replay_append [] calls (call ∷ [])
-    ∙ ap (λ (p : List PoolEntry). answered call (due_of_past p call) ∷ p) before
-    ∙ ap (λ (x : PoolEntry). x ∷ past) (due_again m past legal (All-head Accepted m past all))
+-- where each is accepted, all are told
+accepted_all : (before added : List PoolEntry) → All Accepted added → accepted_text before added ≡ added_text before added
+accepted_all before [] all = refl
+accepted_all before (m ∷ added) all =
+    ap₂ (λ (b : Bool) (t : List ℕ). (if b then member_text before m else []) ++ t) (All-head Accepted m added all) (accepted_all (before ++ m ∷ []) added (All-tail Accepted m added all))
 
--- a legal history of accepted members is that of their calls
-replayed_all : (history : List PoolEntry) → IsLegal history → All Accepted history → replay_of (accepted_calls history) ≡ history
-replayed_all history legal all =
-    ap (λ (h : List PoolEntry). reverse (replay_after [] (accepted_calls h))) (sym (reverse-reverse history))
-    ∙ ap reverse (replayed_past (reverse history) legal (all_reverse Accepted history all)) ∙ reverse-reverse history
+-- the abandonment of a round that was opened is accepted
+ending_accepts : (o : Option OpenRound) (r : Reply) → opened o r ≡ true → is_no_refusal (ending_reply r) ≡ true
+ending_accepts (Some round) (reply.Opened number) is = refl
+ending_accepts None r is = absurd (true≢false (sym is))
+ending_accepts (Some round) r is = absurd (true≢false (sym is))
+
+endings_accepted : (history : List PoolEntry) → All Accepted (map ending_of (left_open history))
+endings_accepted history =
+    All-map Accepted ending_of (left_open history)
+    (All-weaker (λ m. is_left_open history m ≡ true) (λ m. Accepted (ending_of m)) (λ m is. ending_accepts (open_round_in history m.pool) m.entry.reply is) (left_open history)
+    (filter_passes (is_left_open history) history))
 
 -- ---- what a run leaves on its disk
 
@@ -91,39 +100,111 @@ recorded_calls (r ∷ records) (call ∷ calls) can able same =
     let rest : map recorded_call records ≡ calls = recorded_calls records calls (All-tail RecordKept r records can) (All-tail Keepable call calls able) tail in
     λ i. first i ∷ rest i
 
--- where each member is accepted, none was tried
-none_tried : (history : List PoolEntry) (call : Call) → All Accepted history → TriedLast history call → ⊥
-none_tried history call all t =
-    let from : All Accepted (t.tried ∷ t.later) = subst (All Accepted) (ap (drop (length t.before)) t.parts ∙ drop-append_seam t.before (t.tried ∷ t.later)) (All-drop Accepted (length t.before) history all) in
-    true≢false (sym t.device ∙ accepted_is_no_device t.tried.entry.reply (All-head Accepted t.tried t.later from))
+keepable_alone : (history : List PoolEntry) → CanBeKept history → All Keepable (accepted_calls history)
+keepable_alone history can =
+    All-map Keepable call_of (filter (λ m. is_accepted m.entry) history) (All-filter (λ m. is_accepted m.entry) (λ m. Keepable (call_of m)) history can)
 
-left_alone : (history : List PoolEntry) (calls : List Call) → All Accepted history → LeftBy history calls → calls ≡ accepted_calls history
-left_alone history calls all left = ⊎_elim (λ is. is) (λ more. absurd (none_tried history more.0 all more.1)) left
+keepable_left : (history : List PoolEntry) (calls : List Call) → CanBeKept history → LeftBy history calls → All Keepable calls
+keepable_left history calls can left = ⊎_elim
+    (λ is. subst (All Keepable) (sym is) (keepable_alone history can))
+    (λ more.
+    let t = more.1 in
+    let KeptMember : PoolEntry → Type 0 = λ m. Keepable (call_of m) in
+    let from : All KeptMember (t.tried ∷ t.later) = subst (All KeptMember) (ap (drop (length t.before)) t.parts ∙ drop-append_seam t.before (t.tried ∷ t.later)) (All-drop KeptMember (length t.before) history can) in
+    let one : Keepable more.0 = subst Keepable (sym t.is) (All-head KeptMember t.tried t.later from) in
+    subst (All Keepable) (sym more.2) (All-push Keepable (accepted_calls history) more.0 (keepable_alone history can) one))
+    left
 
--- the history that is read of such bytes later is that of the run
-read_again : (history read : List PoolEntry) (bytes : List ℕ) → IsLegal history → CanBeKept history → All Accepted history → StandsForLeft history bytes → HasViewed true bytes read → read ≡ history
-read_again history read bytes legal can all stands viewed =
-    let calls = accepted_calls history in
-    let alone : stands.0 ≡ calls = left_alone history stands.0 all stands.1 in
-    let able : All Keepable calls = All-map Keepable call_of (filter (λ m. is_accepted m.entry) history) (All-filter (λ m. is_accepted m.entry) (λ m. Keepable (call_of m)) history can) in
-    let bodies : bodies_of viewed.records ≡ bodies_of_calls calls =
-    one_list bytes (bodies_of viewed.records) (bodies_of_calls stands.0) (viewed.found.reading refl).0 (inl stands.2) ∙ ap bodies_of_calls alone in
-    viewed.history_is ∙ ap replay_of (recorded_calls viewed.records calls viewed.found.keepable able bodies) ∙ replayed_all history legal all
+-- the members of what is left by a history
+record AreLeft (history : List PoolEntry) (members : List PoolEntry) : Type 0 where
+  last : List PoolEntry
+  tried : IsTriedMember history last
+  are : members ≡ accepted_members history ++ last
+  told : added_text (accepted_members history) last ≡ added_text history last
+
+left_members : (history : List PoolEntry) (calls : List Call) → IsLegal history → LeftBy history calls → AreLeft history (replay_of calls)
+left_members history calls legal left = ⊎_elim
+    (λ is. record {
+      last = [];
+      tried = inl refl;
+      are = ap replay_of is ∙ replayed_law history legal ∙ sym (append-nil (accepted_members history));
+      told = refl;
+    })
+    (λ more.
+    let call = more.0 in
+    let past = replay_after [] (accepted_calls history) in
+    let m : PoolEntry = answered call (due_reply history call) in
+    let due : due_of_past past call ≡ due_reply history call =
+    ap (λ (p : List PoolEntry). due_of_past p call) (replayed_past history legal) ∙ same_due (reverse history) call ∙ due_is history call in
+    record {
+      last = m ∷ [];
+      tried = inr (call, more.1, refl);
+      are = ap replay_of more.2 ∙ ap reverse (replay_append [] (accepted_calls history) (call ∷ []))
+          ∙ reverse-append (due_member past call ∷ []) past
+          ∙ ap₂ (λ (ms : List PoolEntry) (r : Reply). ms ++ answered call r ∷ []) (replayed_law history legal) due;
+      told = ap (λ (t : List ℕ). t ++ []) (same_text history m);
+    })
+    left
+
+-- what is read of such bytes later is the replay of the calls that are left
+read_again : (history read : List PoolEntry) (bytes : List ℕ) (stands : StandsForLeft history bytes) → CanBeKept history → HasViewed true bytes read → read ≡ replay_of stands.0
+read_again history read bytes stands can viewed =
+    let bodies : bodies_of viewed.records ≡ bodies_of_calls stands.0 = one_list bytes (bodies_of viewed.records) (bodies_of_calls stands.0) (viewed.found.reading refl).0 (inl stands.2) in
+    viewed.history_is ∙ ap replay_of (recorded_calls viewed.records stands.0 viewed.found.keepable (keepable_left history stands.0 can stands.1) bodies)
+
+-- ---- its text
+
+module _ (records : List Record) (opened begun : List PoolEntry) (done : List Done) (sound : AreSound records) (opened_is : opened ≡ history_of records) (begins : IsOpenedHistory opened begun) where
+  endings : List PoolEntry
+  endings = map ending_of (left_open opened)
+
+  behind : drop (length opened) begun ≡ endings
+  unfolding endings
+  behind = ap (drop (length opened)) begins ∙ drop-append_seam opened endings
+
+  -- the first members are all accepted
+  begun_text : accepted_text [] begun ≡ history_text None opened ++ added_text opened (drop (length opened) begun)
+  unfolding endings behind
+  begun_text =
+      let first : All Accepted opened = subst (All Accepted) (sym opened_is) sound.accepted in
+      let all : All Accepted begun = subst (All Accepted) (sym begins) (All-append Accepted opened endings first (endings_accepted opened)) in
+      accepted_all [] begun all ∙ ap (added_text []) begins ∙ added_both [] opened endings
+      ∙ ap (λ (ms : List PoolEntry). added_text [] opened ++ added_text opened ms) (sym behind)
+
+  all_text : (history : List PoolEntry) → history ≡ begun ++ all_added done → accepted_text [] history ≡ history_text None opened ++ kept_text opened begun done
+  all_text history parts =
+      ap (accepted_text []) parts ∙ accepted_both [] begun (all_added done)
+      ∙ ap (λ (t : List ℕ). t ++ accepted_text begun (all_added done)) begun_text
+      ∙ append_assoc (history_text None opened) (added_text opened (drop (length opened) begun)) (accepted_text begun (all_added done))
+
+  whole_text : AreAllAccepted done → kept_text opened begun done ≡ run_text opened begun done
+  whole_text all =
+      ap (λ (t : List ℕ). added_text opened (drop (length opened) begun) ++ t) (accepted_all begun (all_added done) all.accepted ∙ sym (added_by_all begun done all.replied))
 
 -- ---- the law
 
--- a run that begins with no history has that of its batches
-begun_none : (opened begun : List PoolEntry) → opened ≡ [] → IsOpenedHistory opened begun → begun ≡ []
-begun_none opened begun none begins = begins ∙ ap ended none
-
-run_alone : (opened begun : List PoolEntry) (done : List Done) → opened ≡ [] → begun ≡ [] → run_text opened begun done ≡ text_of [] done
-run_alone opened begun done none first = ap₂ (λ (o b : List PoolEntry). run_text o b done) none first
-
 pub history_law : {D : Type 0} (seen : D → Seen) → HistoryLaw seen
-history_law seen held_old held_new old new batches status text ran told none all history viewed =
-    let first : ran.begun ≡ [] = begun_none ran.opened ran.begun none ran.is_history.begins in
-    let added : ran.history ≡ all_added ran.done = ran.is_history.parts ∙ ap (λ (b : List PoolEntry). b ++ all_added ran.done) first in
-    let accepted : All Accepted ran.history = subst (All Accepted) (sym added) all.accepted in
-    let now : HasViewed true (seen new).reads history = subst (λ (b : Bool). HasViewed b (seen new).reads history) (ran.sound told).tells viewed in
-    let same : history ≡ all_added ran.done = read_again ran.history history (seen new).reads ran.legal ran.keepable accepted (ran.on_disk told) now ∙ added in
-    ap (added_text []) same ∙ sym (added_by_all [] ran.done all.replied) ∙ sym (run_alone ran.opened ran.begun ran.done none first) ∙ sym ran.text_is
+history_law seen held_old held_new old new batches status text ran told read viewed =
+    let history = ran.history in
+    let h = ran.is_history in
+    let now : HasViewed true (seen new).reads read = subst (λ (b : Bool). HasViewed b (seen new).reads read) (ran.sound told).tells viewed in
+    let stands = ran.on_disk told in
+    let left = left_members history stands.0 ran.legal stands.1 in
+    let replayed : read ≡ replay_of stands.0 = read_again history read (seen new).reads stands ran.keepable now in
+    let members : read ≡ accepted_members history ++ left.last = replayed ∙ left.are in
+    let legal : IsLegal read = subst IsLegal (sym replayed) (pool_replay_law stands.0) in
+    record {
+      last = left.last;
+      tried = left.tried;
+      members = members;
+      text = ap (added_text []) members ∙ added_both [] (accepted_members history) left.last
+          ∙ ap₂ (λ (s t : List ℕ). s ++ t) (retold_law [] history ∙ all_text h.records ran.opened ran.begun ran.done h.sound h.opened_is h.begins history h.parts) left.told;
+      whole = whole_text h.records ran.opened ran.begun ran.done h.sound h.opened_is h.begins;
+      statement = λ before later m round t parts is is_told.
+          let rest = accepted_members later ++ left.last in
+          let own : accepted_members (before ++ m ∷ later) ≡ accepted_members before ++ m ∷ accepted_members later =
+          kept_append before (m ∷ later) ∙ ap (λ (ms : List PoolEntry). accepted_members before ++ ms) (kept_step m later true (publication_accepted round m.entry is)) in
+          let whole : read ≡ accepted_members before ++ m ∷ rest =
+          members ∙ ap (λ (ms : List PoolEntry). accepted_members ms ++ left.last) parts ∙ ap (λ (ms : List PoolEntry). ms ++ left.last) own ∙ append_assoc (accepted_members before) (m ∷ accepted_members later) left.last in
+          statement_law.one (accepted_members before) rest m round t (subst IsLegal whole legal) is (subst (λ (ms : List PoolEntry). IsRoundText round m.pool ms t) whole is_told) ∙ statement_law.kept before m;
+    }

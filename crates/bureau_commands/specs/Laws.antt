@@ -1,16 +1,21 @@
 -- What the promise of a run comes to: of each moment after a crash, of the next call, and of what `history` prints later.
-use Rattle.std.specs.Prelude.{◌≡◌, ◌<◌, ◌≤◌, ℕ, true, List, [], All, Option, None, IsTrue}
+use Rattle.std.specs.Prelude.{◌≡◌, ◌<◌, ◌≤◌, ◌⊎◌, ℕ, true, List, [], ◌∷◌, ◌++◌, All, length, drop, Option, None, IsTrue}
 use Rattle.disk_model.specs.Calls.{Seen, IsPresent}
+use Rattle.claim_history.specs.declared.call.Call.{Call}
 use Rattle.claim_history.specs.declared.call.PoolEntry.{PoolEntry}
 use Rattle.claim_history.specs.History.{is_accepted}
+use Rattle.claim_history.specs.Pools.{answered, due_reply}
+use Rattle.claim_history.specs.PoolRounds.{open_cut_in}
 use Rattle.request_text.specs.declared.request.Request.{Request}
 use Rattle.printed_text.specs.declared.exit_status.ExitStatus.{ExitStatus}
-use Rattle.printed_text.specs.Printing.{ends_text}
-use Rattle.history_text.specs.Histories.{history_text}
+use Rattle.printed_text.specs.Printing.{added_text, ends_text, statement_of}
+use Rattle.history_text.specs.Histories.{IsRoundText, history_text, publishes_round}
+use Rattle.history_text.specs.Accepted.{accepted_members, accepted_text}
+use Rattle.recorded_book.specs.Calls.{TriedLast}
 use Rattle.batch_runs.specs.Runs.{Done, HasTaken, all_added}
 use Rattle.bureau_desk.specs.Opening.{HasViewed, HoldsOpened}
 use Rattle.bureau_commands.specs.Journals.{HasAuditFault, HoldsSound}
-use Rattle.bureau_commands.specs.Headline.{IsHeadline, SurvivesCrashes}
+use Rattle.bureau_commands.specs.Headline.{IsHeadline, SurvivesCrashes, run_text}
 use Rattle.bureau_commands.specs.Causes.{HoldsUnsound}
 
 -- The disk that comes back is tied to the one that was handed in: the images of the start are as they were, and none between it and
@@ -44,10 +49,33 @@ pub record AreAllAccepted (done : List Done) : Type 0 where
   pub accepted : All (λ m. is_accepted m.entry ≡ true) (all_added done)
   pub replied : All (λ b. ends_text b.answers ≡ []) done
 
--- What a run prints that begins with no history, and in which all is so, is what `history` prints of the disk that the run leaves. It
--- is so whatever the batches, and in whichever order their lanes were served.
+-- Of what a run printed: the lines of the abandonments, and those of the accepted members of its batches, each publication followed by
+-- its statement. What is left out is the lines of refused members, and those of lines that were not replied to.
+abbrev pub kept_text : List PoolEntry → List PoolEntry → List Done → List ℕ
+kept_text opened begun done = added_text opened (drop (length opened) begun) ++ accepted_text begun (all_added done)
+
+-- no member; or one for which the disk failed, after which none was accepted, with the reply that is due to its call
+abbrev pub IsTriedMember : List PoolEntry → List PoolEntry → Type 0
+IsTriedMember history last =
+    (last ≡ []) ⊎ ((call : Call) × TriedLast history call × (last ≡ answered call (due_reply history call) ∷ []))
+
+-- What is read later of the disk that a run leaves. Its members: the accepted ones of the run's history, with the very replies that they
+-- had, and behind them perhaps the one for which the disk failed last. What `history` prints of them: what it prints of the disk that
+-- was handed in, and then what is kept of the run's own text, all of it where nothing was refused and each line was replied to. What
+-- `statement` prints of a round that was published: the statement that stood behind the line of the publication.
+pub record IsRetold (opened begun : List PoolEntry) (done : List Done) (history read : List PoolEntry) : Type 0 where
+  pub last : List PoolEntry
+  pub tried : IsTriedMember history last
+  pub members : read ≡ accepted_members history ++ last
+  pub text : history_text None read ≡ history_text None opened ++ kept_text opened begun done ++ added_text history last
+  pub whole : AreAllAccepted done → kept_text opened begun done ≡ run_text opened begun done
+  pub statement : (before later : List PoolEntry) (m : PoolEntry) (round : ℕ) (told : List ℕ) → history ≡ before ++ m ∷ later
+      → publishes_round round m.entry ≡ true → IsRoundText round m.pool read told
+      → told ≡ statement_of (open_cut_in before m.pool) m.entry.act m.entry.reply
+
+-- So it is whatever the batches, and in whichever order their lanes were served, with refusals among them and earlier runs before.
 abbrev pub HistoryLaw : {D : Type 0} → (D → Seen) → Type 0
 HistoryLaw {D} seen = (held_old held_new : Option (List ℕ)) (old new : D) (batches : List (List Request)) (status : ExitStatus)
     (text : List ℕ) (ran : IsHeadline seen (HasTaken held_old held_new) old new batches status text) → IsTrue (seen old).tells
-    → ran.opened ≡ [] → AreAllAccepted ran.done → (history : List PoolEntry) → HasViewed (seen new).tells (seen new).reads history
-    → history_text None history ≡ text
+    → (read : List PoolEntry) → HasViewed (seen new).tells (seen new).reads read
+    → IsRetold ran.opened ran.begun ran.done ran.history read

@@ -15,8 +15,10 @@ pub fn sound_journals_have_no_fault<D: Disk>()
     ensures { NextLaw D.seen }
 {}
 
-/// What a run prints that begins with no history, and in which each line is replied to and accepted, is what `history` prints
-/// afterwards of the disk that comes back.
+/// The disk that comes back from a run holds its accepted entries, after those of the start, with the very replies that it printed, and
+/// perhaps one more behind them, for which the disk failed last. What `history` prints afterwards is what it printed before, and then the
+/// run's lines of accepted entries, each publication followed by its statement: all that the run printed, where nothing was refused and
+/// each line was replied to. What `statement` prints of a round that was published is what stood behind the line of its publication.
 pub fn runs_print_their_history<D: Disk>()
     ensures { HistoryLaw D.seen }
 {}

@@ -1,3 +1,4 @@
+pub mod Accepted
 pub mod Due
 pub mod Printed
 pub mod Replayed

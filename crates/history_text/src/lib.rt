@@ -8,9 +8,11 @@
 #![tactic(auto)]
 
 mod history;
+mod laws;
 mod replaying;
 mod round;
 mod told;
 
 pub use history::print_history;
+pub use laws::accepted_entries_are_told_again;
 pub use round::print_round;
