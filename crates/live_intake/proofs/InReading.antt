@@ -1,6 +1,6 @@
 -- The reader of a segment, one line more at a time.
 use Rattle.std.specs.Prelude.{Some, None, Option, ◌⊎◌}
-use Rattle.std.proofs.Common.{◌≡◌, ◌∙◌, ◌==◌, ◌+◌, ◌-◌, ◌<◌, ◌≤◌, ℕ, Bool, true, false, List, [], ◌∷◌, ◌++◌, All, length, get_or, map, take, refl, sym, ap, subst, arith, append_assoc, eqb-true, inl, inr}
+use Rattle.std.proofs.Common.{◌≡◌, ◌∙◌, ◌==◌, ◌+◌, ◌-◌, ◌<◌, ◌≤◌, ℕ, Bool, true, false, List, [], ◌∷◌, ◌++◌, All, length, drop, get_or, map, take, refl, sym, ap, subst, arith, append_assoc, eqb-true, inl, inr}
 use Rattle.std.proofs.KnownBytes.{Consumes-nil, Consumes-trans}
 use Rattle.std.proofs.lemmas.Bool.{eqb-false}
 use Rattle.std.proofs.lemmas.List.{append-nil, get_or_default, map-append}
@@ -19,7 +19,7 @@ use Rattle.lane_seats.proofs.OfLanes.{other_more, own_more}
 use Rattle.input_front.specs.declared.line.Line.TheVariants as line
 use Rattle.input_front.specs.Front.{IsBatchAt, IsFrontOf}
 use Rattle.input_front.specs.declared.intake.More.TheVariants as more
-use Rattle.input_front.specs.Taken.{HasCome, HasLast, HasNext, HasNoLine, HasPiece, HasRead, IntakeView, IsFirstBad, KeepsRead, OfRead}
+use Rattle.input_front.specs.Taken.{HasCome, HasLast, HasNext, HasNoFeed, HasNoLine, HasPiece, HasRead, IntakeView, IsFirstBad, KeepsRead, OfRead}
 use Rattle.input_front.proofs.Fronts.{front_law}
 use Rattle.input_front.proofs.Reading.{front_read, no_line}
 use Rattle.live_intake.specs.declared.handed.Handed.TheVariants as handed
@@ -141,6 +141,7 @@ module _ (first old : IntakeView) (requests : List Request) (so_far : HasReadThe
         (append_assoc batch requests more) (e.1 ended (batch ++ requests) (so_far ended batch begun))),
     e.2,
     e.3,
+    e.4,
   )
   ends_more left n0 n1 n2 new more (Some (stop.BadLine line cause)) le e =
       (e.0, front_more new.taken more e.1, (λ ended batch begun. e.2 ended (batch ++ requests) (so_far ended batch begun)), bad_for_good left new line cause e.3)
@@ -196,7 +197,7 @@ module _ (first old new : IntakeView) (requests : List Request) (so_far : HasRea
 
 -- ---- the last line
 
-module _ (first v : IntakeView) (requests : List Request) (so_far : HasReadThese first v requests) (begun : v.fenced ≡ false) (left : Option (List ℕ)) (n0 n1 : ℕ) (at_end : IsAtEnd left) (few : length v.taken ≤ v.limit) where
+module _ (first v : IntakeView) (requests : List Request) (so_far : HasReadThese first v requests) (begun : v.fenced ≡ false) (left : Option (List ℕ)) (n0 n1 : ℕ) (at_end : IsAtEnd left) (few : length v.taken ≤ v.limit) (none : HasNoFeed (drop v.read v.taken)) where
   -- batches of a whole input end with the last
   last_at : (ended : List (List Request)) (batch : List Request) → IsRequestText v.taken (ended ++ batch ∷ []) → IsBatchAt v.taken true (length ended) batch
   last_at ended batch h = front_law.last v.taken true ended batch (front_law.whole v.taken (ended ++ batch ∷ []) h)
@@ -207,6 +208,7 @@ module _ (first v : IntakeView) (requests : List Request) (so_far : HasReadThese
     (λ ended batch read. let text = h.1 ended (batch ++ requests) (so_far ended batch read) in (inl text, last_at ended (batch ++ requests) text)),
     at_end,
     few,
+    none,
   )
 
   pub ends_asked : (request : Request) → HasLast v (Some (line.Asks request)) → Ends left n0 n1 first v (requests ++ request ∷ []) (Some stop.End)
@@ -217,6 +219,7 @@ module _ (first v : IntakeView) (requests : List Request) (so_far : HasReadThese
         (inl text, last_at ended (batch ++ (requests ++ request ∷ [])) text)),
     at_end,
     few,
+    none,
   )
 
   pub ends_fence_last : HasLast v (Some line.Fence) → Ends left n0 n1 first v requests (Some stop.End)
@@ -225,6 +228,7 @@ module _ (first v : IntakeView) (requests : List Request) (so_far : HasReadThese
     (λ ended batch read. let both = h ended (batch ++ requests) (so_far ended batch read) in (inr both.0, both.1)),
     at_end,
     few,
+    none,
   )
 
 -- ---- what was read so far, and more
@@ -293,24 +297,24 @@ all_handed firsts olds news requests so_far marked = record {
 }
 
 -- the last line asked something, or nothing
-pub last_asked_of : (v : IntakeView) (olds news : List Ring) (noted0 noted1 : List Request) (request : Request) → v.fenced ≡ false → IsLane request.lane → HasLast v (Some (line.Asks request)) → HasHanded olds news request
+pub last_asked_of : (v : IntakeView) (olds news : List Ring) (noted0 noted1 : List Request) (request : Request) → v.fenced ≡ false → HasNoFeed (drop v.read v.taken) → IsLane request.lane → HasLast v (Some (line.Asks request)) → HasHanded olds news request
     → noted1 ≡ noted0 ++ request ∷ [] → HasReadLast v olds news noted0 noted1 stop.End
-last_asked_of v olds news noted0 noted1 request begun lane h handed noted = record {
+last_asked_of v olds news noted0 noted1 request begun none lane h handed noted = record {
   more = request ∷ [];
   noted = noted;
   sent = sent_alone olds news request handed;
   own = one_own request lane;
-  ends = λ left n0 n1 at_end few. ends_asked v v [] (none_read v) begun left n0 n1 at_end few request h;
+  ends = λ left n0 n1 at_end few. ends_asked v v [] (none_read v) begun left n0 n1 at_end few none request h;
 }
 
 pub last_so : (v : IntakeView) (rings : List Ring) (noted : List Request) (why : Stop) → ((left : Option (List ℕ)) (n0 n1 : ℕ) → IsAtEnd left → length v.taken ≤ v.limit → Ends left n0 n1 v v [] (Some why)) → HasReadLast v rings rings noted noted why
 last_so v rings noted why ends = record { more = []; noted = sym (append-nil noted); sent = none_sent rings; own = none_own; ends = ends }
 
-pub last_fence_of : (v : IntakeView) (rings : List Ring) (noted : List Request) → v.fenced ≡ false → HasLast v (Some line.Fence) → HasReadLast v rings rings noted noted stop.End
-last_fence_of v rings noted begun h = last_so v rings noted stop.End (λ left n0 n1 at_end few. ends_fence_last v v [] (none_read v) begun left n0 n1 at_end few h)
+pub last_fence_of : (v : IntakeView) (rings : List Ring) (noted : List Request) → v.fenced ≡ false → HasNoFeed (drop v.read v.taken) → HasLast v (Some line.Fence) → HasReadLast v rings rings noted noted stop.End
+last_fence_of v rings noted begun none h = last_so v rings noted stop.End (λ left n0 n1 at_end few. ends_fence_last v v [] (none_read v) begun left n0 n1 at_end few none h)
 
-pub last_none_of : (v : IntakeView) (rings : List Ring) (noted : List Request) → v.fenced ≡ false → HasLast v None → HasReadLast v rings rings noted noted stop.End
-last_none_of v rings noted begun h = last_so v rings noted stop.End (λ left n0 n1 at_end few. ends_here v v [] (none_read v) begun left n0 n1 at_end few h)
+pub last_none_of : (v : IntakeView) (rings : List Ring) (noted : List Request) → v.fenced ≡ false → HasNoFeed (drop v.read v.taken) → HasLast v None → HasReadLast v rings rings noted noted stop.End
+last_none_of v rings noted begun none h = last_so v rings noted stop.End (λ left n0 n1 at_end few. ends_here v v [] (none_read v) begun left n0 n1 at_end few none h)
 
 pub last_bad_of : (v : IntakeView) (rings : List Ring) (noted : List Request) (number : ℕ) (cause : LineCause) → v.fenced ≡ false → HasLast v (Some (line.Bad number cause)) → HasReadLast v rings rings noted noted (stop.BadLine number cause)
 last_bad_of v rings noted number cause begun h = last_so v rings noted (stop.BadLine number cause) (λ left n0 n1 at_end few. ends_bad v v v [] (none_read v) begun left n0 n1 number cause refl h (inl (at_end, few)))

@@ -54,7 +54,7 @@ module _ (old begun new : IntakeView) (batch : List Request) (left : Option (Lis
 
   pub stops_so : (why : Stop) → Ends left n0 n1 begun new batch (Some why) → IsStop left n0 n1 old new batch why
   stops_so stop.Fence e = λ earlier read. (e.1 earlier [] (keeps earlier [] read)).0
-  stops_so stop.End e = (e.2, e.3, λ earlier read. (e.1 earlier [] (keeps earlier [] read)).0)
+  stops_so stop.End e = (e.2, e.3, (λ earlier read. (e.1 earlier [] (keeps earlier [] read)).0), e.4)
   stops_so (stop.BadLine line cause) e = (behind new.taken e.1, e.2 b.earlier [] (keeps b.earlier [] b.read), bad_so line cause e.3)
   stops_so stop.Failed e = (behind new.taken e.1, e.2, e.3, e.4)
   stops_so stop.TooLong e = (behind new.taken e.1, e.2, e.3)

@@ -43,12 +43,13 @@ module _ (left_new : Option (List ℕ)) (faults_old faults_new : ℕ) (old new :
   IsLast bytes = Behind (λ earlier. IsFrontOf bytes false (earlier ++ batch ∷ []))
 
   -- Why the batch ended. A bad line is the first one of the input: whatever follows what was taken, or since the input has ended.
-  -- No whole line is left unread where the source failed, and where too much was taken. Where there was no memory, a whole line that
-  -- is left is the one that could not be read; where none is, the batch is that of all bytes taken.
+  -- No whole line is left unread where the input ended, where the source failed, and where too much was taken. Where there was no
+  -- memory, a whole line that is left is the one that could not be read; where none is, the batch is that of all bytes taken.
   abbrev pub IsStop : Stop → Type 0
   IsStop stop.Fence = Behind (λ earlier. HasRead new (earlier ++ batch ∷ []) [])
   IsStop stop.End = IsAtEnd left_new × (length new.taken ≤ new.limit) × Behind (λ earlier.
       IsRequestText new.taken (earlier ++ batch ∷ []) ⊎ IsRequestText new.taken ((earlier ++ batch ∷ []) ++ [] ∷ []))
+      × HasNoFeed (drop new.read new.taken)
   IsStop (stop.BadLine line cause) = IsLast new.taken × IsFirstBadLine new.taken line cause
       × ((IsAtEnd left_new × (length new.taken ≤ new.limit)) ⊎ ((rest : List ℕ) → IsFirstBadLine (new.taken ++ rest) line cause))
   IsStop stop.Failed =

@@ -78,7 +78,8 @@ module _ (left_new : Option (List ℕ)) (faults_old faults_new : ℕ) (old new :
   abbrev pub Ends : Option Stop → Type 0
   Ends None = (new.fenced ≡ false) × HasReadThese old new requests
   Ends (Some stop.Fence) = (new.fenced ≡ true) × HasReadFence
-  Ends (Some stop.End) = (new.fenced ≡ false) × HasReadToEnd × IsAtEnd left_new × (length new.taken ≤ new.limit)
+  Ends (Some stop.End) =
+      (new.fenced ≡ false) × HasReadToEnd × IsAtEnd left_new × (length new.taken ≤ new.limit) × HasNoFeed (drop new.read new.taken)
   Ends (Some (stop.BadLine line cause)) =
       (new.fenced ≡ false) × HasFront old new.taken requests × OfRead old (λ ended batch. IsFirstBadLine new.taken line cause)
       × IsBadForGood left_new old new line cause

@@ -8,11 +8,11 @@ use crate::handed::{Handed, InSegments};
 use bureau_desk::Desk;
 use disk_model::Disk;
 use flow_solver::Solver;
-use lane_runner::{Gate, serve};
+use lane_runner::{Gate, Service, serve};
 use request_text::Request;
 use rtrb::Consumer;
 use served_lines::LineEnd;
-use shared_bureau::{Pause, Shared};
+use shared_bureau::Pause;
 use std::alloc::Global;
 use std::sync::Wait;
 use std::thread;
@@ -26,21 +26,16 @@ pub struct LiveLane<D: Disk> {
 }
 
 /// Serves in order the lines that the lane is handed, up to the end of the segment. It waits for each of them.
-pub fn serve_segment<D: Disk, R: Wait, S: Solver, G: Gate, P: Pause>(
-    rt: &R,
-    alloc: Global,
-    shared: &Shared<D>,
+pub fn serve_segment<D: Disk, R: Wait, V: Solver, G: Gate, P: Pause>(
+    service: &Service<D, R, V, G, P>,
     lane: &mut LiveLane<D>,
-    solver: &S,
-    gate: &G,
-    pause: &P,
 )
-    requires { IsFit shared.now.turn lane.old }
-    ensures { HasServedSegment shared.now.turn lane.old lane.new }
+    requires { IsFit service.now.shared.now.turn lane.old }
+    ensures { HasServedSegment service.now.shared.now.turn lane.old lane.new }
 {
     lane.ends.clear();
-    for _ in rt.forever() {
-        match take(rt, &mut lane.ring) {
+    for _ in service.rt.forever() {
+        match take(service.rt, &mut lane.ring) {
             Handed::Line { line, pool, act } => {
                 let request = Request {
                     line,
@@ -49,14 +44,14 @@ pub fn serve_segment<D: Disk, R: Wait, S: Solver, G: Gate, P: Pause>(
                     act,
                 };
                 let end = serve(
-                    rt,
-                    alloc,
-                    shared,
+                    service.rt,
+                    service.alloc,
+                    service.shared,
                     &mut lane.seat,
                     &request,
-                    solver,
-                    gate,
-                    pause,
+                    service.solver,
+                    service.gate,
+                    service.pause,
                 );
                 lane.ends.push_reserved(end);
             }

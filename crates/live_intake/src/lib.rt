@@ -23,8 +23,5 @@ mod segment;
 mod segments;
 mod stop;
 
-pub use handed::{Handed, InSegments, MOST_HANDED};
-pub use lane::LiveLane;
 pub use live::{LiveEnd, run_live};
-pub use rings::Ring;
 pub use stop::Stop;

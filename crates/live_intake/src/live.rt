@@ -16,7 +16,7 @@ use bureau_edge::Source;
 use disk_model::Disk;
 use flow_solver::Solver;
 use input_front::Intake;
-use lane_runner::{Answers, BatchEnd, Gate};
+use lane_runner::{Answers, BatchEnd, Gate, Service};
 use served_lines::Answer;
 use shared_bureau::{Pause, Shared};
 use std::alloc::Global;
@@ -146,19 +146,22 @@ fn serve_live<
         mut seats,
     } = room;
     seat_lanes(&shared, &mut registrar, places, &mut rings, &mut lanes);
-    let stop = serve_segments(
+    let service = Service {
         rt,
         alloc,
-        &shared,
+        shared: &shared,
+        solver,
+        gate,
+        pause,
+    };
+    let stop = serve_segments(
+        &service,
         lanes.as_mut_slice(),
         rings.as_mut_slice(),
         intake,
         source,
         &mut requests,
         &mut answers,
-        solver,
-        gate,
-        pause,
     );
     unseat(lanes, &mut seats);
     let desk = shared.finish(registrar, seats);

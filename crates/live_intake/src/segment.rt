@@ -19,12 +19,11 @@ use bureau_edge::Source;
 use disk_model::Disk;
 use flow_solver::Solver;
 use input_front::Intake;
-use lane_runner::Gate;
+use lane_runner::{Gate, Service};
 use request_text::Request;
 use served_lines::Answer;
 use setoff_model::limits::MOST_LANES;
-use shared_bureau::{Pause, Shared};
-use std::alloc::Global;
+use shared_bureau::Pause;
 use std::sync::Wait;
 use std::thread::{Threads, join_mut};
 
@@ -39,27 +38,22 @@ pub fn run_segment<
     P: Pause + Sync,
     S: Source,
 >(
-    rt: &R,
-    alloc: Global,
-    shared: &Shared<D>,
+    service: &Service<D, R, V, G, P>,
     lanes: &mut [LiveLane<D>],
     rings: &mut [Ring],
     intake: &mut Intake,
     source: &mut S,
     requests: &mut Vec<Request>,
     answers: &mut Vec<Answer>,
-    solver: &V,
-    gate: &G,
-    pause: &P,
 ) -> Option<Stop>
     requires begun { intake.old.fenced ≡ false }
     requires all { length rings.old ≡ MOST_LANES }
     requires fresh { (requests.old.items ≡ []) × (vec_len requests.old ≡ 0) × (most_asked ≤ vec_capacity requests.old) }
     requires answers { HasSpare intake.old answers.old (vec_len requests.old) }
     requires joined { AreJoined rings.old lanes.old }
-    requires fit { All (IsFit shared.now.turn) lanes.old }
+    requires fit { All (IsFit service.now.shared.now.turn) lanes.old }
     ensures joined { AreJoined rings.new lanes.new }
-    ensures served { HaveServedThese shared.now.turn requests.new.items lanes.old lanes.new }
+    ensures served { HaveServedThese service.now.shared.now.turn requests.new.items lanes.old lanes.new }
     ensures own { All (λ r. IsLane r.lane) requests.new.items }
     ensures few { vec_len requests.new ≤ most_asked }
     ensures spare { most_asked ≤ vec_capacity requests.new }
@@ -69,9 +63,7 @@ pub fn run_segment<
         intake.old intake.new requests.new.items result }
     ensures answers { KeepsSpare intake.old intake.new answers.old answers.new (vec_len requests.new) result }
 {
-    let stop = run_lanes(
-        rt, alloc, shared, lanes, rings, intake, source, requests, answers, solver, gate, pause,
-    );
+    let stop = run_lanes(service, lanes, rings, intake, source, requests, answers);
     meet(lanes, rings);
     stop
 }
@@ -85,69 +77,36 @@ fn run_lanes<
     P: Pause + Sync,
     S: Source,
 >(
-    rt: &R,
-    alloc: Global,
-    shared: &Shared<D>,
+    service: &Service<D, R, V, G, P>,
     lanes: &mut [LiveLane<D>],
     rings: &mut [Ring],
     intake: &mut Intake,
     source: &mut S,
     requests: &mut Vec<Request>,
     answers: &mut Vec<Answer>,
-    solver: &V,
-    gate: &G,
-    pause: &P,
 ) -> Option<Stop>
     requires ready { MayRead intake.old rings.old requests.old answers.old }
-    requires fit { All (IsFit shared.now.turn) lanes.old }
+    requires fit { All (IsFit service.now.shared.now.turn) lanes.old }
     ensures read { HasReadSegment (S.left source.old) (S.left source.new) (S.faults source.old) (S.faults source.new)
         intake.old intake.new rings.old rings.new requests.new answers.old answers.new result }
-    ensures served { HaveServed shared.now.turn lanes.old lanes.new }
+    ensures served { HaveServed service.now.shared.now.turn lanes.old lanes.new }
 {
     match steps_alone(intake.unread()) {
-        Some(steps) => run_in_turn(
-            rt, alloc, shared, lanes, rings, intake, source, requests, answers, solver, gate,
-            pause, steps,
-        ),
-        None => run_both(
-            rt, alloc, shared, lanes, rings, intake, source, requests, answers, solver, gate, pause,
-        ),
+        Some(steps) => {
+            let stop = read_segment(
+                service.alloc,
+                intake,
+                source,
+                rings,
+                requests,
+                answers,
+                steps,
+            );
+            serve_lanes(service, lanes, 1);
+            stop
+        }
+        None => run_both(service, lanes, rings, intake, source, requests, answers),
     }
-}
-
-// Runs the reader for so many steps at most, and the lanes then.
-fn run_in_turn<
-    D: Disk + Send + Sync,
-    R: Threads + Wait + Sync,
-    V: Solver + Sync,
-    G: Gate + Sync,
-    P: Pause + Sync,
-    S: Source,
->(
-    rt: &R,
-    alloc: Global,
-    shared: &Shared<D>,
-    lanes: &mut [LiveLane<D>],
-    rings: &mut [Ring],
-    intake: &mut Intake,
-    source: &mut S,
-    requests: &mut Vec<Request>,
-    answers: &mut Vec<Answer>,
-    solver: &V,
-    gate: &G,
-    pause: &P,
-    steps: usize,
-) -> Option<Stop>
-    requires ready { MayRead intake.old rings.old requests.old answers.old }
-    requires fit { All (IsFit shared.now.turn) lanes.old }
-    requires some { 1 ≤ steps }
-    ensures read { HasReadSegment (S.left source.old) (S.left source.new) (S.faults source.old) (S.faults source.new)
-        intake.old intake.new rings.old rings.new requests.new answers.old answers.new result }
-    ensures served { HaveServed shared.now.turn lanes.old lanes.new }
-{
-    let stop = read_segment(alloc, intake, source, rings, requests, answers, steps);
-    serve_lanes(rt, alloc, shared, lanes, 1, solver, gate, pause);
-    stop
 }
 
 // Runs the lanes and the reader of their lines side by side. Where no thread can be made, the reader runs first.
@@ -159,36 +118,41 @@ fn run_both<
     P: Pause + Sync,
     S: Source,
 >(
-    rt: &R,
-    alloc: Global,
-    shared: &Shared<D>,
+    service: &Service<D, R, V, G, P>,
     lanes: &mut [LiveLane<D>],
     rings: &mut [Ring],
     intake: &mut Intake,
     source: &mut S,
     requests: &mut Vec<Request>,
     answers: &mut Vec<Answer>,
-    solver: &V,
-    gate: &G,
-    pause: &P,
 ) -> Option<Stop>
     requires ready { MayRead intake.old rings.old requests.old answers.old }
-    requires fit { All (IsFit shared.now.turn) lanes.old }
+    requires fit { All (IsFit service.now.shared.now.turn) lanes.old }
     ensures read { HasReadSegment (S.left source.old) (S.left source.new) (S.faults source.old) (S.faults source.new)
         intake.old intake.new rings.old rings.new requests.new answers.old answers.new result }
-    ensures served { HaveServed shared.now.turn lanes.old lanes.new }
+    ensures served { HaveServed service.now.shared.now.turn lanes.old lanes.new }
 {
     let (_, stop) = join_mut(
-        rt,
+        service.rt,
         &mut ||
-            requires { All (IsFit shared.now.turn) lanes.now }
-            ensures { HaveServed shared.entry.now.turn lanes.entry.now lanes.exit.now }
-        { serve_lanes(rt, alloc, shared, lanes, MOST_LANES, solver, gate, pause) },
+            requires { All (IsFit service.now.shared.now.turn) lanes.now }
+            ensures { HaveServed service.entry.now.shared.now.turn lanes.entry.now lanes.exit.now }
+        { serve_lanes(service, lanes, MOST_LANES) },
         &mut || -> Option<Stop>
             requires { MayRead intake.now rings.now requests.now answers.now }
             ensures { HasReadSegment (S.left source.entry.now) (S.left source.exit.now) (S.faults source.entry.now) (S.faults source.exit.now)
                 intake.entry.now intake.exit.now rings.entry.now rings.exit.now requests.exit.now answers.entry.now answers.exit.now result }
-        { read_segment(alloc, intake, source, rings, requests, answers, usize::MAX) },
+        {
+            read_segment(
+                service.alloc,
+                intake,
+                source,
+                rings,
+                requests,
+                answers,
+                usize::MAX,
+            )
+        },
     );
     stop
 }

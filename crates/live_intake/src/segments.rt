@@ -13,11 +13,10 @@ use bureau_edge::Source;
 use disk_model::Disk;
 use flow_solver::Solver;
 use input_front::Intake;
-use lane_runner::Gate;
+use lane_runner::{Gate, Service};
 use request_text::Request;
 use served_lines::Answer;
-use shared_bureau::{Pause, Shared};
-use std::alloc::Global;
+use shared_bureau::Pause;
 use std::sync::Wait;
 use std::thread::Threads;
 
@@ -30,34 +29,27 @@ pub fn serve_segments<
     G: Gate + Sync,
     P: Pause + Sync,
 >(
-    rt: &R,
-    alloc: Global,
-    shared: &Shared<D>,
+    service: &Service<D, R, V, G, P>,
     lanes: &mut [LiveLane<D>],
     rings: &mut [Ring],
     intake: &mut Intake,
     source: &mut S,
     requests: &mut Vec<Request>,
     answers: &mut Vec<Answer>,
-    solver: &V,
-    gate: &G,
-    pause: &P,
 ) -> Stop
     requires begun { intake.old.fenced ≡ false }
-    requires ready { AreReady shared.now.turn rings.old lanes.old }
+    requires ready { AreReady service.now.shared.now.turn rings.old lanes.old }
     requires room { most_asked ≤ vec_capacity requests.old }
     requires none { answers.old.items ≡ [] }
     requires answers { HasSpare intake.old answers.old 0 }
     ensures taken { HasTaken (S.left source.old) (S.left source.new) (S.faults source.old) (S.faults source.new)
         intake.old intake.new }
-    ensures served { HasServedBatch shared.now.turn (S.left source.new) (S.faults source.old) (S.faults source.new)
+    ensures served { HasServedBatch service.now.shared.now.turn (S.left source.new) (S.faults source.old) (S.faults source.new)
         intake.old intake.new rings.new
         lanes.old lanes.new answers.new.items (Some result) }
 {
     loop {
-        let ended = serve_next(
-            rt, alloc, shared, lanes, rings, intake, source, requests, answers, solver, gate, pause,
-        );
+        let ended = serve_next(service, lanes, rings, intake, source, requests, answers);
         if let Some(stop) = ended {
             return stop;
         }
@@ -74,21 +66,16 @@ fn serve_next<
     G: Gate + Sync,
     P: Pause + Sync,
 >(
-    rt: &R,
-    alloc: Global,
-    shared: &Shared<D>,
+    service: &Service<D, R, V, G, P>,
     lanes: &mut [LiveLane<D>],
     rings: &mut [Ring],
     intake: &mut Intake,
     source: &mut S,
     requests: &mut Vec<Request>,
     answers: &mut Vec<Answer>,
-    solver: &V,
-    gate: &G,
-    pause: &P,
 ) -> Option<Stop>
     requires begun { intake.old.fenced ≡ false }
-    requires ready { AreReady shared.now.turn rings.old lanes.old }
+    requires ready { AreReady service.now.shared.now.turn rings.old lanes.old }
     requires room { most_asked ≤ vec_capacity requests.old }
     requires answers { HasSpare intake.old answers.old 0 }
     ensures answers { result ≡ None → HasSpare intake.new answers.new 0 }
@@ -96,14 +83,12 @@ fn serve_next<
     ensures room { most_asked ≤ vec_capacity requests.new }
     ensures taken { HasTaken (S.left source.old) (S.left source.new) (S.faults source.old) (S.faults source.new)
         intake.old intake.new }
-    ensures served { HasServedMore shared.now.turn (S.left source.new) (S.faults source.old) (S.faults source.new)
+    ensures served { HasServedMore service.now.shared.now.turn (S.left source.new) (S.faults source.old) (S.faults source.new)
         intake.old intake.new rings.new
         lanes.old lanes.new answers.old.items answers.new.items result }
 {
     requests.clear();
-    let ended = run_segment(
-        rt, alloc, shared, lanes, rings, intake, source, requests, answers, solver, gate, pause,
-    );
+    let ended = run_segment(service, lanes, rings, intake, source, requests, answers);
     merge(requests.as_slice(), lanes, answers);
     ended
 }

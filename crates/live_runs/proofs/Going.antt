@@ -1,6 +1,8 @@
 -- The batches that were served so far of an input that is still read, and one more.
 use Rattle.std.specs.Prelude.{Option, Result, ◌<◌}
-use Rattle.std.proofs.Common.{true≢false, ◌≡◌, ◌≢◌, ◌∙◌, ◌⊎◌, inl, inr, ⊎_elim, ℕ, ◌≤◌, Bool, true, false, List, [], ◌∷◌, ◌++◌, length, map, take, refl, sym, ap, subst, zero, suc, arith}
+use Rattle.std.proofs.Common.{true≢false, ◌≡◌, ◌≢◌, ◌∙◌, ◌⊎◌, inl, inr, ⊎_elim, ℕ, ◌≤◌, Bool, true, false, List, [], ◌∷◌, ◌++◌, length, map, take, drop, refl, sym, ap, subst, zero, suc, arith}
+use Rattle.std.proofs.lemmas.List.{append-nil, take-append-drop}
+use Rattle.std.proofs.lemmas.List.Splits.{slice_split_none}
 use Rattle.std.specs.Io.KnownBytes.{Appends, Consumes}
 use Rattle.std.proofs.KnownBytes.{Consumes-nil, Consumes-trans}
 use Rattle.setoff_model.specs.declared.limits.TheConstants.{MOST_INPUT_BYTES}
@@ -9,12 +11,14 @@ use Rattle.fault_count.proofs.Rising.{risen_within}
 use Rattle.bureau_edge.specs.Streams.{AppendsPart}
 use Rattle.disk_model.specs.Calls.{Seen}
 use Rattle.request_text.specs.declared.request.Request.{Request}
-use Rattle.request_text.specs.Grammar.{IsRequestText}
+use Rattle.request_text.specs.Grammar.{AreBatches, IsRequestText}
 use Rattle.bureau_desk.specs.Desks.{DeskView}
 use Rattle.served_lines.specs.declared.answer.Answer.{Answer}
 use Rattle.printed_text.specs.declared.exit_status.ExitStatus.{ExitStatus}
 use Rattle.printed_text.specs.declared.exit_status.ExitStatus.TheVariants as statuses
-use Rattle.input_front.specs.Taken.{HasBatches, HasRead, IntakeView}
+use Rattle.input_front.specs.Front.{IsFrontOf, is_feed, whole_lines, whole_of_parts}
+use Rattle.input_front.specs.Taken.{HasBatches, HasNoFeed, HasRead, IntakeView}
+use Rattle.input_front.proofs.Fronts.{front_law}
 use Rattle.live_intake.specs.declared.stop.Stop.{Stop}
 use Rattle.live_intake.specs.declared.stop.Stop.TheVariants as stop
 use Rattle.live_intake.specs.Live.{HasRunLive, IsStop, is_fence}
@@ -35,6 +39,19 @@ pub record IsServing {D : Type 0} (seen : D → Seen) (left_first left_now : Opt
   pub limit_is : v.limit ≡ MOST_INPUT_BYTES
   pub consumed : Consumes left_first left_now v.taken
   pub later : faults_first ≤ faults_now
+
+-- where no whole line is left to be read, the front of what was taken spells all its whole lines
+all_whole : (v : IntakeView) → HasBatches v → HasNoFeed (drop v.read v.taken) → (batches : List (List Request)) → IsFrontOf v.taken false batches → AreBatches 1 (whole_lines v.taken) batches
+all_whole v h none batches front =
+    let before = h.read.before in
+    let rest = drop v.read v.taken in
+    let read = h.ended ++ h.batch ∷ [] in
+    let lines_are : whole_lines v.taken ≡ before ++ [] =
+    ap whole_lines (sym (take-append-drop v.read v.taken)) ∙ h.read.whole.as_whole rest ∙ ap (λ (l : List (List ℕ)). before ++ l) (ap whole_of_parts (slice_split_none is_feed rest none)) in
+    let whole : IsFrontOf v.taken false read = record { before = before; after = []; cut = lines_are; spelled = h.read.spelled; stops = tt } in
+    let same : batches ≡ read = front_law.only v.taken false batches read front whole in
+    subst (λ (l : List (List Request)). AreBatches 1 (whole_lines v.taken) l) (sym same)
+    (subst (λ (l : List (List ℕ)). AreBatches 1 l read) (sym (lines_are ∙ append-nil before)) h.read.spelled)
 
 -- an intake of which nothing was taken
 abbrev pub fresh : IntakeView
@@ -91,8 +108,8 @@ module _ {D : Type 0} (seen : D → Seen) (left_first : Option (List ℕ)) (faul
       i.0 so.batches so.read,
       (i.1, ⊎_elim (λ h. inl (h.0, subst (λ (n : ℕ). length w.taken ≤ n) limit_now h.1)) (λ h. inr h) i.2),
     )
-    front_of stop.Failed i = (i.0 so.batches so.read, subst (λ (n : ℕ). length w.taken ≤ n) limit_now i.3)
-    front_of stop.TooLong i = (i.0 so.batches so.read, subst (λ (n : ℕ). n < length w.taken) limit_now i.2)
+    front_of stop.Failed i = (all_whole w t.batches i.1 served (i.0 so.batches so.read), subst (λ (n : ℕ). length w.taken ≤ n) limit_now i.3)
+    front_of stop.TooLong i = (all_whole w t.batches i.1 served (i.0 so.batches so.read), omega (arith, limit_now, i.2, t.held))
     front_of stop.Memory i = (w.read, i.0 so.batches so.read)
 
     failed_of : (q : Stop) → Stops q → q ≡ stop.Failed → HasRisen faults_first (faults s1)

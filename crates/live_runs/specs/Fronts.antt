@@ -1,11 +1,11 @@
 -- Which batches of an input were served, by why the last of them ended.
-use Rattle.std.specs.Prelude.{◌≡◌, ◌⊎◌, ◌<◌, ◌≤◌, ℕ, Bool, true, false, Option, List, [], ◌∷◌, ◌++◌, length, take}
+use Rattle.std.specs.Prelude.{◌≡◌, ◌⊎◌, ◌+◌, ◌≤◌, ℕ, Bool, true, false, Option, List, [], ◌∷◌, ◌++◌, length, take}
 use Rattle.std.specs.Io.KnownBytes.{IsAtEnd}
 use Rattle.setoff_model.specs.declared.limits.TheConstants.{MOST_INPUT_BYTES}
 use Rattle.request_text.specs.declared.error.LineCause.{LineCause}
 use Rattle.request_text.specs.declared.request.Request.{Request}
 use Rattle.request_text.specs.Grammar.{AreBatches, IsFirstBadLine, IsRequestText}
-use Rattle.input_front.specs.Front.{IsFrontOf}
+use Rattle.input_front.specs.Front.{IsFrontOf, whole_lines}
 use Rattle.input_front.specs.Taken.{IsWhole}
 use Rattle.live_intake.specs.declared.stop.Stop.{Stop}
 use Rattle.live_intake.specs.declared.stop.Stop.TheVariants as stop
@@ -27,12 +27,13 @@ IsBadLineOf left taken line cause = IsFirstBadLine taken line cause
     × (IsTakenWhole left taken ⊎ ((rest : List ℕ) → IsFirstBadLine (taken ++ rest) line cause))
 
 -- These batches were served of the bytes that were taken. At the end of the input they are all, or all but an empty one behind a
--- FENCE without a line feed; where there was no memory for a line, they are those of the lines before it.
+-- FENCE without a line feed. Where the source failed, and where it had a byte more than may be taken, each whole line that was taken
+-- is one of theirs. Where there was no memory for a line, they are those of the lines before it.
 abbrev pub IsFrontServed : Option (List ℕ) → List ℕ → List (List Request) → Stop → Type 0
 IsFrontServed left taken batches stop.Fence = BeginsWith taken batches
 IsFrontServed left taken batches stop.End =
     IsTakenWhole left taken × (IsRequestText taken batches ⊎ IsRequestText taken (batches ++ [] ∷ []))
 IsFrontServed left taken batches (stop.BadLine line cause) = IsFrontOf taken false batches × IsBadLineOf left taken line cause
-IsFrontServed left taken batches stop.Failed = IsFrontOf taken false batches × (length taken ≤ MOST_INPUT_BYTES)
-IsFrontServed left taken batches stop.TooLong = IsFrontOf taken false batches × (MOST_INPUT_BYTES < length taken)
+IsFrontServed left taken batches stop.Failed = AreBatches 1 (whole_lines taken) batches × (length taken ≤ MOST_INPUT_BYTES)
+IsFrontServed left taken batches stop.TooLong = AreBatches 1 (whole_lines taken) batches × (length taken ≡ MOST_INPUT_BYTES + 1)
 IsFrontServed left taken batches stop.Memory = (read : ℕ) × IsFrontOf (take read taken) false batches

@@ -1,5 +1,5 @@
 -- Batches of an input that are served while it is read.
-use Rattle.std.specs.Prelude.{◌≡◌, ◌≢◌, ℕ, false, Option, Result, List, map}
+use Rattle.std.specs.Prelude.{◌≡◌, ◌≢◌, ◌+◌, ◌≤◌, ℕ, false, Option, Result, List, length, map}
 use Rattle.std.specs.Io.KnownBytes.{Consumes}
 use Rattle.fault_count.specs.Counts.{HasRisen}
 use Rattle.disk_model.specs.Calls.{Seen}
@@ -9,7 +9,7 @@ use Rattle.bureau_desk.specs.Desks.{DeskView}
 use Rattle.served_lines.specs.declared.answer.Answer.{Answer}
 use Rattle.printed_text.specs.declared.exit_status.ExitStatus.{ExitStatus}
 use Rattle.printed_text.specs.declared.exit_status.ExitStatus.TheVariants as statuses
-use Rattle.input_front.specs.Taken.{IntakeView}
+use Rattle.input_front.specs.Taken.{HasBatches, IntakeView}
 use Rattle.live_intake.specs.declared.stop.Stop.{Stop}
 use Rattle.live_intake.specs.declared.stop.Stop.TheVariants as stop
 use Rattle.live_intake.specs.Live.{HasRunLive, is_fence}
@@ -17,13 +17,16 @@ use Rattle.batch_runs.specs.declared.tally.Tally.{Tally}
 use Rattle.batch_runs.specs.Serving.{HasRunBatches, HasToldBatch}
 use Rattle.live_runs.specs.Fronts.{IsFrontServed}
 
--- One batch was served while it was read, and counted into a tally. Its text was written after that, or the sink failed at it.
+-- One batch was served while it was read, and counted into a tally. Its text was written after that, or the sink failed at it. The
+-- intake stands behind the lines of batches, and took at most one byte more than it may.
 pub record HasToldLive {D S T E : Type 0} (seen : D → Seen) (left : S → Option (List ℕ)) (faults : S → ℕ) (old new : DeskView D)
     (source_old source_new : S) (intake_old intake_new : IntakeView) (before after : Tally) (held_old held_new : Option (List ℕ))
     (why : Stop) (written : Result T E) : Type 0 where
   pub answers : Option (List Answer)
   pub live : HasRunLive seen left faults old new source_old source_new intake_old intake_new answers why
   pub told : HasToldBatch seen old new live.batch before after held_old held_new written
+  pub batches : HasBatches intake_new
+  pub held : length intake_new.taken ≤ intake_new.limit + 1
 
 -- The batches of an input were served in turn while it was read, and what each added was written after it was served. That ended
 -- where a batch did not end by a FENCE, or where a write failed. Where none failed, and the input has ended, they are all its batches.

@@ -8,7 +8,7 @@ use Rattle.live_intake.proofs.reading.hand_last.Goals as goal
 pub returns-in-Some-Asks-clause-last : goal.returns-in-Some-Asks-clause-last
 returns-in-Some-Asks-clause-last c =
     let h : HasLast c.args.intake.now (Some (line.Asks c.in-Some-Asks.request)) = search rules in
-    last_asked_of c.args.intake.now c.args.rings.now c.hand_one.new.rings c.args.requests.now.items c.hand_one.new.requests.items c.in-Some-Asks.request c.requires.begun h.0.can.by h c.hand_one.ensures.handed c.hand_one.ensures.noted
+    last_asked_of c.args.intake.now c.args.rings.now c.hand_one.new.rings c.args.requests.now.items c.hand_one.new.requests.items c.in-Some-Asks.request c.requires.begun c.requires.none h.0.can.by h c.hand_one.ensures.handed c.hand_one.ensures.noted
 
 pub returns-in-Some-Bad-clause-last : goal.returns-in-Some-Bad-clause-last
 returns-in-Some-Bad-clause-last c =
@@ -21,9 +21,9 @@ returns-in-Some-Memory-clause-last c = last_memory_of c.args.intake.now c.args.r
 pub returns-in-Some-Fence-clause-last : goal.returns-in-Some-Fence-clause-last
 returns-in-Some-Fence-clause-last c =
     let h : HasLast c.args.intake.now (Some line.Fence) = search rules in
-    last_fence_of c.args.intake.now c.args.rings.now c.args.requests.now.items c.requires.begun h
+    last_fence_of c.args.intake.now c.args.rings.now c.args.requests.now.items c.requires.begun c.requires.none h
 
 pub returns-in-Some-Fence-2-clause-last : goal.returns-in-Some-Fence-2-clause-last
 returns-in-Some-Fence-2-clause-last c =
     let h : HasLast c.args.intake.now None = search rules in
-    last_none_of c.args.intake.now c.args.rings.now c.args.requests.now.items c.requires.begun h
+    last_none_of c.args.intake.now c.args.rings.now c.args.requests.now.items c.requires.begun c.requires.none h

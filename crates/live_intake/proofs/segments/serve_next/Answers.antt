@@ -20,13 +20,13 @@ pub merge-requires-clause-lanes : goal.merge-requires-clause-lanes
 merge-requires-clause-lanes g c =
     let told = c.run_segment-ended.ensures in
     subst (λ (l : List Request). All (λ r. (1 ≤ r.lane) × (r.lane ≤ length c.run_segment-ended.new.lanes)) l) (sym c.as_slice.ensures.value)
-    (all_among c.args.shared.now.turn c.run_segment-ended.new.requests.items c.args.rings.now c.run_segment-ended.new.rings c.args.lanes.now c.run_segment-ended.new.lanes c.requires.ready told.joined told.served told.own)
+    (all_among c.args.service.now.shared.now.turn c.run_segment-ended.new.requests.items c.args.rings.now c.run_segment-ended.new.rings c.args.lanes.now c.run_segment-ended.new.lanes c.requires.ready told.joined told.served told.own)
 
 pub merge-requires-clause-all : goal.merge-requires-clause-all
 merge-requires-clause-all g c =
     let told = c.run_segment-ended.ensures in
     subst (λ (l : List Request). HaveEnds l c.run_segment-ended.new.lanes) (sym c.as_slice.ensures.value)
-    (have_ends c.args.shared.now.turn c.run_segment-ended.new.requests.items c.args.rings.now c.run_segment-ended.new.rings c.args.lanes.now c.run_segment-ended.new.lanes c.requires.ready told.joined told.served)
+    (have_ends c.args.service.now.shared.now.turn c.run_segment-ended.new.requests.items c.args.rings.now c.run_segment-ended.new.rings c.args.lanes.now c.run_segment-ended.new.lanes c.requires.ready told.joined told.served)
 
 pub returns-clause-served : goal.returns-clause-served
 returns-clause-served g c =
@@ -37,8 +37,8 @@ returns-clause-served g c =
       requests = new.requests.items;
       later = merged.later;
       answers_are = merged.is ∙ ap (λ l. l ++ merged.later) told.answers.items;
-      ready = ready_again c.args.shared.now.turn new.requests.items c.args.rings.now new.rings c.args.lanes.now new.lanes c.requires.ready told.joined told.served;
-      served = served_so c.args.shared.now.turn new.requests.items c.args.rings.now new.rings c.args.lanes.now new.lanes c.requires.ready told.joined told.served told.own merged.later merged.have;
+      ready = ready_again c.args.service.now.shared.now.turn new.requests.items c.args.rings.now new.rings c.args.lanes.now new.lanes c.requires.ready told.joined told.served;
+      served = served_so c.args.service.now.shared.now.turn new.requests.items c.args.rings.now new.rings c.args.lanes.now new.lanes c.requires.ready told.joined told.served told.own merged.later merged.have;
       ends = told.ends;
     }
 

@@ -11,7 +11,7 @@ loop-stop-init g c = record {
   ready = c.requires.ready;
   room = c.requires.room;
   taken = none_taken c.args.intake.now;
-  served = batch_none c.args.shared.now.turn (g.S.Source.left c.args.source.now) (g.S.Source.faults c.args.source.now) c.args.intake.now c.args.rings.now c.args.lanes.now c.args.answers.now.items c.requires.none c.requires.begun c.requires.ready;
+  served = batch_none c.args.service.now.shared.now.turn (g.S.Source.left c.args.source.now) (g.S.Source.faults c.args.source.now) c.args.intake.now c.args.rings.now c.args.lanes.now c.args.answers.now.items c.requires.none c.requires.begun c.requires.ready;
   answers = c.requires.answers;
 }
 
@@ -22,14 +22,14 @@ loop-stop-preserved g c =
     let faults = g.S.Source.faults in
     let new = c.serve_next-ended.new in
     let told = c.serve_next-ended.ensures in
-    let more : HasServedMore c.args.shared.now.turn (left new.source) (faults c.loop-stop.source) (faults new.source) c.loop-stop.intake new.intake new.rings c.loop-stop.lanes new.lanes c.loop-stop.answers.items new.answers.items None = search rules in
+    let more : HasServedMore c.args.service.now.shared.now.turn (left new.source) (faults c.loop-stop.source) (faults new.source) c.loop-stop.intake new.intake new.rings c.loop-stop.lanes new.lanes c.loop-stop.answers.items new.answers.items None = search rules in
     let none : c.serve_next-ended.result ≡ None = search rules in
     record {
       begun = more.ends.0;
       ready = more.ready;
       room = told.room;
       taken = taken_twice (left c.args.source.now) (left c.loop-stop.source) (left new.source) (faults c.args.source.now) (faults c.loop-stop.source) (faults new.source) c.args.intake.now c.loop-stop.intake new.intake inv.taken told.taken;
-      served = batch_more c.args.shared.now.turn (left c.loop-stop.source) (left new.source) (faults c.args.source.now) (faults c.loop-stop.source) (faults new.source) c.args.intake.now c.loop-stop.intake new.intake c.loop-stop.rings new.rings c.args.lanes.now c.loop-stop.lanes new.lanes
+      served = batch_more c.args.service.now.shared.now.turn (left c.loop-stop.source) (left new.source) (faults c.args.source.now) (faults c.loop-stop.source) (faults new.source) c.args.intake.now c.loop-stop.intake new.intake c.loop-stop.rings new.rings c.args.lanes.now c.loop-stop.lanes new.lanes
           c.loop-stop.answers.items new.answers.items inv.served None inv.taken.later more;
       answers = told.answers none;
     }
@@ -55,6 +55,6 @@ returns-in-Some-clause-served g c =
     let faults = g.S.Source.faults in
     let new = c.serve_next-ended.new in
     let why = c.in-Some.stop in
-    let more : HasServedMore c.args.shared.now.turn (left new.source) (faults c.loop-stop.source) (faults new.source) c.loop-stop.intake new.intake new.rings c.loop-stop.lanes new.lanes c.loop-stop.answers.items new.answers.items (Some why) = search rules in
-    batch_more c.args.shared.now.turn (left c.loop-stop.source) (left new.source) (faults c.args.source.now) (faults c.loop-stop.source) (faults new.source) c.args.intake.now c.loop-stop.intake new.intake c.loop-stop.rings new.rings c.args.lanes.now c.loop-stop.lanes new.lanes
+    let more : HasServedMore c.args.service.now.shared.now.turn (left new.source) (faults c.loop-stop.source) (faults new.source) c.loop-stop.intake new.intake new.rings c.loop-stop.lanes new.lanes c.loop-stop.answers.items new.answers.items (Some why) = search rules in
+    batch_more c.args.service.now.shared.now.turn (left c.loop-stop.source) (left new.source) (faults c.args.source.now) (faults c.loop-stop.source) (faults new.source) c.args.intake.now c.loop-stop.intake new.intake c.loop-stop.rings new.rings c.args.lanes.now c.loop-stop.lanes new.lanes
     c.loop-stop.answers.items new.answers.items inv.served (Some why) inv.taken.later more

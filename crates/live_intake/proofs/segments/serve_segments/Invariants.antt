@@ -7,10 +7,10 @@ use Rattle.live_intake.proofs.segments.serve_segments.Given as goal
 abbrev pub invariant-loop-stop : goal.invariant-loop-stop
 invariant-loop-stop g l = record {
   begun : l.intake.fenced ≡ false;
-  ready : AreReady l.shared.turn l.rings l.lanes;
+  ready : AreReady l.service.shared.now.turn l.rings l.lanes;
   room : most_asked ≤ vec_capacity l.requests;
   taken : HasTaken (g.S.Source.left l.fn.source) (g.S.Source.left l.source) (g.S.Source.faults l.fn.source) (g.S.Source.faults l.source) l.fn.intake l.intake;
-  served : HasServedBatch l.shared.turn (g.S.Source.left l.source) (g.S.Source.faults l.fn.source) (g.S.Source.faults l.source) l.fn.intake l.intake l.rings l.fn.lanes l.lanes l.answers.items None;
+  served : HasServedBatch l.service.shared.now.turn (g.S.Source.left l.source) (g.S.Source.faults l.fn.source) (g.S.Source.faults l.source) l.fn.intake l.intake l.rings l.fn.lanes l.lanes l.answers.items None;
   answers : HasSpare l.intake l.answers 0;
 }
 

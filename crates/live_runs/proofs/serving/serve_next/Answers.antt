@@ -79,6 +79,8 @@ returns-clause-told g c =
       live = live;
       told = tells g.D.Disk.seen c.args.desk new live.batch answers live.ran from place live.batch refl c.books-2.result.now.members c.books-2.ensures.history
           before c.add.new.self memory c.add.ensures.device full x y written ok part;
+      batches = c.batches-2.ensures.batches;
+      held = c.batches-2.ensures.held;
     }
 
 pub returns-clause-emptied : goal.returns-clause-emptied
