@@ -3,6 +3,7 @@ ghost use Rattle.std.specs.Prelude.{◌≡◌, ◌≢◌, ◌≤◌, true, false
 ghost use Rattle.setoff_model.specs.declared.limits.TheConstants.{OUTPUT_BYTES};
 ghost use Rattle.fault_count.specs.Counts.{HasRisen};
 ghost use Rattle.printed_text.specs.declared.exit_status.ExitStatus.TheVariants as statuses;
+ghost use Rattle.printed_text.specs.Statuses.{TellsSinkFault};
 ghost use Rattle.printed_text.specs.Texts.{bad_line_text};
 ghost use Rattle.printed_text.specs.Writing.{IsWritten};
 ghost use Rattle.bureau_commands.specs.Due.{IsLiveDue, WroteTaking, stop_status, stop_text};
@@ -30,7 +31,7 @@ fn tell_line<K: Sink>(sink: &mut K, buffer: &mut Vec<u8>, line: u64, cause: Line
     requires empty { buffer.old.items ≡ [] }
     requires spare { OUTPUT_BYTES ≤ vec_capacity buffer.old }
     ensures written { IsWritten (K.held sink.old) (K.held sink.new) statuses.Form (bad_line_text line cause) result }
-    ensures write_fault { result ≡ statuses.Sink → HasRisen (K.faults sink.old) (K.faults sink.new) }
+    ensures write_fault { TellsSinkFault (K.faults sink.old) (K.faults sink.new) result }
 {
     write_bad_line(buffer, line, cause);
     end_with(sink, ExitStatus::Form, buffer.as_slice())
@@ -43,7 +44,7 @@ fn tell_stop<K: Sink>(sink: &mut K, buffer: &mut Vec<u8>, stop: Stop, due: ExitS
     requires empty { buffer.old.items ≡ [] }
     requires spare { OUTPUT_BYTES ≤ vec_capacity buffer.old }
     ensures written { IsWritten (K.held sink.old) (K.held sink.new) (stop_status stop due) (stop_text stop) result }
-    ensures write_fault { result ≡ statuses.Sink → HasRisen (K.faults sink.old) (K.faults sink.new) }
+    ensures write_fault { TellsSinkFault (K.faults sink.old) (K.faults sink.new) result }
 {
     match stop {
         Stop::Fence => due,
@@ -84,7 +85,7 @@ pub fn serve_source<
     ensures wrote { WroteTaking (λ taken. IsLiveDue S.left D.seen taken source.old source.new disk result.1) (K.held sink.old)
         (K.held sink.new) result.0 }
     ensures read_fault { result.0 ≡ statuses.Source → HasRisen (S.faults source.old) (S.faults source.new) }
-    ensures write_fault { result.0 ≡ statuses.Sink → HasRisen (K.faults sink.old) (K.faults sink.new) }
+    ensures write_fault { TellsSinkFault (K.faults sink.old) (K.faults sink.new) result.0 }
 {
     let Ok(intake) = Intake::new(alloc, MOST_INPUT_BYTES) else {
         return (tell_no_memory(sink), disk);

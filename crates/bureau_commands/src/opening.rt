@@ -1,8 +1,7 @@
 //! What stands before the batches of a run: a desk, and the lines of the abandonments.
 ghost use Rattle.std.specs.Prelude.{◌≡◌, ◌≤◌, [], IfErr, IfOk, vec_capacity};
 ghost use Rattle.setoff_model.specs.declared.limits.TheConstants.{OUTPUT_BYTES};
-ghost use Rattle.fault_count.specs.Counts.{HasRisen};
-ghost use Rattle.printed_text.specs.declared.exit_status.ExitStatus.TheVariants as statuses;
+ghost use Rattle.printed_text.specs.Statuses.{TellsSinkFault};
 ghost use Rattle.bureau_commands.specs.Due.{HasBegun, IsNotBegunDue, WroteTaking};
 
 use batch_runs::print_added;
@@ -42,10 +41,10 @@ pub fn begin<K: Sink, D: Disk>(
     ensures begun { IfOk result (λ b. HasBegun D.seen disk b.desk (K.held sink.old) (K.held sink.new)) }
     ensures empty { IfOk result (λ b. b.buffer.items ≡ []) }
     ensures room { IfOk result (λ b. OUTPUT_BYTES ≤ vec_capacity b.buffer) }
-    ensures later { IfOk result (λ _. K.faults sink.old ≤ K.faults sink.new) }
+    ensures kept { IfOk result (λ _. K.faults sink.new ≡ K.faults sink.old) }
     ensures wrote { IfErr result (λ e. WroteTaking (λ taken. IsNotBegunDue D.seen taken disk e.disk) (K.held sink.old)
         (K.held sink.new) e.status) }
-    ensures write_fault { IfErr result (λ e. e.status ≡ statuses.Sink → HasRisen (K.faults sink.old) (K.faults sink.new)) }
+    ensures write_fault { IfErr result (λ e. TellsSinkFault (K.faults sink.old) (K.faults sink.new) e.status) }
 {
     let Ok(mut buffer) = output_buffer(alloc) else {
         return Err(NotBegun {

@@ -1,6 +1,7 @@
 -- What whole reads and writes do to the bytes that a source has left and a sink holds, where they are told.
-use Rattle.std.specs.Prelude.{◌≡◌, ℕ, ◌+◌, ◌≤◌, List, ◌++◌, length, Option}
+use Rattle.std.specs.Prelude.{◌≡◌, ℕ, ◌+◌, ◌≤◌, List, ◌++◌, length, Option, Result, IsErr, OnOk}
 use Rattle.std.specs.Io.KnownBytes.{Consumes, IsAtEnd, Appends}
+use Rattle.fault_count.specs.Counts.{HasRisen}
 use Rattle.bureau_edge.specs.declared.whole.ReadEnd.{ReadEnd}
 use Rattle.bureau_edge.specs.declared.whole.ReadEnd.TheVariants as ends
 
@@ -23,3 +24,9 @@ pub record TakesAll (limit : ℕ) (old new : Option (List ℕ)) (bytes : List �
 -- some first bytes of a piece were taken
 abbrev pub AppendsPart : Option (List ℕ) → Option (List ℕ) → List ℕ → Type 0
 AppendsPart old new piece = (front rest : List ℕ) × (piece ≡ front ++ rest) × Appends old new front
+
+-- a sink's count does not fall, a failure has its cause there, and what is Ok keeps it
+pub record CountsFaults {T E : Type 0} (before now : ℕ) (result : Result T E) : Type 0 where
+  pub later : before ≤ now
+  pub cause : IsErr result → HasRisen before now
+  pub kept : OnOk result (now ≡ before)

@@ -1,7 +1,7 @@
 //! A sink in memory that fails where it is told to.
 ghost use Rattle.std.specs.Prelude.{◌≡◌, ◌<◌, ◌≤◌, [], length, true, IfOk, IsErr, OnErr, OnOk};
 ghost use Rattle.std.specs.Io.KnownBytes.{WriteAppends};
-ghost use Rattle.fault_count.specs.Counts.{IsCounted};
+ghost use Rattle.bureau_edge.specs.Streams.{CountsFaults};
 ghost use Rattle.bureau_edge.specs.Calls.{is_to_fail};
 ghost use Rattle.bureau_edge.specs.BytesSink.{after_write, after_failed_write};
 
@@ -74,7 +74,7 @@ impl Sink for BytesSink {
         ensures some { IfOk result (λ count. 0 < count) }
         ensures bound { IfOk result (λ count. count ≤ length piece.now) }
         ensures bytes { WriteAppends (Some self.old.held) (Some self.new.held) result piece.now }
-        ensures cause { IsCounted self.old.faults self.new.faults result }
+        ensures cause { CountsFaults self.old.faults self.new.faults result }
 
         ensures whole { IfOk result (λ count. count ≡ length piece.now) }
         ensures ok { OnOk result (self.new ≡ after_write piece.now self.old) }

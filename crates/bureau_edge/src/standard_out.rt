@@ -1,7 +1,8 @@
 //! Standard output.
 ghost use Rattle.std.specs.Prelude.{◌≡◌, ◌<◌, ◌≤◌, None, length, take, IfOk, IfSome, OnOk, OnErr};
 ghost use Rattle.std.specs.Io.KnownBytes.{Appends, WriteAppends};
-ghost use Rattle.fault_count.specs.Counts.{IsCounted, next_count};
+ghost use Rattle.fault_count.specs.Counts.{next_count};
+ghost use Rattle.bureau_edge.specs.Streams.{CountsFaults};
 
 use crate::failed::Failed;
 use crate::interrupts::{flush_again, write_again};
@@ -56,7 +57,7 @@ impl<W: Write> Sink for StandardOut<W> {
         ensures some { IfOk result (λ count. 0 < count) }
         ensures bound { IfOk result (λ count. count ≤ length piece.now) }
         ensures bytes { WriteAppends None None result piece.now }
-        ensures cause { IsCounted self.old.faults self.new.faults result }
+        ensures cause { CountsFaults self.old.faults self.new.faults result }
 
         ensures ok { OnOk result (self.new.faults ≡ self.old.faults) }
         ensures taken { IfOk result (λ count. Appends (W.contents self.old.device) (W.contents self.new.device) (take count piece.now)) }

@@ -1,10 +1,9 @@
 //! The words `check`: from the bytes of a statement to the line of its verdict.
 ghost use Rattle.std.specs.Prelude.{◌≡◌, ◌≢◌};
 ghost use Rattle.std.specs.Str.Lines.{lines};
-ghost use Rattle.fault_count.specs.Counts.{HasRisen};
 ghost use Rattle.command_words.specs.declared.input_report.InputReport.TheVariants as inputs;
 ghost use Rattle.statement_text.specs.Statements.{IsStatement};
-ghost use Rattle.printed_text.specs.declared.exit_status.ExitStatus.TheVariants as statuses;
+ghost use Rattle.printed_text.specs.Statuses.{TellsSinkFault};
 ghost use Rattle.printed_text.specs.Writing.{Wrote};
 ghost use Rattle.bureau_reports.specs.Inputs.{IsInputDue};
 
@@ -28,7 +27,7 @@ fn check_statement<K: Sink>(
 ) -> ExitStatus
     requires { IsStatement (lines input.now) cut.now outcome.now }
     ensures wrote { Wrote (IsInputDue inputs.Check input.now) (K.held sink.old) (K.held sink.new) result }
-    ensures write_fault { result ≡ statuses.Sink → HasRisen (K.faults sink.old) (K.faults sink.new) }
+    ensures write_fault { TellsSinkFault (K.faults sink.old) (K.faults sink.new) result }
 {
     let Ok(mut buffer) = Vec::with_capacity(alloc, LINE_BYTES) else {
         return tell_no_memory(sink);
@@ -46,7 +45,7 @@ fn check_statement<K: Sink>(
 #[tactic(auto, using(crate::proofs::Written::input_memory))]
 pub(crate) fn check_input<K: Sink>(alloc: Global, input: &[u8], sink: &mut K) -> ExitStatus
     ensures wrote { Wrote (IsInputDue inputs.Check input.now) (K.held sink.old) (K.held sink.new) result }
-    ensures write_fault { result ≡ statuses.Sink → HasRisen (K.faults sink.old) (K.faults sink.new) }
+    ensures write_fault { TellsSinkFault (K.faults sink.old) (K.faults sink.new) result }
 {
     match read_statement(alloc, input) {
         Ok((cut, outcome)) => check_statement(alloc, input, &cut, &outcome, sink),

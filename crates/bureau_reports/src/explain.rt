@@ -2,10 +2,9 @@
 ghost use Rattle.std.specs.Prelude.{◌≡◌, ◌≢◌, ◌≤◌, [], vec_capacity};
 ghost use Rattle.std.specs.Str.Lines.{lines};
 ghost use Rattle.setoff_model.specs.declared.limits.TheConstants.{OUTPUT_BYTES};
-ghost use Rattle.fault_count.specs.Counts.{HasRisen};
 ghost use Rattle.command_words.specs.declared.input_report.InputReport.TheVariants as inputs;
 ghost use Rattle.statement_text.specs.Statements.{IsStatement};
-ghost use Rattle.printed_text.specs.declared.exit_status.ExitStatus.TheVariants as statuses;
+ghost use Rattle.printed_text.specs.Statuses.{TellsSinkFault};
 ghost use Rattle.printed_text.specs.Writing.{Wrote};
 ghost use Rattle.bureau_reports.specs.Inputs.{IsInputDue};
 
@@ -36,7 +35,7 @@ fn explain_checked<K: Sink>(
 
     // What was told.
     ensures wrote { Wrote (IsInputDue inputs.Explain input.now) (K.held sink.old) (K.held sink.new) result }
-    ensures write_fault { result ≡ statuses.Sink → HasRisen (K.faults sink.old) (K.faults sink.new) }
+    ensures write_fault { TellsSinkFault (K.faults sink.old) (K.faults sink.new) result }
 {
     chains_explain();
     let Ok(mut explainer) = Explainer::for_round(alloc, checked) else {
@@ -59,7 +58,7 @@ fn explain_statement<K: Sink>(
 ) -> ExitStatus
     requires { IsStatement (lines input.now) cut outcome }
     ensures wrote { Wrote (IsInputDue inputs.Explain input.now) (K.held sink.old) (K.held sink.new) result }
-    ensures write_fault { result ≡ statuses.Sink → HasRisen (K.faults sink.old) (K.faults sink.new) }
+    ensures write_fault { TellsSinkFault (K.faults sink.old) (K.faults sink.new) result }
 {
     let Ok(mut buffer) = output_buffer(alloc) else {
         return tell_no_memory(sink);
@@ -86,7 +85,7 @@ fn explain_statement<K: Sink>(
 #[tactic(auto, using(crate::proofs::Written::input_memory))]
 pub(crate) fn explain_input<K: Sink>(alloc: Global, input: &[u8], sink: &mut K) -> ExitStatus
     ensures wrote { Wrote (IsInputDue inputs.Explain input.now) (K.held sink.old) (K.held sink.new) result }
-    ensures write_fault { result ≡ statuses.Sink → HasRisen (K.faults sink.old) (K.faults sink.new) }
+    ensures write_fault { TellsSinkFault (K.faults sink.old) (K.faults sink.new) result }
 {
     match read_statement(alloc, input) {
         Ok((cut, outcome)) => explain_statement(alloc, input, cut, outcome, sink),

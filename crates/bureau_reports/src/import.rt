@@ -1,10 +1,9 @@
 //! Invoices as requests: from the bytes of CSV to the lines that file them.
 ghost use Rattle.std.specs.Prelude.{◌≡◌, ◌≢◌};
-ghost use Rattle.fault_count.specs.Counts.{HasRisen};
 ghost use Rattle.command_words.specs.declared.input_report.InputReport.TheVariants as inputs;
 ghost use Rattle.request_text.specs.Lanes.{IsLane};
 ghost use Rattle.firm_notices.specs.Invoices.{IsFirstBadRow};
-ghost use Rattle.printed_text.specs.declared.exit_status.ExitStatus.TheVariants as statuses;
+ghost use Rattle.printed_text.specs.Statuses.{TellsSinkFault};
 ghost use Rattle.printed_text.specs.Writing.{Wrote};
 ghost use Rattle.bureau_reports.specs.Inputs.{IsInputDue};
 
@@ -26,7 +25,7 @@ fn tell_bad_row<K: Sink>(
 ) -> ExitStatus
     requires { IsFirstBadRow input.now row cause }
     ensures wrote { Wrote (IsInputDue (inputs.Import lane) input.now) (K.held sink.old) (K.held sink.new) result }
-    ensures write_fault { result ≡ statuses.Sink → HasRisen (K.faults sink.old) (K.faults sink.new) }
+    ensures write_fault { TellsSinkFault (K.faults sink.old) (K.faults sink.new) result }
 {
     let Ok(mut buffer) = Vec::with_capacity(alloc, LINE_BYTES) else {
         return tell_no_memory(sink);
@@ -45,7 +44,7 @@ pub(crate) fn import_input<K: Sink>(
 ) -> ExitStatus
     requires { IsLane lane }
     ensures wrote { Wrote (IsInputDue (inputs.Import lane) input.now) (K.held sink.old) (K.held sink.new) result }
-    ensures write_fault { result ≡ statuses.Sink → HasRisen (K.faults sink.old) (K.faults sink.new) }
+    ensures write_fault { TellsSinkFault (K.faults sink.old) (K.faults sink.new) result }
 {
     match import(alloc, input, lane) {
         Ok(text) => end_with(sink, ExitStatus::Done, text.as_slice()),

@@ -1,10 +1,8 @@
 //! Reports on an input.
 ghost use Rattle.std.specs.Prelude.{◌≡◌, ◌≢◌};
-ghost use Rattle.fault_count.specs.Counts.{HasRisen};
 ghost use Rattle.command_words.specs.declared.command.Command.TheVariants as commands;
 ghost use Rattle.command_words.specs.Words.{IsCommand};
-ghost use Rattle.printed_text.specs.declared.exit_status.ExitStatus.TheVariants as statuses;
-ghost use Rattle.printed_text.specs.Statuses.{IsOneOf};
+ghost use Rattle.printed_text.specs.Statuses.{IsOneOf, TellsSinkFault};
 ghost use Rattle.printed_text.specs.Writing.{Wrote};
 ghost use Rattle.bureau_reports.specs.Inputs.{IsInputDue, input_statuses};
 
@@ -27,7 +25,7 @@ pub fn report_input<K: Sink>(
     requires { IsCommand (commands.OnInput report) }
     ensures wrote { Wrote (IsInputDue report input.now) (K.held sink.old) (K.held sink.new) result }
     ensures among { IsOneOf input_statuses result }
-    ensures write_fault { result ≡ statuses.Sink → HasRisen (K.faults sink.old) (K.faults sink.new) }
+    ensures write_fault { TellsSinkFault (K.faults sink.old) (K.faults sink.new) result }
 {
     match report {
         InputReport::Check => check_input(alloc, input, sink),

@@ -3,7 +3,7 @@ ghost use Rattle.std.specs.Prelude.{◌≡◌, ◌≢◌, ◌≤◌, [], IfOk, v
 ghost use Rattle.fault_count.specs.Counts.{HasRisen};
 ghost use Rattle.round_journal.specs.Opened.{IsQuiet};
 ghost use Rattle.printed_text.specs.declared.exit_status.ExitStatus.TheVariants as statuses;
-ghost use Rattle.printed_text.specs.Statuses.{IsOneOf};
+ghost use Rattle.printed_text.specs.Statuses.{IsOneOf, TellsSinkFault};
 ghost use Rattle.printed_text.specs.Writing.{Wrote};
 ghost use Rattle.setoff_model.specs.declared.limits.TheConstants.{OUTPUT_BYTES};
 ghost use Rattle.bureau_reports.specs.DiskTexts.{IsTellable, sound_text};
@@ -89,7 +89,7 @@ fn print_made<K: Sink>(
 ) -> ExitStatus
     requires { IsMade report.now }
     ensures wrote { Wrote (IsBookDue report.now books.now.members) (K.held sink.old) (K.held sink.new) result }
-    ensures write_fault { result ≡ statuses.Sink → HasRisen (K.faults sink.old) (K.faults sink.new) }
+    ensures write_fault { TellsSinkFault (K.faults sink.old) (K.faults sink.new) result }
 {
     match text_of(alloc, report, books) {
         Ok(text) => end_with(sink, ExitStatus::Done, text.as_slice()),
@@ -110,7 +110,7 @@ fn print_books<K: Sink>(
     requires len { vec_len buffer.old ≡ 0 }
     requires spare { OUTPUT_BYTES ≤ vec_capacity buffer.old }
     ensures wrote { Wrote (IsBookDue report.now books.now.members) (K.held sink.old) (K.held sink.new) result }
-    ensures write_fault { result ≡ statuses.Sink → HasRisen (K.faults sink.old) (K.faults sink.new) }
+    ensures write_fault { TellsSinkFault (K.faults sink.old) (K.faults sink.new) result }
 {
     match report {
         JournalReport::Audit => print_made(alloc, report, books, sink),
@@ -140,7 +140,7 @@ pub fn report_journal<K: Sink, D: Disk>(
     ensures quiet { IsQuiet (D.seen disk.old) (D.seen disk.new) }
 
     // A fault is told only where it was counted.
-    ensures write_fault { result ≡ statuses.Sink → HasRisen (K.faults sink.old) (K.faults sink.new) }
+    ensures write_fault { TellsSinkFault (K.faults sink.old) (K.faults sink.new) result }
     ensures disk_fault { result ≡ statuses.Disk → HasRisen (D.seen disk.old).count (D.seen disk.new).count }
 {
     let Ok(mut buffer) = output_buffer(alloc) else {

@@ -1,9 +1,8 @@
 //! The fault line of a disk that has no desk, or no books.
 ghost use Rattle.std.specs.Prelude.{◌≡◌, ◌≤◌, [], vec_capacity};
 ghost use Rattle.setoff_model.specs.declared.limits.TheConstants.{LINE_BYTES};
-ghost use Rattle.fault_count.specs.Counts.{HasRisen};
 ghost use Rattle.bureau_reports.specs.DiskTexts.{opening_status, opening_text, IsTellable};
-ghost use Rattle.printed_text.specs.declared.exit_status.ExitStatus.TheVariants as statuses;
+ghost use Rattle.printed_text.specs.Statuses.{TellsSinkFault};
 ghost use Rattle.printed_text.specs.Writing.{IsWritten};
 
 use crate::fault_line::{status_of_opening, write_opening_fault};
@@ -21,7 +20,7 @@ pub fn tell_refused<K: Sink>(sink: &mut K, buffer: &mut Vec<u8>, cause: DeskCaus
 
     // What was told.
     ensures written { IsWritten (K.held sink.old) (K.held sink.new) (opening_status cause) (opening_text cause) result }
-    ensures write_fault { result ≡ statuses.Sink → HasRisen (K.faults sink.old) (K.faults sink.new) }
+    ensures write_fault { TellsSinkFault (K.faults sink.old) (K.faults sink.new) result }
 {
     write_opening_fault(buffer, cause);
     end_with(sink, status_of_opening(cause), buffer.as_slice())

@@ -1,11 +1,10 @@
 //! A statement that is not in form.
 ghost use Rattle.std.specs.Prelude.{◌≡◌, ◌≢◌};
 ghost use Rattle.std.specs.Str.Lines.{lines};
-ghost use Rattle.fault_count.specs.Counts.{HasRisen};
 ghost use Rattle.command_words.specs.declared.input_report.InputReport.TheVariants as inputs;
 ghost use Rattle.statement_text.specs.Causes.{HasCause};
 ghost use Rattle.statement_text.specs.Statements as statements;
-ghost use Rattle.printed_text.specs.declared.exit_status.ExitStatus.TheVariants as statuses;
+ghost use Rattle.printed_text.specs.Statuses.{TellsSinkFault};
 ghost use Rattle.printed_text.specs.Writing.{Wrote};
 ghost use Rattle.bureau_reports.specs.Inputs.{IsInputDue};
 
@@ -31,7 +30,7 @@ pub(crate) fn tell_bad_statement<K: Sink>(
     // What was told.
     ensures check { Wrote (IsInputDue inputs.Check input.now) (K.held sink.old) (K.held sink.new) result }
     ensures explain { Wrote (IsInputDue inputs.Explain input.now) (K.held sink.old) (K.held sink.new) result }
-    ensures write_fault { result ≡ statuses.Sink → HasRisen (K.faults sink.old) (K.faults sink.new) }
+    ensures write_fault { TellsSinkFault (K.faults sink.old) (K.faults sink.new) result }
 {
     let Ok(mut buffer) = Vec::with_capacity(alloc, LINE_BYTES) else {
         return tell_no_memory(sink);

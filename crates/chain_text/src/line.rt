@@ -1,8 +1,7 @@
 //! The line of a chain.
 ghost use Rattle.std.specs.Prelude.{◌≡◌, ℕ, ◌<◌, ◌≤◌, ◌+◌, ◌++◌, OnOk, OnErr, codes, flat_map, length, slice_index, vec_capacity, vec_len};
-ghost use Rattle.fault_count.specs.Counts.{IsCounted};
 ghost use Rattle.setoff_model.specs.declared.limits.TheConstants.{OUTPUT_BYTES, LINE_BYTES};
-ghost use Rattle.bureau_edge.specs.Streams.{AppendsPart};
+ghost use Rattle.bureau_edge.specs.Streams.{AppendsPart, CountsFaults};
 ghost use Rattle.printed_text.specs.Writing.{GoesThrough};
 ghost use Rattle.chain_explain.specs.Chains.{chain_view};
 ghost use Rattle.chain_text.specs.Texts.{chain_head, chain_line, claim_name};
@@ -49,7 +48,7 @@ fn print_head<K: Sink>(sink: &mut K, buffer: &mut Vec<u8>, chain: Chain) -> Resu
         (chain_head chain.closed chain.amount)) }
     ensures part { OnErr result (AppendsPart (K.held sink.old) (K.held sink.new)
         (buffer.old.items ++ chain_head chain.closed chain.amount)) }
-    ensures cause { IsCounted (K.faults sink.old) (K.faults sink.new) result }
+    ensures cause { CountsFaults (K.faults sink.old) (K.faults sink.new) result }
     ensures room { OUTPUT_BYTES ≤ vec_capacity buffer.new }
 {
     make_room(sink, buffer)?;
@@ -71,7 +70,7 @@ fn print_claim_name<K: Sink>(
     ensures ok { OnOk result (GoesThrough (K.held sink.old) (K.held sink.new) buffer.old.items buffer.new.items
         (claim_name cut.now.claims place)) }
     ensures part { OnErr result (AppendsPart (K.held sink.old) (K.held sink.new) (buffer.old.items ++ claim_name cut.now.claims place)) }
-    ensures cause { IsCounted (K.faults sink.old) (K.faults sink.new) result }
+    ensures cause { CountsFaults (K.faults sink.old) (K.faults sink.new) result }
     ensures room { OUTPUT_BYTES ≤ vec_capacity buffer.new }
 {
     make_room(sink, buffer)?;
@@ -94,7 +93,7 @@ fn print_claim_names<K: Sink>(
         (flat_map (λ place. claim_name cut.now.claims place) places.now)) }
     ensures part { OnErr result (AppendsPart (K.held sink.old) (K.held sink.new)
         (buffer.old.items ++ flat_map (λ place. claim_name cut.now.claims place) places.now)) }
-    ensures cause { IsCounted (K.faults sink.old) (K.faults sink.new) result }
+    ensures cause { CountsFaults (K.faults sink.old) (K.faults sink.new) result }
     ensures room { OUTPUT_BYTES ≤ vec_capacity buffer.new }
 {
     for i in 0..places.len() {
@@ -110,7 +109,7 @@ fn print_end<K: Sink>(sink: &mut K, buffer: &mut Vec<u8>) -> Result<(), Failed>
     // The text went through, or the sink failed and took some first bytes of it.
     ensures ok { OnOk result (GoesThrough (K.held sink.old) (K.held sink.new) buffer.old.items buffer.new.items (codes "\n")) }
     ensures part { OnErr result (AppendsPart (K.held sink.old) (K.held sink.new) (buffer.old.items ++ codes "\n")) }
-    ensures cause { IsCounted (K.faults sink.old) (K.faults sink.new) result }
+    ensures cause { CountsFaults (K.faults sink.old) (K.faults sink.new) result }
     ensures room { OUTPUT_BYTES ≤ vec_capacity buffer.new }
 {
     make_room(sink, buffer)?;
@@ -134,7 +133,7 @@ pub(crate) fn print_chain<K: Sink>(
         (chain_line cut.now (chain_view chain places.now))) }
     ensures part { OnErr result (AppendsPart (K.held sink.old) (K.held sink.new)
         (buffer.old.items ++ chain_line cut.now (chain_view chain places.now))) }
-    ensures cause { IsCounted (K.faults sink.old) (K.faults sink.new) result }
+    ensures cause { CountsFaults (K.faults sink.old) (K.faults sink.new) result }
     ensures room { OUTPUT_BYTES ≤ vec_capacity buffer.new }
 {
     print_head(sink, buffer, chain)?;

@@ -1,7 +1,7 @@
 //! The lines of the chains of an explainer.
 ghost use Rattle.std.specs.Prelude.{◌≡◌, ◌≤◌, [], vec_capacity};
 ghost use Rattle.setoff_model.specs.declared.limits.TheConstants.{OUTPUT_BYTES};
-ghost use Rattle.fault_count.specs.Counts.{IsCounted};
+ghost use Rattle.bureau_edge.specs.Streams.{CountsFaults};
 ghost use Rattle.chain_text.specs.Given.{HasGivenAll, HasPassed, HasPrinted};
 
 use crate::line::print_chain;
@@ -26,7 +26,7 @@ fn pass_chains<K: Sink>(
 ) -> Result<(), Failed>
     requires spare { OUTPUT_BYTES ≤ vec_capacity buffer.old }
     ensures passed { HasPassed (K.held sink.old) (K.held sink.new) buffer.old.items buffer.new.items explainer.old explainer.new result }
-    ensures cause { IsCounted (K.faults sink.old) (K.faults sink.new) result }
+    ensures cause { CountsFaults (K.faults sink.old) (K.faults sink.new) result }
     ensures room { OUTPUT_BYTES ≤ vec_capacity buffer.new }
 {
     while let Some(chain) = explainer.next() {
@@ -53,7 +53,7 @@ pub fn print_chains<K: Sink>(
     requires empty { buffer.old.items ≡ [] }
     requires spare { OUTPUT_BYTES ≤ vec_capacity buffer.old }
     ensures printed { HasPrinted (K.held sink.old) (K.held sink.new) explainer.old explainer.new result }
-    ensures cause { IsCounted (K.faults sink.old) (K.faults sink.new) result }
+    ensures cause { CountsFaults (K.faults sink.old) (K.faults sink.new) result }
 {
     pass_chains(sink, buffer, explainer)?;
     flush(sink, buffer)

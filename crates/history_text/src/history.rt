@@ -2,8 +2,7 @@
 ghost use Rattle.std.specs.Prelude.{ℕ, ◌≡◌, ◌<◌, ◌≤◌, ◌++◌, ◌∷◌, [], true, is_some, Some, OnErr, OnOk, IfOk, length, slice_get, take, vec_capacity};
 ghost use Rattle.setoff_model.specs.declared.limits.TheConstants.{OUTPUT_BYTES};
 ghost use Rattle.setoff_model.specs.CutView.{CutView};
-ghost use Rattle.fault_count.specs.Counts.{HasRisen, IsCounted};
-ghost use Rattle.bureau_edge.specs.Streams.{AppendsPart};
+ghost use Rattle.bureau_edge.specs.Streams.{AppendsPart, CountsFaults};
 ghost use Rattle.claim_history.specs.declared.entry.Reply.TheVariants as reply;
 ghost use Rattle.claim_history.specs.Acts.{is_valid};
 ghost use Rattle.claim_history.specs.Laws.{IsReplyInRange};
@@ -12,6 +11,7 @@ ghost use Rattle.claim_history.specs.PoolRounds.{open_cut_in};
 ghost use Rattle.printed_text.specs.declared.exit_status.ExitStatus.TheVariants as statuses;
 ghost use Rattle.entry_text.specs.Entries.{entry_line};
 ghost use Rattle.printed_text.specs.Printing.{IsPrintableAt, member_text, statement_of};
+ghost use Rattle.printed_text.specs.Statuses.{TellsSinkFault};
 ghost use Rattle.printed_text.specs.Writing.{GoesThrough, Wrote};
 ghost use Rattle.history_text.specs.declared.told.Told.TheVariants as told;
 ghost use Rattle.history_text.specs.Histories.{AreFirst, HasPrinted, HasTold, IsHistoryDue, history_text, told_members, told_text};
@@ -43,7 +43,7 @@ fn print_one<K: Sink>(
         (entry_line (member_of pool.now entry.now) ++ statement_of (slice_get rounds.now 0) entry.now.act entry.now.reply)) }
     ensures part { OnErr result (AppendsPart (K.held sink.old) (K.held sink.new)
         (buffer.old.items ++ (entry_line (member_of pool.now entry.now) ++ statement_of (slice_get rounds.now 0) entry.now.act entry.now.reply))) }
-    ensures cause { IsCounted (K.faults sink.old) (K.faults sink.new) result }
+    ensures cause { CountsFaults (K.faults sink.old) (K.faults sink.new) result }
     ensures room { OUTPUT_BYTES ≤ vec_capacity buffer.new }
 {
     let _next = print_member(sink, buffer, pool, entry, rounds, 0)?;
@@ -70,7 +70,7 @@ fn print_shown<K: Sink>(
         (member_text replayed.now.members (member_of pool.now entry.now))) }
     ensures part { OnErr result (AppendsPart (K.held sink.old) (K.held sink.new)
         (buffer.old.items ++ member_text replayed.now.members (member_of pool.now entry.now))) }
-    ensures cause { IsCounted (K.faults sink.old) (K.faults sink.new) result }
+    ensures cause { CountsFaults (K.faults sink.old) (K.faults sink.new) result }
     ensures room { OUTPUT_BYTES ≤ vec_capacity buffer.new }
 {
     match entry.reply {
@@ -124,7 +124,7 @@ fn print_next<K: Sink>(
         → AreFirst place (told_members pool.now books.now.members) replayed.new.members) }
     ensures part { OnErr result (AppendsPart (K.held sink.old) (K.held sink.new)
         (buffer.old.items ++ told_text (told_members pool.now books.now.members) place)) }
-    ensures cause { IsCounted (K.faults sink.old) (K.faults sink.new) result }
+    ensures cause { CountsFaults (K.faults sink.old) (K.faults sink.new) result }
     ensures room { OUTPUT_BYTES ≤ vec_capacity buffer.new }
 {
     let _len = told_len(books, pool);
@@ -154,7 +154,7 @@ fn print_told<K: Sink>(
     ensures short { IfOk result (λ done. done ≡ told.Short → 0 < length (told_members pool.now books.now.members)) }
     ensures part { OnErr result (AppendsPart (K.held sink.old) (K.held sink.new)
         (buffer.old.items ++ history_text pool.now books.now.members)) }
-    ensures cause { IsCounted (K.faults sink.old) (K.faults sink.new) result }
+    ensures cause { CountsFaults (K.faults sink.old) (K.faults sink.new) result }
     ensures room { OUTPUT_BYTES ≤ vec_capacity buffer.new }
 {
     let len = told_len(books, pool);
@@ -183,7 +183,7 @@ fn print_replayed<K: Sink>(
     ensures short { IfOk result (λ done. done ≡ told.Short → 0 < length (told_members pool.now books.now.members)) }
     ensures part { OnErr result (AppendsPart (K.held sink.old) (K.held sink.new)
         (buffer.old.items ++ history_text pool.now books.now.members)) }
-    ensures cause { IsCounted (K.faults sink.old) (K.faults sink.new) result }
+    ensures cause { CountsFaults (K.faults sink.old) (K.faults sink.new) result }
     ensures room { OUTPUT_BYTES ≤ vec_capacity buffer.new }
 {
     let mut replayed = books_for(alloc, books, pool);
@@ -207,7 +207,7 @@ fn print_whole<K: Sink>(
     ensures ok { IfOk result (λ done. HasPrinted done (K.held sink.old) (K.held sink.new) (history_text pool.now books.now.members)) }
     ensures short { IfOk result (λ done. done ≡ told.Short → 0 < length (told_members pool.now books.now.members)) }
     ensures part { OnErr result (AppendsPart (K.held sink.old) (K.held sink.new) (history_text pool.now books.now.members)) }
-    ensures cause { IsCounted (K.faults sink.old) (K.faults sink.new) result }
+    ensures cause { CountsFaults (K.faults sink.old) (K.faults sink.new) result }
 {
     let done = print_replayed(alloc, sink, buffer, books, pool)?;
     flush(sink, buffer)?;
@@ -229,7 +229,7 @@ pub fn print_history<K: Sink>(
     requires spare { OUTPUT_BYTES ≤ vec_capacity buffer.old }
     ensures wrote { Wrote (IsHistoryDue pool.now books.now.members) (K.held sink.old) (K.held sink.new) result }
     ensures memory { result ≡ statuses.Memory → 0 < length (told_members pool.now books.now.members) }
-    ensures write_fault { result ≡ statuses.Sink → HasRisen (K.faults sink.old) (K.faults sink.new) }
+    ensures write_fault { TellsSinkFault (K.faults sink.old) (K.faults sink.new) result }
 {
     match print_whole(alloc, sink, buffer, books, pool) {
         Ok(Told::Whole) => ExitStatus::Done,

@@ -1,11 +1,11 @@
 //! The statement of one round.
 ghost use Rattle.std.specs.Prelude.{◌≡◌, ◌+◌, ◌≤◌, ◌++◌, [], OnOk, OnErr, Some, position, slice_get, vec_len, vec_capacity, codes, decimal, true};
 ghost use Rattle.setoff_model.specs.declared.limits.TheConstants.{LINE_BYTES, OUTPUT_BYTES};
-ghost use Rattle.fault_count.specs.Counts.{HasRisen, IsCounted};
 ghost use Rattle.std.specs.Io.KnownBytes.{Appends};
-ghost use Rattle.bureau_edge.specs.Streams.{AppendsPart};
+ghost use Rattle.bureau_edge.specs.Streams.{AppendsPart, CountsFaults};
 ghost use Rattle.printed_text.specs.declared.exit_status.ExitStatus.TheVariants as statuses;
 ghost use Rattle.printed_text.specs.Printing.{IsPrintableAt, statement_of};
+ghost use Rattle.printed_text.specs.Statuses.{TellsSinkFault};
 ghost use Rattle.printed_text.specs.Writing.{IsWritten, Wrote};
 ghost use Rattle.history_text.specs.Histories.{IsRoundDue, no_round_text, publication_place, publishes_round, was_published};
 
@@ -58,7 +58,7 @@ fn print_stated<K: Sink>(
     // The text was taken, or the sink failed and took some first bytes of it.
     ensures ok { OnOk result (Appends (K.held sink.old) (K.held sink.new) (statement_of (slice_get rounds.now 0) entry.now.act entry.now.reply)) }
     ensures part { OnErr result (AppendsPart (K.held sink.old) (K.held sink.new) (statement_of (slice_get rounds.now 0) entry.now.act entry.now.reply)) }
-    ensures cause { IsCounted (K.faults sink.old) (K.faults sink.new) result }
+    ensures cause { CountsFaults (K.faults sink.old) (K.faults sink.new) result }
 {
     print_publication(sink, buffer, entry, rounds, 0)?;
     flush(sink, buffer)
@@ -76,7 +76,7 @@ fn tell_stated<K: Sink>(
     requires spare { OUTPUT_BYTES ≤ vec_capacity buffer.old }
     ensures written { IsWritten (K.held sink.old) (K.held sink.new) statuses.Done
         (statement_of (slice_get rounds.now 0) entry.now.act entry.now.reply) result }
-    ensures failed { result ≡ statuses.Sink → HasRisen (K.faults sink.old) (K.faults sink.new) }
+    ensures failed { TellsSinkFault (K.faults sink.old) (K.faults sink.new) result }
 {
     match print_stated(sink, buffer, entry, rounds) {
         Ok(()) => ExitStatus::Done,
@@ -100,7 +100,7 @@ fn print_behind<K: Sink>(
     requires empty { buffer.old.items ≡ [] }
     requires spare { OUTPUT_BYTES ≤ vec_capacity buffer.old }
     ensures wrote { Wrote (IsRoundDue round pool books.now.members) (K.held sink.old) (K.held sink.new) result }
-    ensures write_fault { result ≡ statuses.Sink → HasRisen (K.faults sink.old) (K.faults sink.new) }
+    ensures write_fault { TellsSinkFault (K.faults sink.old) (K.faults sink.new) result }
 {
     let _ = round;
     let _len = books.len();
@@ -126,7 +126,7 @@ fn print_round_at<K: Sink>(
     requires empty { buffer.old.items ≡ [] }
     requires spare { OUTPUT_BYTES ≤ vec_capacity buffer.old }
     ensures wrote { Wrote (IsRoundDue round pool books.now.members) (K.held sink.old) (K.held sink.new) result }
-    ensures write_fault { result ≡ statuses.Sink → HasRisen (K.faults sink.old) (K.faults sink.new) }
+    ensures write_fault { TellsSinkFault (K.faults sink.old) (K.faults sink.new) result }
 {
     let mut replayed = books_for(alloc, books, &Some(pool));
     let status = print_behind(
@@ -161,7 +161,7 @@ pub fn print_round<K: Sink>(
     requires spare { OUTPUT_BYTES ≤ vec_capacity buffer.old }
     ensures wrote { Wrote (IsRoundDue round pool books.now.members) (K.held sink.old) (K.held sink.new) result }
     ensures memory { result ≡ statuses.Memory → was_published round pool books.now.members ≡ true }
-    ensures write_fault { result ≡ statuses.Sink → HasRisen (K.faults sink.old) (K.faults sink.new) }
+    ensures write_fault { TellsSinkFault (K.faults sink.old) (K.faults sink.new) result }
 {
     let entries = books.book(&pool).history();
     match place_of(entries, round) {

@@ -1,11 +1,12 @@
 //! Batches that are served in turn while the input is read.
 ghost use Rattle.std.specs.Prelude.{◌≡◌, ◌≢◌, ◌≤◌, [], true, vec_capacity, OnOk};
 ghost use Rattle.setoff_model.specs.declared.limits.TheConstants.{MOST_INPUT_BYTES, OUTPUT_BYTES};
-ghost use Rattle.fault_count.specs.Counts.{HasRisen, IsCounted};
+ghost use Rattle.bureau_edge.specs.Streams.{CountsFaults};
 ghost use Rattle.input_front.specs.Taken.{HasBatches};
 ghost use Rattle.live_intake.specs.Live.{is_fence};
 ghost use Rattle.live_intake.specs.Reading.{fence_lines};
 ghost use Rattle.printed_text.specs.declared.exit_status.ExitStatus.TheVariants as statuses;
+ghost use Rattle.printed_text.specs.Statuses.{TellsSinkFault};
 ghost use Rattle.live_runs.specs.Serving.{HasServedInput, HasToldLive};
 
 use batch_runs::{Tally, print_counted};
@@ -69,7 +70,7 @@ fn serve_next<
     ensures told { HasToldLive D.seen S.left S.faults desk result.0 source.old source.new intake.old intake.new
         tally.old tally.new (K.held sink.old) (K.held sink.new) result.1 result.2 }
     ensures emptied { OnOk result.2 (buffer.new.items ≡ []) }
-    ensures cause { IsCounted (K.faults sink.old) (K.faults sink.new) result.2 }
+    ensures cause { CountsFaults (K.faults sink.old) (K.faults sink.new) result.2 }
     ensures room { OUTPUT_BYTES ≤ vec_capacity buffer.new }
 
     // The source.
@@ -138,7 +139,7 @@ pub fn serve_input<
         desk result.2 (K.held sink.old) (K.held sink.new) result.1 result.0 }
 
     // A fault is told only where it was counted.
-    ensures write_fault { result.0 ≡ statuses.Sink → HasRisen (K.faults sink.old) (K.faults sink.new) }
+    ensures write_fault { TellsSinkFault (K.faults sink.old) (K.faults sink.new) result.0 }
     ensures later { K.faults sink.old ≤ K.faults sink.new }
     ensures no_read_fault { result.0 ≢ statuses.Source }
 

@@ -1,11 +1,10 @@
 -- Text that goes through a buffer, step after step.
 use Rattle.std.proofs.Common.{◌≡◌, ◌≤◌, ℕ, List, [], ◌++◌, refl, sym, ap, ◌∙◌, subst, append_assoc, arith}
-use Rattle.std.specs.Prelude.{Option, Result, Ok, Err, OnOk, OnErr}
+use Rattle.std.specs.Prelude.{Option, Result, Ok, Err, IsErr, OnOk, OnErr}
 use Rattle.std.specs.Io.KnownBytes.{Appends}
 use Rattle.std.proofs.lemmas.List.{append-nil}
-use Rattle.fault_count.specs.Counts.{IsCounted}
-use Rattle.fault_count.proofs.Rising.{risen_within}
-use Rattle.bureau_edge.specs.Streams.{AppendsPart}
+use Rattle.fault_count.specs.Counts.{HasRisen}
+use Rattle.bureau_edge.specs.Streams.{AppendsPart, CountsFaults}
 use Rattle.bureau_edge.proofs.Known.{Appends-none, Appends-then}
 use Rattle.printed_text.specs.Writing.{GoesThrough}
 
@@ -95,9 +94,18 @@ pub on_ok_if : {T E : Type 0} (r : Result T E) (P Q : Type 0) → (P → Q) → 
 on_ok_if (Ok t) P Q f h = f h
 on_ok_if (Err e) P Q f h = tt
 
--- a failure of a later step
-pub counted_later : {T E U F : Type 0} (low before after : ℕ) (e : E) (s : Result U F) → low ≤ before → IsCounted {T = T} before after (Err e) → IsCounted low after s
-counted_later low before after e s first c = record {
-  later = omega (arith, first, c.later);
-  cause = λ _. risen_within low before after after first (omega arith) (c.cause refl);
+-- a later step, before which the count was kept
+pub counted_behind : {T E : Type 0} (low before after : ℕ) (r : Result T E) → before ≡ low → CountsFaults before after r → CountsFaults low after r
+counted_behind low before after r = subst (λ (n : ℕ). CountsFaults n after r)
+
+none_ok : {T E : Type 0} (r : Result T E) (P : Type 0) → IsErr r → OnOk r P
+none_ok (Ok x) P err = absurd (cc err)
+none_ok (Err e) P err = tt
+
+-- a failure of it that is handed on
+pub counted_later : {T E U F : Type 0} (low before after : ℕ) (e : E) (r : Result U F) → IsErr r → before ≡ low → CountsFaults {T = T} before after (Err e) → CountsFaults low after r
+counted_later low before after e r err same c = record {
+  later = omega (arith, same, c.later);
+  cause = λ _. subst (λ (n : ℕ). HasRisen n after) same (c.cause refl);
+  kept = none_ok r _ err;
 }

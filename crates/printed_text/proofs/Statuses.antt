@@ -1,11 +1,12 @@
 -- One of some statuses, and the number of one.
 use Rattle.std.specs.Prelude.{◌==◌, slice_index_or}
 use Rattle.std.specs.List.{list_any}
-use Rattle.std.proofs.Common.{◌≡◌, inl, inr, ℕ, false, List, [], ◌∷◌, ◌++◌, refl, sym, ap, ◌∙◌, subst, true≢false}
-use Rattle.std.proofs.lemmas.Bool.{eq-eqb, or_parts}
+use Rattle.std.proofs.Common.{◌≡◌, ◌≤◌, inl, inr, ℕ, Bool, true, false, nat_lt, List, [], ◌∷◌, ◌++◌, refl, sym, ap, ◌∙◌, subst, true≢false, arith}
+use Rattle.std.proofs.lemmas.Bool.{eq-eqb, ltb-true, ltb-false, or_parts}
+use Rattle.fault_count.specs.Counts.{HasRisen}
 use Rattle.printed_text.specs.declared.exit_status.ExitStatus.{ExitStatus}
 use Rattle.printed_text.specs.declared.exit_status.ExitStatus.TheVariants as statuses
-use Rattle.printed_text.specs.Statuses.{IsOneOf, number_of}
+use Rattle.printed_text.specs.Statuses.{IsOneOf, TellsSinkFault, number_of}
 
 pub in_front : (dues rest : List ExitStatus) (status : ExitStatus) → IsOneOf dues status → IsOneOf (dues ++ rest) status
 in_front [] rest status h = absurd h
@@ -47,3 +48,24 @@ numbered statuses.Memory = refl
 -- no two have one number
 pub one_number : (a b : ExitStatus) → number_of a ≡ number_of b → a ≡ b
 one_number a b same = sym (numbered a) ∙ ap status_of same ∙ numbered b
+
+-- ---- the sink
+
+-- it failed
+pub sink_told : (before now : ℕ) → HasRisen before now → TellsSinkFault before now statuses.Sink
+sink_told before now rose = record { risen = λ _. rose; told = λ _. refl }
+
+-- it did not
+pub none_told : (before now : ℕ) (status : ExitStatus) → now ≡ before → (status ≡ statuses.Sink → ⊥) → TellsSinkFault before now status
+none_told before now status kept other = record { risen = λ sink. absurd (other sink); told = λ rose. absurd (omega arith) }
+
+-- behind a step that kept the count
+pub told_behind : (low before now : ℕ) (status : ExitStatus) → before ≡ low → TellsSinkFault before now status → TellsSinkFault low now status
+told_behind low before now status kept = subst (λ (n : ℕ). TellsSinkFault n now status) kept
+
+-- a step that told of no failed sink kept the count
+pub kept_untold : (before now : ℕ) (status : ExitStatus) → before ≤ now → (status ≡ statuses.Sink → ⊥) → TellsSinkFault before now status → now ≡ before
+kept_untold before now status later other tells = kept_or (nat_lt before now) refl where
+  kept_or : (b : Bool) → nat_lt before now ≡ b → now ≡ before
+  kept_or true is = absurd (other (tells.told (ltb-true before now is)))
+  kept_or false is = omega (arith, ltb-false before now is)

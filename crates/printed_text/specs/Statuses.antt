@@ -1,5 +1,6 @@
 -- The statuses of a process, and their numbers.
-use Rattle.std.specs.Prelude.{◌≡◌, ◌⊎◌, ℕ, List, [], ◌∷◌}
+use Rattle.std.specs.Prelude.{◌≡◌, ◌⊎◌, ◌<◌, ℕ, List, [], ◌∷◌}
+use Rattle.fault_count.specs.Counts.{HasRisen}
 use Rattle.printed_text.specs.declared.exit_status.ExitStatus.{ExitStatus}
 use Rattle.printed_text.specs.declared.exit_status.ExitStatus.TheVariants as statuses
 
@@ -25,3 +26,8 @@ pub record IsNumberOf (Holds : ExitStatus → Type 0) (number : ℕ) : Type 0 wh
 abbrev pub IsOneOf : List ExitStatus → ExitStatus → Type 0
 IsOneOf [] status = ⊥
 IsOneOf (one ∷ rest) status = (status ≡ one) ⊎ IsOneOf rest status
+
+-- the status tells of the sink wherever its count of faults rose, and only where it rose or stands at its last value
+pub record TellsSinkFault (before now : ℕ) (status : ExitStatus) : Type 0 where
+  pub risen : status ≡ statuses.Sink → HasRisen before now
+  pub told : before < now → status ≡ statuses.Sink

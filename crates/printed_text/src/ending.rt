@@ -1,7 +1,7 @@
 //! Lines that end a run.
 ghost use Rattle.std.specs.Prelude.{◌≡◌, ◌≢◌};
-ghost use Rattle.fault_count.specs.Counts.{HasRisen};
 ghost use Rattle.printed_text.specs.declared.exit_status.ExitStatus.TheVariants as statuses;
+ghost use Rattle.printed_text.specs.Statuses.{TellsSinkFault};
 ghost use Rattle.printed_text.specs.Texts.{memory_text, read_text, too_long_text, words_text};
 ghost use Rattle.printed_text.specs.Writing.{IsWritten};
 
@@ -12,7 +12,7 @@ use bureau_edge::{Sink, write_all};
 pub fn end_with<K: Sink>(sink: &mut K, status: ExitStatus, line: &[u8]) -> ExitStatus
     requires { status ≢ statuses.Sink }
     ensures written { IsWritten (K.held sink.old) (K.held sink.new) status line.now result }
-    ensures failed { result ≡ statuses.Sink → HasRisen (K.faults sink.old) (K.faults sink.new) }
+    ensures failed { TellsSinkFault (K.faults sink.old) (K.faults sink.new) result }
 {
     match write_all(sink, line) {
         Ok(()) => status,
@@ -23,7 +23,7 @@ pub fn end_with<K: Sink>(sink: &mut K, status: ExitStatus, line: &[u8]) -> ExitS
 /// Tells that there was no memory.
 pub fn tell_no_memory<K: Sink>(sink: &mut K) -> ExitStatus
     ensures written { IsWritten (K.held sink.old) (K.held sink.new) statuses.Memory memory_text result }
-    ensures failed { result ≡ statuses.Sink → HasRisen (K.faults sink.old) (K.faults sink.new) }
+    ensures failed { TellsSinkFault (K.faults sink.old) (K.faults sink.new) result }
 {
     end_with(sink, ExitStatus::Memory, b"fault memory\n")
 }
@@ -31,7 +31,7 @@ pub fn tell_no_memory<K: Sink>(sink: &mut K) -> ExitStatus
 /// Tells that the words ask for nothing.
 pub fn tell_words<K: Sink>(sink: &mut K) -> ExitStatus
     ensures written { IsWritten (K.held sink.old) (K.held sink.new) statuses.Words words_text result }
-    ensures failed { result ≡ statuses.Sink → HasRisen (K.faults sink.old) (K.faults sink.new) }
+    ensures failed { TellsSinkFault (K.faults sink.old) (K.faults sink.new) result }
 {
     end_with(sink, ExitStatus::Words, b"fault words\n")
 }
@@ -39,7 +39,7 @@ pub fn tell_words<K: Sink>(sink: &mut K) -> ExitStatus
 /// Tells that the source failed.
 pub fn tell_read_fault<K: Sink>(sink: &mut K) -> ExitStatus
     ensures written { IsWritten (K.held sink.old) (K.held sink.new) statuses.Source read_text result }
-    ensures failed { result ≡ statuses.Sink → HasRisen (K.faults sink.old) (K.faults sink.new) }
+    ensures failed { TellsSinkFault (K.faults sink.old) (K.faults sink.new) result }
 {
     end_with(sink, ExitStatus::Source, b"fault read\n")
 }
@@ -47,7 +47,7 @@ pub fn tell_read_fault<K: Sink>(sink: &mut K) -> ExitStatus
 /// Tells that the input is too long.
 pub fn tell_too_long<K: Sink>(sink: &mut K) -> ExitStatus
     ensures written { IsWritten (K.held sink.old) (K.held sink.new) statuses.Limit too_long_text result }
-    ensures failed { result ≡ statuses.Sink → HasRisen (K.faults sink.old) (K.faults sink.new) }
+    ensures failed { TellsSinkFault (K.faults sink.old) (K.faults sink.new) result }
 {
     end_with(sink, ExitStatus::Limit, b"fault input too long\n")
 }

@@ -2,8 +2,7 @@
 ghost use Rattle.std.specs.Prelude.{◌≡◌, ℕ, ◌+◌, ◌^◌, ◌<◌, ◌≤◌, [], ◌++◌, true, All, IfOk};
 ghost use Rattle.std.specs.Prelude.{OnOk, OnErr, vec_len, vec_capacity, length, slice_get, take, drop};
 ghost use Rattle.std.specs.Io.KnownBytes.{Appends};
-ghost use Rattle.fault_count.specs.Counts.{IsCounted};
-ghost use Rattle.bureau_edge.specs.Streams.{AppendsPart};
+ghost use Rattle.bureau_edge.specs.Streams.{AppendsPart, CountsFaults};
 ghost use Rattle.claim_history.specs.declared.entry.Reply.TheVariants as reply;
 ghost use Rattle.claim_history.specs.Acts.{is_valid};
 ghost use Rattle.claim_history.specs.Laws.{IsReplyInRange};
@@ -43,7 +42,7 @@ pub fn flush<K: Sink>(sink: &mut K, buffer: &mut Vec<u8>) -> Result<(), Failed>
     ensures emptied { OnOk result (buffer.new.items ≡ []) }
     ensures empty { OnOk result (vec_len buffer.new ≡ 0) }
     ensures part { OnErr result (AppendsPart (K.held sink.old) (K.held sink.new) buffer.old.items) }
-    ensures cause { IsCounted (K.faults sink.old) (K.faults sink.new) result }
+    ensures cause { CountsFaults (K.faults sink.old) (K.faults sink.new) result }
     ensures room { vec_capacity buffer.old ≤ vec_capacity buffer.new }
 {
     write_all(sink, buffer.as_slice())?;
@@ -59,7 +58,7 @@ pub fn make_room<K: Sink>(sink: &mut K, buffer: &mut Vec<u8>) -> Result<(), Fail
     ensures ok { OnOk result (GoesThrough (K.held sink.old) (K.held sink.new) buffer.old.items buffer.new.items []) }
     ensures spare { OnOk result (vec_len buffer.new + LINE_BYTES ≤ vec_capacity buffer.new) }
     ensures part { OnErr result (AppendsPart (K.held sink.old) (K.held sink.new) buffer.old.items) }
-    ensures cause { IsCounted (K.faults sink.old) (K.faults sink.new) result }
+    ensures cause { CountsFaults (K.faults sink.old) (K.faults sink.new) result }
     ensures room { OUTPUT_BYTES ≤ vec_capacity buffer.new }
 {
     if buffer.len() <= OUTPUT_BYTES - LINE_BYTES {
@@ -84,7 +83,7 @@ fn print_entry<K: Sink>(
         (entry_line (member_of pool.now entry.now))) }
     ensures part { OnErr result (AppendsPart (K.held sink.old) (K.held sink.new)
         (buffer.old.items ++ entry_line (member_of pool.now entry.now))) }
-    ensures cause { IsCounted (K.faults sink.old) (K.faults sink.new) result }
+    ensures cause { CountsFaults (K.faults sink.old) (K.faults sink.new) result }
     ensures room { OUTPUT_BYTES ≤ vec_capacity buffer.new }
 {
     make_room(sink, buffer)?;
@@ -113,7 +112,7 @@ pub fn print_publication<K: Sink>(
     ensures next { IfOk result (λ place. place ≡ next + rounds_in entry.now.reply) }
     ensures part { OnErr result (AppendsPart (K.held sink.old) (K.held sink.new)
         (buffer.old.items ++ statement_of (slice_get rounds.now next) entry.now.act entry.now.reply)) }
-    ensures cause { IsCounted (K.faults sink.old) (K.faults sink.new) result }
+    ensures cause { CountsFaults (K.faults sink.old) (K.faults sink.new) result }
     ensures room { OUTPUT_BYTES ≤ vec_capacity buffer.new }
 {
     let Reply::Published { .. } = entry.reply else {
@@ -147,7 +146,7 @@ pub fn print_member<K: Sink>(
     ensures next { IfOk result (λ place. place ≡ next + rounds_in entry.now.reply) }
     ensures part { OnErr result (AppendsPart (K.held sink.old) (K.held sink.new)
         (buffer.old.items ++ (entry_line (member_of pool.now entry.now) ++ statement_of (slice_get rounds.now next) entry.now.act entry.now.reply))) }
-    ensures cause { IsCounted (K.faults sink.old) (K.faults sink.new) result }
+    ensures cause { CountsFaults (K.faults sink.old) (K.faults sink.new) result }
     ensures room { OUTPUT_BYTES ≤ vec_capacity buffer.new }
 {
     print_entry(sink, buffer, pool, entry)?;
@@ -174,7 +173,7 @@ pub fn print_members<K: Sink>(
         (added_text (take from books.now.members) (drop from books.now.members))) }
     ensures part { OnErr result (AppendsPart (K.held sink.old) (K.held sink.new)
         (buffer.old.items ++ added_text (take from books.now.members) (drop from books.now.members))) }
-    ensures cause { IsCounted (K.faults sink.old) (K.faults sink.new) result }
+    ensures cause { CountsFaults (K.faults sink.old) (K.faults sink.new) result }
     ensures room { OUTPUT_BYTES ≤ vec_capacity buffer.new }
 {
     let len = books.len();
@@ -195,7 +194,7 @@ fn print_end<K: Sink>(sink: &mut K, buffer: &mut Vec<u8>, answer: &Answer) -> Re
         (end_text answer.now.line answer.now.end)) }
     ensures part { OnErr result (AppendsPart (K.held sink.old) (K.held sink.new)
         (buffer.old.items ++ end_text answer.now.line answer.now.end)) }
-    ensures cause { IsCounted (K.faults sink.old) (K.faults sink.new) result }
+    ensures cause { CountsFaults (K.faults sink.old) (K.faults sink.new) result }
     ensures room { OUTPUT_BYTES ≤ vec_capacity buffer.new }
 {
     if let LineEnd::Replied = answer.end {
@@ -229,7 +228,7 @@ fn print_ends<K: Sink>(sink: &mut K, buffer: &mut Vec<u8>, answers: &[Answer]) -
     // The text went through, or the sink failed and took some first bytes of it.
     ensures ok { OnOk result (GoesThrough (K.held sink.old) (K.held sink.new) buffer.old.items buffer.new.items (ends_text answers.now)) }
     ensures part { OnErr result (AppendsPart (K.held sink.old) (K.held sink.new) (buffer.old.items ++ ends_text answers.now)) }
-    ensures cause { IsCounted (K.faults sink.old) (K.faults sink.new) result }
+    ensures cause { CountsFaults (K.faults sink.old) (K.faults sink.new) result }
     ensures room { OUTPUT_BYTES ≤ vec_capacity buffer.new }
 {
     for answer in answers {
@@ -265,7 +264,7 @@ pub fn print_batch<K: Sink>(
     ensures emptied { OnOk result (buffer.new.items ≡ []) }
     ensures part { OnErr result (AppendsPart (K.held sink.old) (K.held sink.new)
         (printed_of (take from books.now.members) (drop from books.now.members) answers.now)) }
-    ensures cause { IsCounted (K.faults sink.old) (K.faults sink.new) result }
+    ensures cause { CountsFaults (K.faults sink.old) (K.faults sink.new) result }
     ensures room { OUTPUT_BYTES ≤ vec_capacity buffer.new }
 {
     print_members(sink, buffer, books, from, rounds)?;
@@ -286,7 +285,7 @@ fn print_memory_lines<K: Sink>(
         (ends_text (unanswered requests.now))) }
     ensures part { OnErr result (AppendsPart (K.held sink.old) (K.held sink.new)
         (buffer.old.items ++ ends_text (unanswered requests.now))) }
-    ensures cause { IsCounted (K.faults sink.old) (K.faults sink.new) result }
+    ensures cause { CountsFaults (K.faults sink.old) (K.faults sink.new) result }
     ensures room { OUTPUT_BYTES ≤ vec_capacity buffer.new }
 {
     for request in requests {
@@ -313,7 +312,7 @@ pub fn print_unanswered<K: Sink>(
     ensures ok { OnOk result (Appends (K.held sink.old) (K.held sink.new) (ends_text (unanswered requests.now))) }
     ensures emptied { OnOk result (buffer.new.items ≡ []) }
     ensures part { OnErr result (AppendsPart (K.held sink.old) (K.held sink.new) (ends_text (unanswered requests.now))) }
-    ensures cause { IsCounted (K.faults sink.old) (K.faults sink.new) result }
+    ensures cause { CountsFaults (K.faults sink.old) (K.faults sink.new) result }
     ensures room { OUTPUT_BYTES ≤ vec_capacity buffer.new }
 {
     print_memory_lines(sink, buffer, requests)?;
@@ -335,7 +334,7 @@ fn print_memory_range<K: Sink>(
         (ends_text (unanswered_lines first count))) }
     ensures part { OnErr result (AppendsPart (K.held sink.old) (K.held sink.new)
         (buffer.old.items ++ ends_text (unanswered_lines first count))) }
-    ensures cause { IsCounted (K.faults sink.old) (K.faults sink.new) result }
+    ensures cause { CountsFaults (K.faults sink.old) (K.faults sink.new) result }
     ensures room { OUTPUT_BYTES ≤ vec_capacity buffer.new }
 {
     for line in first..first + count {
@@ -364,7 +363,7 @@ pub fn print_unanswered_lines<K: Sink>(
     ensures ok { OnOk result (Appends (K.held sink.old) (K.held sink.new) (ends_text (unanswered_lines first count))) }
     ensures emptied { OnOk result (buffer.new.items ≡ []) }
     ensures part { OnErr result (AppendsPart (K.held sink.old) (K.held sink.new) (ends_text (unanswered_lines first count))) }
-    ensures cause { IsCounted (K.faults sink.old) (K.faults sink.new) result }
+    ensures cause { CountsFaults (K.faults sink.old) (K.faults sink.new) result }
     ensures room { OUTPUT_BYTES ≤ vec_capacity buffer.new }
 {
     print_memory_range(sink, buffer, first, count)?;

@@ -1,8 +1,7 @@
 //! Statements: their lines go through the buffer of the output. Their printing is never inlined, so that a profile of the
 //! program shows what it takes.
 ghost use Rattle.std.specs.Prelude.{◌≡◌, ◌<◌, ◌≤◌, ◌^◌, ◌++◌, All, OnOk, OnErr, vec_capacity, length, slice_index_or, unsigned_abs};
-ghost use Rattle.fault_count.specs.Counts.{IsCounted};
-ghost use Rattle.bureau_edge.specs.Streams.{AppendsPart};
+ghost use Rattle.bureau_edge.specs.Streams.{AppendsPart, CountsFaults};
 ghost use Rattle.setoff_model.specs.declared.limits.TheConstants.{OUTPUT_BYTES, SUM_LIMIT, MOST_WINDOW};
 ghost use Rattle.setoff_model.specs.declared.cut.CutClaim.{CutClaim};
 ghost use Rattle.setoff_model.specs.CutView.{WellFormed};
@@ -26,7 +25,7 @@ fn print_head<K: Sink>(sink: &mut K, buffer: &mut Vec<u8>, cut: &Cut) -> Result<
         (line_bytes (line.Head cut.now.round cut.now.kind))) }
     ensures part { OnErr result (AppendsPart (K.held sink.old) (K.held sink.new)
         (buffer.old.items ++ line_bytes (line.Head cut.now.round cut.now.kind))) }
-    ensures cause { IsCounted (K.faults sink.old) (K.faults sink.new) result }
+    ensures cause { CountsFaults (K.faults sink.old) (K.faults sink.new) result }
     ensures room { OUTPUT_BYTES ≤ vec_capacity buffer.new }
 {
     make_room(sink, buffer)?;
@@ -51,7 +50,7 @@ fn print_party<K: Sink>(
         (line_bytes (line.Party party.now price))) }
     ensures part { OnErr result (AppendsPart (K.held sink.old) (K.held sink.new)
         (buffer.old.items ++ line_bytes (line.Party party.now price))) }
-    ensures cause { IsCounted (K.faults sink.old) (K.faults sink.new) result }
+    ensures cause { CountsFaults (K.faults sink.old) (K.faults sink.new) result }
     ensures room { OUTPUT_BYTES ≤ vec_capacity buffer.new }
 {
     make_room(sink, buffer)?;
@@ -79,7 +78,7 @@ fn print_parties<K: Sink>(
         (lines_bytes (party_lines parties.now prices.now))) }
     ensures part { OnErr result (AppendsPart (K.held sink.old) (K.held sink.new)
         (buffer.old.items ++ lines_bytes (party_lines parties.now prices.now))) }
-    ensures cause { IsCounted (K.faults sink.old) (K.faults sink.new) result }
+    ensures cause { CountsFaults (K.faults sink.old) (K.faults sink.new) result }
     ensures room { OUTPUT_BYTES ≤ vec_capacity buffer.new }
 {
     for i in 0..parties.len() {
@@ -108,7 +107,7 @@ fn print_claim<K: Sink>(
     ensures part { (none : CutClaim) → OnErr result
         (AppendsPart (K.held sink.old) (K.held sink.new)
         (buffer.old.items ++ line_bytes (claim_line cut.now.parties (slice_index_or cut.now.claims place none) discharge))) }
-    ensures cause { IsCounted (K.faults sink.old) (K.faults sink.new) result }
+    ensures cause { CountsFaults (K.faults sink.old) (K.faults sink.new) result }
     ensures room { OUTPUT_BYTES ≤ vec_capacity buffer.new }
 {
     make_room(sink, buffer)?;
@@ -133,7 +132,7 @@ fn print_claims<K: Sink>(
         (lines_bytes (claim_lines cut.now.parties cut.now.claims discharges.now))) }
     ensures part { OnErr result (AppendsPart (K.held sink.old) (K.held sink.new)
         (buffer.old.items ++ lines_bytes (claim_lines cut.now.parties cut.now.claims discharges.now))) }
-    ensures cause { IsCounted (K.faults sink.old) (K.faults sink.new) result }
+    ensures cause { CountsFaults (K.faults sink.old) (K.faults sink.new) result }
     ensures room { OUTPUT_BYTES ≤ vec_capacity buffer.new }
 {
     for i in 0..discharges.len() {
@@ -149,7 +148,7 @@ fn print_end<K: Sink>(sink: &mut K, buffer: &mut Vec<u8>) -> Result<(), Failed>
     // The text went through, or the sink failed and took some first bytes of it.
     ensures ok { OnOk result (GoesThrough (K.held sink.old) (K.held sink.new) buffer.old.items buffer.new.items (line_bytes line.End)) }
     ensures part { OnErr result (AppendsPart (K.held sink.old) (K.held sink.new) (buffer.old.items ++ line_bytes line.End)) }
-    ensures cause { IsCounted (K.faults sink.old) (K.faults sink.new) result }
+    ensures cause { CountsFaults (K.faults sink.old) (K.faults sink.new) result }
     ensures room { OUTPUT_BYTES ≤ vec_capacity buffer.new }
 {
     make_room(sink, buffer)?;
@@ -176,7 +175,7 @@ pub fn print_statement<K: Sink>(
         (statement_bytes cut.now outcome.now)) }
     ensures part { OnErr result (AppendsPart (K.held sink.old) (K.held sink.new)
         (buffer.old.items ++ statement_bytes cut.now outcome.now)) }
-    ensures cause { IsCounted (K.faults sink.old) (K.faults sink.new) result }
+    ensures cause { CountsFaults (K.faults sink.old) (K.faults sink.new) result }
     ensures room { OUTPUT_BYTES ≤ vec_capacity buffer.new }
 {
     print_head(sink, buffer, cut)?;

@@ -1,5 +1,4 @@
-use Rattle.std.proofs.Common.{ℕ, List, [], refl, subst, sym, arith}
-use Rattle.fault_count.proofs.Rising.{risen_within}
+use Rattle.std.proofs.Common.{ℕ, List, [], refl, subst, sym, arith, ◌∙◌}
 use Rattle.printed_text.specs.declared.exit_status.ExitStatus.TheVariants as statuses
 use Rattle.printed_text.specs.Texts.{memory_text}
 use Rattle.batch_runs.specs.Runs.{HasTaken}
@@ -8,6 +7,7 @@ use Rattle.bureau_commands.specs.Due.{IsLiveDue, IsNotBegunDue, WroteTaking, no_
 use Rattle.bureau_commands.proofs.Bound.{none_asked}
 use Rattle.bureau_commands.proofs.LiveCauses.{begun_no_source, stopped_failed}
 use Rattle.bureau_commands.proofs.Served.{wrote_broken, wrote_live}
+use Rattle.printed_text.proofs.Statuses.{kept_untold, sink_told, told_behind}
 use Rattle.bureau_commands.proofs.live.serve_source.Goals as goal
 
 -- ---- there was no memory for the intake
@@ -64,8 +64,7 @@ returns-then-sink_failed-clause-read_fault g c = λ source. cc
 
 pub returns-then-sink_failed-clause-write_fault : goal.returns-then-sink_failed-clause-write_fault
 returns-then-sink_failed-clause-write_fault g c =
-    λ sink. risen_within (g.K.Sink.faults c.args.sink.now) (g.K.Sink.faults c.begin.new.sink) (g.K.Sink.faults c.serve_input-due.new.sink) (g.K.Sink.faults c.serve_input-due.new.sink)
-    c.in-Ok-begin.ensures.later (omega arith) (c.serve_input-due.ensures.write_fault (c.sink_failed.ensures.failed c.if-sink_failed.true))
+    told_behind _ _ _ _ c.in-Ok-begin.ensures.kept (sink_told _ _ (c.serve_input-due.ensures.write_fault.risen (c.sink_failed.ensures.failed c.if-sink_failed.true)))
 
 -- ---- the fault by which the reading ended
 
@@ -92,5 +91,5 @@ returns-clause-read_fault g c = λ source.
 
 pub returns-clause-write_fault : goal.returns-clause-write_fault
 returns-clause-write_fault g c =
-    λ sink. risen_within (g.K.Sink.faults c.args.sink.now) (g.K.Sink.faults c.serve_input-due.new.sink) (g.K.Sink.faults c.tell_stop.new.sink) (g.K.Sink.faults c.tell_stop.new.sink)
-    (omega (arith, c.in-Ok-begin.ensures.later, c.serve_input-due.ensures.later)) (omega arith) (c.tell_stop.ensures.write_fault sink)
+    let took = c.sink_failed.ensures.took c.if-sink_failed.false in
+    told_behind _ _ _ _ (kept_untold _ _ _ c.serve_input-due.ensures.later took c.serve_input-due.ensures.write_fault ∙ c.in-Ok-begin.ensures.kept) c.tell_stop.ensures.write_fault

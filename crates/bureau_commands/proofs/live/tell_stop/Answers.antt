@@ -1,8 +1,9 @@
-use Rattle.std.proofs.Common.{subst, sym}
+use Rattle.std.proofs.Common.{refl, subst, sym}
 use Rattle.bureau_edge.proofs.Known.{Appends-none}
 use Rattle.printed_text.specs.Writing.{IsWritten, whole}
 use Rattle.live_intake.specs.declared.stop.Stop.{Stop}
 use Rattle.bureau_commands.specs.Due.{stop_status, stop_text}
+use Rattle.printed_text.proofs.Statuses.{none_told}
 use Rattle.bureau_commands.proofs.live.tell_stop.Goals as goal
 
 -- ---- no fault
@@ -12,14 +13,14 @@ returns-in-Fence-clause-written g c =
     subst (λ (s : Stop). IsWritten (g.K.Sink.held c.args.sink.now) (g.K.Sink.held c.args.sink.now) (stop_status s c.args.due) (stop_text s) c.args.due) (sym c.in-Fence.is) (whole (Appends-none (g.K.Sink.held c.args.sink.now)))
 
 pub returns-in-Fence-clause-write_fault : goal.returns-in-Fence-clause-write_fault
-returns-in-Fence-clause-write_fault g c = λ sink. absurd (c.requires.due sink)
+returns-in-Fence-clause-write_fault g c = none_told _ _ _ refl c.requires.due
 
 pub returns-in-End-clause-written : goal.returns-in-End-clause-written
 returns-in-End-clause-written g c =
     subst (λ (s : Stop). IsWritten (g.K.Sink.held c.args.sink.now) (g.K.Sink.held c.args.sink.now) (stop_status s c.args.due) (stop_text s) c.args.due) (sym c.in-End.is) (whole (Appends-none (g.K.Sink.held c.args.sink.now)))
 
 pub returns-in-End-clause-write_fault : goal.returns-in-End-clause-write_fault
-returns-in-End-clause-write_fault g c = λ sink. absurd (c.requires.due sink)
+returns-in-End-clause-write_fault g c = none_told _ _ _ refl c.requires.due
 
 -- ---- a fault
 

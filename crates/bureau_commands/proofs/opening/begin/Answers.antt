@@ -6,7 +6,7 @@ use Rattle.claim_history.specs.PoolRounds.{cuts_after}
 use Rattle.printed_text.specs.declared.exit_status.ExitStatus.TheVariants as statuses
 use Rattle.printed_text.specs.Texts.{memory_text}
 use Rattle.printed_text.specs.Printing.{printed_of}
-use Rattle.printed_text.proofs.Statuses.{other_than}
+use Rattle.printed_text.proofs.Statuses.{other_than, sink_told}
 use Rattle.bureau_reports.specs.DiskTexts.{opening_status, opening_text}
 use Rattle.batch_runs.specs.Runs.{HasTaken}
 use Rattle.bureau_commands.specs.Due.{IsNotBegunDue, WroteTaking, no_output_memory, not_opened}
@@ -74,7 +74,7 @@ returns-then-is_err-clause-wrote g c =
     (wrote_begun g.D.Disk.seen c.args.disk first first c.in-Ok-open.ensures.ok c.close.ensures.keeps (same_opening first) _ _ refl part)
 
 pub returns-then-is_err-clause-write_fault : goal.returns-then-is_err-clause-write_fault
-returns-then-is_err-clause-write_fault g c = λ sink. c.print_added.ensures.cause.cause (sym c.is_err.ensures.value ∙ c.if-is_err.true)
+returns-then-is_err-clause-write_fault g c = sink_told _ _ (c.print_added.ensures.cause.cause (sym c.is_err.ensures.value ∙ c.if-is_err.true))
 
 -- ---- they were printed
 
@@ -91,7 +91,7 @@ returns g c = record {
       };
   empty = at_ok c.print_added.result (c.print_added.new.buffer.items ≡ []) (sym c.is_err.ensures.value ∙ c.if-is_err.false) c.print_added.ensures.emptied;
   room = c.print_added.ensures.room;
-  later = c.print_added.ensures.cause.later;
+  kept = at_ok c.print_added.result (g.K.Sink.faults c.print_added.new.sink ≡ g.K.Sink.faults c.args.sink.now) (sym c.is_err.ensures.value ∙ c.if-is_err.false) c.print_added.ensures.cause.kept;
   wrote = tt;
   write_fault = tt;
 }

@@ -1,9 +1,9 @@
-use Rattle.std.proofs.Common.{ℕ, List, subst, sym, arith}
-use Rattle.fault_count.proofs.Rising.{risen_within}
+use Rattle.std.proofs.Common.{ℕ, List, subst, sym}
 use Rattle.batch_runs.specs.Runs.{HasTaken}
 use Rattle.bureau_reports.proofs.Written.{wrote_for}
 use Rattle.bureau_commands.specs.Due.{IsBatchesDue, IsNotBegunDue, WroteTaking}
 use Rattle.bureau_commands.proofs.Served.{wrote_all}
+use Rattle.printed_text.proofs.Statuses.{told_behind}
 use Rattle.bureau_commands.proofs.run.open_and_run.Goals as goal
 
 -- ---- no batch was served
@@ -33,6 +33,4 @@ returns-in-Ok-clause-wrote g c =
     (wrote_all g.D.Disk.seen c.args.disk first last begun.opening c.close.ensures.keeps c.run_batches-status.ensures.ran.opening (g.K.Sink.held c.args.sink.now) (g.K.Sink.held c.begin.new.sink) (g.K.Sink.held c.run_batches-status.new.sink) c.args.batches.now c.run_batches-status.result.0 c.requires.asked begun.printed c.run_batches-status.ensures.ran)
 
 pub returns-in-Ok-clause-write_fault : goal.returns-in-Ok-clause-write_fault
-returns-in-Ok-clause-write_fault g c =
-    λ sink. risen_within (g.K.Sink.faults c.args.sink.now) (g.K.Sink.faults c.begin.new.sink) (g.K.Sink.faults c.run_batches-status.new.sink) (g.K.Sink.faults c.run_batches-status.new.sink)
-    c.in-Ok.ensures.later (omega arith) (c.run_batches-status.ensures.write_fault sink)
+returns-in-Ok-clause-write_fault g c = told_behind _ _ _ _ c.in-Ok.ensures.kept c.run_batches-status.ensures.write_fault

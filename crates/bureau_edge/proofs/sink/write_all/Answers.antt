@@ -9,5 +9,5 @@ loop-rest-preserved g c =
     record {
       written = subst (λ (rest : List ℕ). Written old next c.args.piece.now rest) (sym c.split_at.ensures.back)
           (goes_on old (g.K.Sink.held c.loop-rest.sink) next c.args.piece.now c.loop-rest.rest.now c.in_ok-count.count c.loop-rest.invariant.written c.in_ok-count.ensures.bytes);
-      later = omega (arith, c.in_ok-count.ensures.cause.later, c.loop-rest.invariant.later);
+      kept = omega (arith, c.in_ok-count.ensures.cause.kept, c.loop-rest.invariant.kept);
     }

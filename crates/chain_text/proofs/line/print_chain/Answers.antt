@@ -1,8 +1,8 @@
-use Rattle.std.proofs.Common.{◌≡◌, ℕ, List, ◌++◌, codes, flat_map, subst, sym}
+use Rattle.std.proofs.Common.{◌≡◌, ℕ, List, ◌++◌, codes, flat_map, subst, sym, arith}
 use Rattle.bureau_edge.specs.Streams.{AppendsPart}
 use Rattle.setoff_model.proofs.Lists.{on_err}
 use Rattle.printed_text.specs.Writing.{GoesThrough}
-use Rattle.printed_text.proofs.Passing.{on_err_if, on_ok_if, part_then, pass_then}
+use Rattle.printed_text.proofs.Passing.{on_err_if, on_ok_if, part_then, pass_then, counted_later, counted_behind}
 use Rattle.printed_text.proofs.Printing.{breaks_at_first, breaks_at_second}
 use Rattle.chain_explain.specs.Chains.{chain_view}
 use Rattle.chain_text.specs.Texts.{chain_head, chain_line, claim_name}
@@ -48,3 +48,9 @@ returns-clause-part g c =
     on_err_if c.print_end.result _ _ (λ last. subst (λ (t : List ℕ). AppendsPart (g.K.Sink.held c.args.sink.now) (g.K.Sink.held c.print_end.new.sink) (c.args.buffer.now.items ++ t)) (sym is)
     (part_then (g.K.Sink.held c.args.sink.now) (g.K.Sink.held c.print_head.new.sink) (g.K.Sink.held c.print_end.new.sink) c.args.buffer.now.items c.print_head.new.buffer.items head (names ++ codes "\n") c.in_ok-print_head.ensures.ok
     (part_then (g.K.Sink.held c.print_head.new.sink) (g.K.Sink.held c.print_claim_names.new.sink) (g.K.Sink.held c.print_end.new.sink) c.print_head.new.buffer.items c.print_claim_names.new.buffer.items names (codes "\n") c.in_ok-print_claim_names.ensures.ok last))) c.print_end.ensures.part
+
+pub returns-in_err-print_claim_names-clause-cause : goal.returns-in_err-print_claim_names-clause-cause
+returns-in_err-print_claim_names-clause-cause g c = counted_later (g.K.Sink.faults c.args.sink.now) (g.K.Sink.faults c.print_head.new.sink) (g.K.Sink.faults c.print_claim_names.new.sink) _ c.from_residual-in_err-print_claim_names.result c.from_residual-in_err-print_claim_names.ensures.0 c.in_ok-print_head.ensures.cause.kept c.in_err-print_claim_names.ensures.cause
+
+pub returns-clause-cause : goal.returns-clause-cause
+returns-clause-cause g c = counted_behind (g.K.Sink.faults c.args.sink.now) (g.K.Sink.faults c.print_claim_names.new.sink) (g.K.Sink.faults c.print_end.new.sink) c.print_end.result (omega (arith, c.in_ok-print_claim_names.ensures.cause.kept, c.in_ok-print_head.ensures.cause.kept)) c.print_end.ensures.cause

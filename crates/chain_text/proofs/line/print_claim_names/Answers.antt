@@ -28,5 +28,5 @@ loop-i-preserved g c =
     record {
       passes = up_more (g.K.Sink.held c.args.sink.now) (g.K.Sink.held c.loop-i.sink) (g.K.Sink.held c.print_claim_name.new.sink) c.args.buffer.now.items c.loop-i.buffer.items c.print_claim_name.new.buffer.items one rest all up c.in_ok-print_claim_name.ensures.ok;
       room = c.in_ok-print_claim_name.ensures.room;
-      later = omega (arith, c.loop-i.invariant.later, c.in_ok-print_claim_name.ensures.cause.later);
+      kept = omega (arith, c.loop-i.invariant.kept, c.in_ok-print_claim_name.ensures.cause.kept);
     }

@@ -51,7 +51,7 @@ loop-chain-preserved g c =
         subst (λ (t : List ℕ). GoesThrough (g.K.Sink.held c.args.sink.now) (g.K.Sink.held c.print_chain.new.sink) c.args.buffer.now.items c.print_chain.new.buffer.items t) (sym (text_more old.cut some.0 x)) through,
       );
       room = c.in-Ok.ensures.room;
-      later = omega (arith, c.loop-chain.invariant.later, c.in-Ok.ensures.cause.later);
+      kept = omega (arith, c.loop-chain.invariant.kept, c.in-Ok.ensures.cause.kept);
     }
 
 pub returns-clause-passed : goal.returns-clause-passed

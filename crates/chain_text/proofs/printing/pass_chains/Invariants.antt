@@ -1,4 +1,4 @@
-use Rattle.std.proofs.Common.{◌≤◌, List, vec_capacity}
+use Rattle.std.proofs.Common.{◌≡◌, ◌≤◌, List, vec_capacity}
 use Rattle.setoff_model.specs.declared.limits.TheConstants.{OUTPUT_BYTES}
 use Rattle.setoff_model.specs.CutView.{obligations}
 use Rattle.printed_text.specs.Writing.{GoesThrough}
@@ -12,7 +12,7 @@ invariant-loop-chain g l = record {
   passed : (xs : List ChainView) × Gives (obligations l.fn.explainer.cut) l.fn.explainer xs l.explainer
       × GoesThrough (g.K.Sink.held l.fn.sink) (g.K.Sink.held l.sink) l.fn.buffer.items l.buffer.items (chains_text l.fn.explainer.cut xs);
   room : OUTPUT_BYTES ≤ vec_capacity l.buffer;
-  later : g.K.Sink.faults l.fn.sink ≤ g.K.Sink.faults l.sink;
+  kept : g.K.Sink.faults l.sink ≡ g.K.Sink.faults l.fn.sink;
 }
 
 abbrev pub decreases-loop-chain : goal.decreases-loop-chain

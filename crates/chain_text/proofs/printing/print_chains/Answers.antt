@@ -1,6 +1,6 @@
 use Rattle.std.proofs.Common.{ℕ, List, ◌++◌, subst}
 use Rattle.bureau_edge.specs.Streams.{AppendsPart}
-use Rattle.printed_text.proofs.Passing.{on_err_if, part_left, pass_flushed}
+use Rattle.printed_text.proofs.Passing.{on_err_if, part_left, pass_flushed, counted_behind}
 use Rattle.chain_text.specs.Texts.{chains_text}
 use Rattle.chain_text.proofs.printing.print_chains.Goals as goal
 
@@ -16,3 +16,6 @@ returns-clause-printed g c =
       part = on_err_if c.flush.result _ _ (λ broken. subst (λ (b : List ℕ). AppendsPart (g.K.Sink.held c.args.sink.now) (g.K.Sink.held c.flush.new.sink) (b ++ text)) c.requires.empty
           (part_left (g.K.Sink.held c.args.sink.now) (g.K.Sink.held c.pass_chains.new.sink) (g.K.Sink.held c.flush.new.sink) c.args.buffer.now.items c.pass_chains.new.buffer.items text passed.ok broken)) c.flush.ensures.part;
     }
+
+pub returns-clause-cause : goal.returns-clause-cause
+returns-clause-cause g c = counted_behind (g.K.Sink.faults c.args.sink.now) (g.K.Sink.faults c.pass_chains.new.sink) (g.K.Sink.faults c.flush.new.sink) c.flush.result c.in_ok-pass_chains.ensures.cause.kept c.flush.ensures.cause

@@ -1,8 +1,8 @@
-use Rattle.std.proofs.Common.{refl, subst, arith}
-use Rattle.fault_count.proofs.Rising.{risen_within}
+use Rattle.std.proofs.Common.{refl, subst}
 use Rattle.history_text.specs.declared.told.Told.{Told}
 use Rattle.history_text.specs.Histories.{HasPrinted, history_text}
 use Rattle.history_text.proofs.Due.{history_broken, history_short, history_whole}
+use Rattle.printed_text.proofs.Statuses.{none_told, sink_told, told_behind}
 use Rattle.history_text.proofs.history.print_history.Goals as goal
 
 pub returns-in-Ok-Whole-clause-wrote : goal.returns-in-Ok-Whole-clause-wrote
@@ -20,16 +20,17 @@ returns-in-Ok-Short-clause-wrote g c =
     history_short c.args.pool.now c.args.books.now.members y z (g.K.Sink.held c.tell_no_memory.new.sink) c.tell_no_memory.result
     (subst (λ (t : Told). HasPrinted t y z text) c.in-Ok-Short.field-0-is c.in-Ok-Short.ensures.ok) c.tell_no_memory.ensures.written
 
+pub returns-in-Ok-Whole-clause-write_fault : goal.returns-in-Ok-Whole-clause-write_fault
+returns-in-Ok-Whole-clause-write_fault g c = none_told _ _ _ c.in-Ok-Whole.ensures.cause.kept (λ is. cc)
+
 pub returns-in-Ok-Short-clause-write_fault : goal.returns-in-Ok-Short-clause-write_fault
-returns-in-Ok-Short-clause-write_fault g c = λ sink.
-    let last = g.K.Sink.faults c.tell_no_memory.new.sink in
-    risen_within (g.K.Sink.faults c.args.sink.now) (g.K.Sink.faults c.print_whole.new.sink) last last c.print_whole.ensures.cause.later (omega arith) (c.tell_no_memory.ensures.failed sink)
+returns-in-Ok-Short-clause-write_fault g c = told_behind _ _ _ _ c.in-Ok-Short.ensures.cause.kept c.tell_no_memory.ensures.failed
 
 pub returns-in-Err-clause-wrote : goal.returns-in-Err-clause-wrote
 returns-in-Err-clause-wrote g c = history_broken c.args.pool.now c.args.books.now.members (g.K.Sink.held c.args.sink.now) (g.K.Sink.held c.print_whole.new.sink) c.in-Err.ensures.part
 
 pub returns-in-Err-clause-write_fault : goal.returns-in-Err-clause-write_fault
-returns-in-Err-clause-write_fault g c = λ sink. c.in-Err.ensures.cause.cause refl
+returns-in-Err-clause-write_fault g c = sink_told _ _ (c.in-Err.ensures.cause.cause refl)
 
 pub returns-in-Ok-Whole-clause-memory : goal.returns-in-Ok-Whole-clause-memory
 returns-in-Ok-Whole-clause-memory g c = λ is. absurd (cc is)

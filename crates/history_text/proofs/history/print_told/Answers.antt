@@ -3,7 +3,7 @@ use Rattle.std.proofs.lemmas.List.{drop_all}
 use Rattle.setoff_model.proofs.Lists.{on_err}
 use Rattle.claim_history.specs.declared.call.PoolEntry.{PoolEntry}
 use Rattle.printed_text.specs.Printing.{added_text}
-use Rattle.printed_text.proofs.Passing.{counted_later, up_begins, up_ends}
+use Rattle.printed_text.proofs.Passing.{up_begins, up_ends, counted_later}
 use Rattle.history_text.specs.Histories.{HasTold, history_text, told_members, told_text}
 use Rattle.history_text.specs.declared.told.Told.{Told}
 use Rattle.history_text.proofs.Printed.{as_short, told_breaks, told_more, told_short}
@@ -18,7 +18,7 @@ loop-place-init g c = record {
   passes = up_begins (g.K.Sink.held c.args.sink.now) c.args.buffer.now.items (history_text c.args.pool.now c.args.books.now.members);
   first = none_are_first 0 (told_members c.args.pool.now c.args.books.now.members) c.args.replayed.now.members c.requires.empty;
   room = c.requires.spare;
-  later = omega arith;
+  kept = omega arith;
 }
 
 pub returns-in_err-done-clause-part : goal.returns-in_err-done-clause-part
@@ -26,9 +26,6 @@ returns-in_err-done-clause-part g c =
     on_err _ _ (told_breaks (told_members c.args.pool.now c.args.books.now.members) c.loop-place.place (omega (arith, c.loop-place-test.true, c.told_len-len.ensures.len))
     (g.K.Sink.held c.args.sink.now) (g.K.Sink.held c.loop-place.sink) (g.K.Sink.held c.print_next.new.sink) c.args.buffer.now.items c.loop-place.buffer.items c.print_next.new.buffer.items (history_text c.args.pool.now c.args.books.now.members)
     c.loop-place.invariant.passes c.in_err-done.ensures.part)
-
-pub returns-in_err-done-clause-cause : goal.returns-in_err-done-clause-cause
-returns-in_err-done-clause-cause g c = counted_later (g.K.Sink.faults c.args.sink.now) (g.K.Sink.faults c.loop-place.sink) (g.K.Sink.faults c.print_next.new.sink) _ _ c.loop-place.invariant.later c.in_err-done.ensures.cause
 
 pub returns-in_default-clause-ok : goal.returns-in_default-clause-ok
 returns-in_default-clause-ok g c =
@@ -40,7 +37,7 @@ pub returns-in_default-clause-short : goal.returns-in_default-clause-short
 returns-in_default-clause-short g c = λ is. omega (arith, c.loop-place-test.true, c.told_len-len.ensures.len)
 
 pub returns-in_default-clause-cause : goal.returns-in_default-clause-cause
-returns-in_default-clause-cause g c = record { later = omega (arith, c.loop-place.invariant.later, c.print_next.ensures.cause.later); cause = λ err. cc }
+returns-in_default-clause-cause g c = record { later = omega (arith, c.loop-place.invariant.kept, c.print_next.ensures.cause.later); cause = λ err. cc; kept = omega (arith, c.loop-place.invariant.kept, c.in_ok-done.ensures.cause.kept) }
 
 pub loop-place-preserved : goal.loop-place-preserved
 loop-place-preserved g c =
@@ -52,7 +49,7 @@ loop-place-preserved g c =
       passes = told_more h c.loop-place.place (omega (arith, c.loop-place-test.true, c.told_len-len.ensures.len)) (g.K.Sink.held c.args.sink.now) y z c.args.buffer.now.items c.loop-place.buffer.items c.print_next.new.buffer.items (history_text c.args.pool.now c.args.books.now.members) c.loop-place.invariant.passes passes;
       first = first_later c.loop-place.place h c.print_next.new.replayed.members (c.in_ok-done.ensures.first c.in-Whole.is);
       room = c.in_ok-done.ensures.room;
-      later = omega (arith, c.loop-place.invariant.later, c.in_ok-done.ensures.cause.later);
+      kept = omega (arith, c.loop-place.invariant.kept, c.in_ok-done.ensures.cause.kept);
     }
 
 pub returns-clause-ok : goal.returns-clause-ok
@@ -64,3 +61,6 @@ returns-clause-ok g c =
 
 pub returns-clause-short : goal.returns-clause-short
 returns-clause-short g c = λ is. absurd (cc is)
+
+pub returns-in_err-done-clause-cause : goal.returns-in_err-done-clause-cause
+returns-in_err-done-clause-cause g c = counted_later (g.K.Sink.faults c.args.sink.now) (g.K.Sink.faults c.loop-place.sink) (g.K.Sink.faults c.print_next.new.sink) _ c.from_residual.result c.from_residual.ensures.0 c.loop-place.invariant.kept c.in_err-done.ensures.cause

@@ -1,4 +1,4 @@
-use Rattle.std.proofs.Common.{◌≤◌, drop, take, vec_capacity}
+use Rattle.std.proofs.Common.{◌≡◌, ◌≤◌, drop, take, vec_capacity}
 use Rattle.setoff_model.specs.declared.limits.TheConstants.{OUTPUT_BYTES}
 use Rattle.printed_text.specs.Printing.{added_text}
 use Rattle.printed_text.proofs.Passing.{GoesThroughUpTo}
@@ -11,5 +11,5 @@ invariant-loop-place g l = record {
       (added_text (take l.place (told_members l.pool l.books.members)) (drop l.place (told_members l.pool l.books.members))) (history_text l.pool l.books.members);
   first : AreFirst l.place (told_members l.pool l.books.members) l.replayed.members;
   room : OUTPUT_BYTES ≤ vec_capacity l.buffer;
-  later : g.K.Sink.faults l.fn.sink ≤ g.K.Sink.faults l.sink;
+  kept : g.K.Sink.faults l.sink ≡ g.K.Sink.faults l.fn.sink;
 }

@@ -1,6 +1,6 @@
 use Rattle.setoff_model.proofs.Lists.{on_err}
 use Rattle.history_text.specs.Histories.{history_text}
-use Rattle.printed_text.proofs.Passing.{part_of_text}
+use Rattle.printed_text.proofs.Passing.{part_of_text, counted_later}
 use Rattle.history_text.proofs.Printed.{told_flushed, told_unflushed}
 use Rattle.history_text.proofs.history.print_whole.Goals as goal
 
@@ -17,3 +17,6 @@ returns-clause-ok g c =
 
 pub returns-clause-short : goal.returns-clause-short
 returns-clause-short g c = c.in_ok-done.ensures.short
+
+pub returns-in_err-flush-clause-cause : goal.returns-in_err-flush-clause-cause
+returns-in_err-flush-clause-cause g c = counted_later (g.K.Sink.faults c.args.sink.now) (g.K.Sink.faults c.print_replayed.new.sink) (g.K.Sink.faults c.flush.new.sink) _ c.from_residual-in_err-flush.result c.from_residual-in_err-flush.ensures.0 c.in_ok-done.ensures.cause.kept c.in_err-flush.ensures.cause

@@ -1,10 +1,12 @@
 use Rattle.std.specs.Io.KnownBytes.{Appends}
-use Rattle.std.proofs.Common.{◌≡◌, ◌∙◌, true, false, [], sym, arith}
+use Rattle.std.proofs.Common.{◌≡◌, ◌∙◌, true, false, [], sym, arith, refl, ◌∷◌}
 use Rattle.bureau_edge.specs.Streams.{AppendsPart}
 use Rattle.batch_runs.specs.Serving.{text_between}
-use Rattle.batch_runs.proofs.Printed.{at_err, at_ok}
+use Rattle.batch_runs.proofs.Printed.{at_err, at_ok, run_among}
 use Rattle.live_intake.specs.Live.{is_fence}
 use Rattle.live_runs.proofs.Going.{fence_only, serving_breaks, serving_ends, serving_more}
+use Rattle.printed_text.specs.declared.exit_status.ExitStatus.TheVariants as statuses
+use Rattle.printed_text.proofs.Statuses.{sink_told, told_behind, none_told, other_than}
 use Rattle.live_runs.proofs.serving.serve_input.Goals as goal
 
 -- ---- the sink failed
@@ -22,6 +24,10 @@ returns-then-is_err-clause-served g c =
     g.S.Source.left g.S.Source.faults now.desk one.result.0 now.source one.new.source now.intake one.new.intake now.tally one.new.tally y z one.result.1 one.result.2
     now.invariant.serving told one.ensures.later part
 
+pub returns-then-is_err-clause-write_fault : goal.returns-then-is_err-clause-write_fault
+returns-then-is_err-clause-write_fault g c =
+    told_behind _ _ _ _ c.loop-alloc.invariant.kept (sink_told _ _ (c.serve_next-after.ensures.cause.cause (sym c.is_err.ensures.value ∙ c.if-is_err.true)))
+
 -- ---- it took the text
 
 pub returns-then-not-by_fence-clause-served : goal.returns-then-not-by_fence-clause-served
@@ -37,6 +43,14 @@ returns-then-not-by_fence-clause-served g c =
     serving_ends g.D.Disk.seen (g.S.Source.left c.args.source.now) (g.S.Source.faults c.args.source.now) c.args.desk (g.K.Sink.held c.args.sink.now)
     g.S.Source.left g.S.Source.faults now.desk one.result.0 now.source one.new.source now.intake one.new.intake now.tally one.new.tally y z one.result.1 one.result.2
     now.invariant.serving told one.ensures.later ok c.status.result c.status.ensures off
+
+pub returns-then-not-by_fence-clause-write_fault : goal.returns-then-not-by_fence-clause-write_fault
+returns-then-not-by_fence-clause-write_fault g c =
+    let now = c.loop-alloc in
+    let one = c.serve_next-after in
+    let t = one.new.tally in
+    none_told _ _ _ (at_ok one.result.2 (g.K.Sink.faults one.new.sink ≡ g.K.Sink.faults now.sink) (sym c.is_err.ensures.value ∙ c.if-is_err.false) one.ensures.cause.kept ∙ now.invariant.kept)
+    (λ sink. other_than statuses.Sink (statuses.Done ∷ statuses.Disk ∷ statuses.Limit ∷ statuses.Memory ∷ []) _ refl (sym c.status.ensures ∙ sink) (run_among t.memory t.device t.full))
 
 pub loop-alloc-preserved : goal.loop-alloc-preserved
 loop-alloc-preserved g c =
@@ -56,5 +70,5 @@ loop-alloc-preserved g c =
       few = omega (arith, c.batches-in-loop-alloc.ensures.few, c.batches-in-loop-alloc.ensures.held, serving.limit_is);
       empty = at_ok one.result.2 (one.new.buffer.items ≡ []) kept one.ensures.emptied;
       room = one.ensures.room;
-      later = omega (arith, now.invariant.later, one.ensures.cause.later);
+      kept = at_ok one.result.2 (g.K.Sink.faults one.new.sink ≡ g.K.Sink.faults now.sink) kept one.ensures.cause.kept ∙ now.invariant.kept;
     }

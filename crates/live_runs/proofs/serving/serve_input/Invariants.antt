@@ -10,7 +10,7 @@ invariant-loop-alloc g l = record {
   few : l.intake.served ≤ MOST_INPUT_BYTES + 2;
   empty : l.buffer.items ≡ [];
   room : OUTPUT_BYTES ≤ vec_capacity l.buffer;
-  later : g.K.Sink.faults l.fn.sink ≤ g.K.Sink.faults l.sink;
+  kept : g.K.Sink.faults l.sink ≡ g.K.Sink.faults l.fn.sink;
 }
 
 abbrev pub decreases-loop-alloc : goal.decreases-loop-alloc

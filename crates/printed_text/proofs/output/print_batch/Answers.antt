@@ -1,7 +1,7 @@
-use Rattle.std.proofs.Common.{◌++◌, drop, take}
+use Rattle.std.proofs.Common.{◌++◌, drop, take, arith}
 use Rattle.printed_text.specs.Printing.{added_text, ends_text}
 use Rattle.setoff_model.proofs.Lists.{on_err}
-use Rattle.printed_text.proofs.Passing.{on_err_if, part_of_text, part_left, part_more, part_then, pass_flushed, pass_then}
+use Rattle.printed_text.proofs.Passing.{on_err_if, part_of_text, part_left, part_more, part_then, pass_flushed, pass_then, counted_later, counted_behind}
 use Rattle.printed_text.proofs.output.print_batch.Goals as goal
 
 pub returns-in_err-print_members-clause-part : goal.returns-in_err-print_members-clause-part
@@ -29,3 +29,9 @@ returns-clause-ok g c =
     let d = c.print_ends.new.buffer.items in
     let passes = pass_then x (g.K.Sink.held c.print_members.new.sink) z a c.print_members.new.buffer.items d added (ends_text c.args.answers.now) c.in_ok-print_members.ensures.ok c.in_ok-print_ends.ensures.ok in
     pass_flushed c.flush.result x z (g.K.Sink.held c.flush.new.sink) a d c.flush.new.buffer.items (added ++ ends_text c.args.answers.now) c.requires.empty passes c.flush.ensures.ok c.flush.ensures.emptied
+
+pub returns-in_err-print_ends-clause-cause : goal.returns-in_err-print_ends-clause-cause
+returns-in_err-print_ends-clause-cause g c = counted_later (g.K.Sink.faults c.args.sink.now) (g.K.Sink.faults c.print_members.new.sink) (g.K.Sink.faults c.print_ends.new.sink) _ c.from_residual-in_err-print_ends.result c.from_residual-in_err-print_ends.ensures.0 c.in_ok-print_members.ensures.cause.kept c.in_err-print_ends.ensures.cause
+
+pub returns-clause-cause : goal.returns-clause-cause
+returns-clause-cause g c = counted_behind (g.K.Sink.faults c.args.sink.now) (g.K.Sink.faults c.print_ends.new.sink) (g.K.Sink.faults c.flush.new.sink) c.flush.result (omega (arith, c.in_ok-print_ends.ensures.cause.kept, c.in_ok-print_members.ensures.cause.kept)) c.flush.ensures.cause

@@ -4,7 +4,7 @@ use Rattle.served_lines.specs.declared.answer.Answer.{Answer}
 use Rattle.served_lines.specs.declared.line_end.LineEnd.TheVariants as ends
 use Rattle.printed_text.specs.Printing.{end_text, ends_text}
 use Rattle.setoff_model.proofs.Lists.{on_err}
-use Rattle.printed_text.proofs.Passing.{GoesThroughUpTo, counted_later, up_begins, up_breaks, up_ends, up_more}
+use Rattle.printed_text.proofs.Passing.{GoesThroughUpTo, up_begins, up_breaks, up_ends, up_more, counted_later}
 use Rattle.printed_text.proofs.Printing.{ends_from}
 use Rattle.printed_text.proofs.output.print_ends.Goals as goal
 
@@ -31,14 +31,14 @@ loop-answer-preserved g c =
     record {
       passes = up_more (g.K.Sink.held c.args.sink.now) (g.K.Sink.held c.loop-answer.sink) (g.K.Sink.held c.print_end.new.sink) c.args.buffer.now.items c.loop-answer.buffer.items c.print_end.new.buffer.items (end_text a.line a.end) rest (ends_text answers) up c.in_ok-print_end.ensures.ok;
       room = c.in_ok-print_end.ensures.room;
-      later = omega (arith, c.loop-answer.invariant.later, c.in_ok-print_end.ensures.cause.later);
+      kept = omega (arith, c.loop-answer.invariant.kept, c.in_ok-print_end.ensures.cause.kept);
     }
 
 pub loop-answer-init : goal.loop-answer-init
 loop-answer-init g c = record {
   passes = up_begins (g.K.Sink.held c.args.sink.now) c.args.buffer.now.items (ends_text c.args.answers.now);
   room = c.requires.spare;
-  later = omega arith;
+  kept = omega arith;
 }
 
 pub returns-clause-ok : goal.returns-clause-ok
@@ -47,4 +47,4 @@ returns-clause-ok g c =
     (ap ends_text (drop_all c.loop-answer.answer-index c.args.answers.now c.loop-answer-test.false))
 
 pub returns-in_err-print_end-clause-cause : goal.returns-in_err-print_end-clause-cause
-returns-in_err-print_end-clause-cause g c = counted_later (g.K.Sink.faults c.args.sink.now) (g.K.Sink.faults c.loop-answer.sink) (g.K.Sink.faults c.print_end.new.sink) _ _ c.loop-answer.invariant.later c.in_err-print_end.ensures.cause
+returns-in_err-print_end-clause-cause g c = counted_later (g.K.Sink.faults c.args.sink.now) (g.K.Sink.faults c.loop-answer.sink) (g.K.Sink.faults c.print_end.new.sink) _ c.from_residual.result c.from_residual.ensures.0 c.loop-answer.invariant.kept c.in_err-print_end.ensures.cause

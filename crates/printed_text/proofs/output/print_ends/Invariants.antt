@@ -1,4 +1,4 @@
-use Rattle.std.proofs.Common.{◌≤◌, drop, vec_capacity}
+use Rattle.std.proofs.Common.{◌≡◌, ◌≤◌, drop, vec_capacity}
 use Rattle.setoff_model.specs.declared.limits.TheConstants.{OUTPUT_BYTES}
 use Rattle.printed_text.specs.Printing.{ends_text}
 use Rattle.printed_text.proofs.Passing.{GoesThroughUpTo}
@@ -8,5 +8,5 @@ abbrev pub invariant-loop-answer : goal.invariant-loop-answer
 invariant-loop-answer g l = record {
   passes : GoesThroughUpTo (g.K.Sink.held l.fn.sink) (g.K.Sink.held l.sink) l.fn.buffer.items l.buffer.items (ends_text (drop l.answer-index l.answers)) (ends_text l.answers);
   room : OUTPUT_BYTES ≤ vec_capacity l.buffer;
-  later : g.K.Sink.faults l.fn.sink ≤ g.K.Sink.faults l.sink;
+  kept : g.K.Sink.faults l.sink ≡ g.K.Sink.faults l.fn.sink;
 }

@@ -3,7 +3,7 @@ use Rattle.claim_history.specs.Pools.{member_of}
 use Rattle.entry_text.specs.Entries.{entry_line}
 use Rattle.printed_text.specs.Printing.{statement_of}
 use Rattle.setoff_model.proofs.Lists.{on_err}
-use Rattle.printed_text.proofs.Passing.{on_err_if, on_ok_if, part_then, pass_then}
+use Rattle.printed_text.proofs.Passing.{on_err_if, on_ok_if, part_then, pass_then, counted_behind}
 use Rattle.printed_text.proofs.Printing.{breaks_at_first}
 use Rattle.std.proofs.Common.{◌++◌, refl}
 use Rattle.printed_text.proofs.output.print_member.Goals as goal
@@ -28,3 +28,6 @@ returns-clause-part g c =
     let line = entry_line (member_of c.args.pool.now e) in
     let statement = statement_of (slice_get c.args.rounds.now c.args.next) e.act e.reply in
     on_err_if c.print_publication.result _ _ (λ h. part_then (g.K.Sink.held c.args.sink.now) (g.K.Sink.held c.print_entry.new.sink) (g.K.Sink.held c.print_publication.new.sink) c.args.buffer.now.items c.print_entry.new.buffer.items line statement c.in_ok-print_entry.ensures.ok h) c.print_publication.ensures.part
+
+pub returns-clause-cause : goal.returns-clause-cause
+returns-clause-cause g c = counted_behind (g.K.Sink.faults c.args.sink.now) (g.K.Sink.faults c.print_entry.new.sink) (g.K.Sink.faults c.print_publication.new.sink) c.print_publication.result c.in_ok-print_entry.ensures.cause.kept c.print_publication.ensures.cause

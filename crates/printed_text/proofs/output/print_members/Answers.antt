@@ -8,7 +8,7 @@ use Rattle.claim_history.specs.Pools.{member_of}
 use Rattle.bureau_edge.specs.Streams.{AppendsPart}
 use Rattle.printed_text.specs.Writing.{GoesThrough}
 use Rattle.printed_text.specs.Printing.{added_text, member_text, rounds_in}
-use Rattle.printed_text.proofs.Passing.{GoesThroughUpTo, counted_later, up_begins, up_breaks, up_ends, up_more}
+use Rattle.printed_text.proofs.Passing.{GoesThroughUpTo, up_begins, up_breaks, up_ends, up_more, counted_later}
 use Rattle.printed_text.proofs.Members.{IsNext, act_valid, added_from, member_text_is, next_more, none_first, published_at, reply_in_range}
 use Rattle.printed_text.proofs.output.print_members.Goals as goal
 
@@ -51,7 +51,7 @@ loop-place-init g c = record {
   next_is = sym (ap (λ (cuts : List CutView). length cuts) (none_first c.args.from c.args.books.now.members));
   from = omega arith;
   room = c.requires.spare;
-  later = omega arith;
+  kept = omega arith;
 }
 
 pub loop-place-preserved : goal.loop-place-preserved
@@ -74,7 +74,7 @@ loop-place-preserved g c =
       next_is = c.in_ok-next.ensures.next ∙ ap (λ (n : ℕ). n + rounds_in m.entry.reply) c.loop-place.invariant.next_is ∙ sym (next_more c.args.rounds.now c.loop-place.next c.args.from h i m c.member-pool.ensures c.loop-place.invariant.from publication);
       from = omega (arith, c.loop-place.invariant.from);
       room = c.in_ok-next.ensures.room;
-      later = omega (arith, c.loop-place.invariant.later, c.in_ok-next.ensures.cause.later);
+      kept = omega (arith, c.loop-place.invariant.kept, c.in_ok-next.ensures.cause.kept);
     }
 
 pub returns-clause-ok : goal.returns-clause-ok
@@ -85,4 +85,4 @@ returns-clause-ok g c =
     (ap (λ (rest : List PoolEntry). added_text (take i h) rest) (drop_all i h (omega (arith, c.loop-place-test.false, c.len-len.ensures.len))))
 
 pub returns-in_err-next-clause-cause : goal.returns-in_err-next-clause-cause
-returns-in_err-next-clause-cause g c = counted_later (g.K.Sink.faults c.args.sink.now) (g.K.Sink.faults c.loop-place.sink) (g.K.Sink.faults c.print_member.new.sink) _ _ c.loop-place.invariant.later c.in_err-next.ensures.cause
+returns-in_err-next-clause-cause g c = counted_later (g.K.Sink.faults c.args.sink.now) (g.K.Sink.faults c.loop-place.sink) (g.K.Sink.faults c.print_member.new.sink) _ c.from_residual.result c.from_residual.ensures.0 c.loop-place.invariant.kept c.in_err-next.ensures.cause

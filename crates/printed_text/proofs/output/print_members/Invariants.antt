@@ -11,5 +11,5 @@ invariant-loop-place g l = record {
   next_is : l.next ≡ length (cuts_after l.from (take l.place l.books.members));
   from : l.from ≤ l.place;
   room : OUTPUT_BYTES ≤ vec_capacity l.buffer;
-  later : g.K.Sink.faults l.fn.sink ≤ g.K.Sink.faults l.sink;
+  kept : g.K.Sink.faults l.sink ≡ g.K.Sink.faults l.fn.sink;
 }

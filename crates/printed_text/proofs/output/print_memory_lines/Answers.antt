@@ -4,7 +4,7 @@ use Rattle.request_text.specs.declared.request.Request.{Request}
 use Rattle.served_lines.specs.declared.line_end.LineEnd.TheVariants as ends
 use Rattle.printed_text.specs.Printing.{end_text, ends_text, unanswered}
 use Rattle.setoff_model.proofs.Lists.{on_err}
-use Rattle.printed_text.proofs.Passing.{GoesThroughUpTo, counted_later, up_begins, up_breaks, up_ends, up_more}
+use Rattle.printed_text.proofs.Passing.{GoesThroughUpTo, up_begins, up_breaks, up_ends, up_more, counted_later}
 use Rattle.printed_text.proofs.Printing.{unanswered_from}
 use Rattle.printed_text.proofs.output.print_memory_lines.Goals as goal
 
@@ -31,14 +31,14 @@ loop-request-preserved g c =
     record {
       passes = up_more (g.K.Sink.held c.args.sink.now) (g.K.Sink.held c.loop-request.sink) (g.K.Sink.held c.print_end.new.sink) c.args.buffer.now.items c.loop-request.buffer.items c.print_end.new.buffer.items (end_text r.line ends.Memory) rest (ends_text (unanswered requests)) up c.in_ok-print_end.ensures.ok;
       room = c.in_ok-print_end.ensures.room;
-      later = omega (arith, c.loop-request.invariant.later, c.in_ok-print_end.ensures.cause.later);
+      kept = omega (arith, c.loop-request.invariant.kept, c.in_ok-print_end.ensures.cause.kept);
     }
 
 pub loop-request-init : goal.loop-request-init
 loop-request-init g c = record {
   passes = up_begins (g.K.Sink.held c.args.sink.now) c.args.buffer.now.items (ends_text (unanswered c.args.requests.now));
   room = c.requires.spare;
-  later = omega arith;
+  kept = omega arith;
 }
 
 pub returns-clause-ok : goal.returns-clause-ok
@@ -47,4 +47,4 @@ returns-clause-ok g c =
     (ap (λ (left : List Request). ends_text (unanswered left)) (drop_all c.loop-request.request-index c.args.requests.now c.loop-request-test.false))
 
 pub returns-in_err-print_end-clause-cause : goal.returns-in_err-print_end-clause-cause
-returns-in_err-print_end-clause-cause g c = counted_later (g.K.Sink.faults c.args.sink.now) (g.K.Sink.faults c.loop-request.sink) (g.K.Sink.faults c.print_end.new.sink) _ _ c.loop-request.invariant.later c.in_err-print_end.ensures.cause
+returns-in_err-print_end-clause-cause g c = counted_later (g.K.Sink.faults c.args.sink.now) (g.K.Sink.faults c.loop-request.sink) (g.K.Sink.faults c.print_end.new.sink) _ c.from_residual.result c.from_residual.ensures.0 c.loop-request.invariant.kept c.in_err-print_end.ensures.cause

@@ -2,7 +2,7 @@ use Rattle.std.proofs.Common.{◌≡◌, ◌+◌, ◌-◌, List, ℕ, subst, ari
 use Rattle.served_lines.specs.declared.line_end.LineEnd.TheVariants as ends
 use Rattle.printed_text.specs.Printing.{end_text, ends_text, unanswered_lines}
 use Rattle.setoff_model.proofs.Lists.{on_err}
-use Rattle.printed_text.proofs.Passing.{GoesThroughUpTo, counted_later, up_begins, up_breaks, up_ends, up_more}
+use Rattle.printed_text.proofs.Passing.{GoesThroughUpTo, up_begins, up_breaks, up_ends, up_more, counted_later}
 use Rattle.printed_text.proofs.Printing.{lines_from, lines_none}
 use Rattle.printed_text.proofs.output.print_memory_range.Goals as goal
 
@@ -25,7 +25,7 @@ loop-line-preserved g c =
     record {
       passes = up_more (g.K.Sink.held c.args.sink.now) (g.K.Sink.held c.loop-line.sink) (g.K.Sink.held c.print_end.new.sink) c.args.buffer.now.items c.loop-line.buffer.items c.print_end.new.buffer.items (end_text n ends.Memory) rest all up c.in_ok-print_end.ensures.ok;
       room = c.in_ok-print_end.ensures.room;
-      later = omega (arith, c.loop-line.invariant.later, c.in_ok-print_end.ensures.cause.later);
+      kept = omega (arith, c.loop-line.invariant.kept, c.in_ok-print_end.ensures.cause.kept);
     }
 
 pub loop-line-init : goal.loop-line-init
@@ -37,7 +37,7 @@ loop-line-init g c =
     record {
       passes = subst (λ (k : ℕ). GoesThroughUpTo x x a a (ends_text (unanswered_lines c.args.first k)) all) same (up_begins x a all);
       room = c.requires.spare;
-      later = omega arith;
+      kept = omega arith;
     }
 
 pub returns-clause-ok : goal.returns-clause-ok
@@ -46,4 +46,4 @@ returns-clause-ok g c =
     (lines_none c.loop-line.line (c.args.first + c.args.count) c.loop-line-test.false)
 
 pub returns-in_err-print_end-clause-cause : goal.returns-in_err-print_end-clause-cause
-returns-in_err-print_end-clause-cause g c = counted_later (g.K.Sink.faults c.args.sink.now) (g.K.Sink.faults c.loop-line.sink) (g.K.Sink.faults c.print_end.new.sink) _ _ c.loop-line.invariant.later c.in_err-print_end.ensures.cause
+returns-in_err-print_end-clause-cause g c = counted_later (g.K.Sink.faults c.args.sink.now) (g.K.Sink.faults c.loop-line.sink) (g.K.Sink.faults c.print_end.new.sink) _ c.from_residual.result c.from_residual.ensures.0 c.loop-line.invariant.kept c.in_err-print_end.ensures.cause

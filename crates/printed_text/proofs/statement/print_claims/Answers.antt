@@ -5,7 +5,7 @@ use Rattle.setoff_model.proofs.Columns.{no_claim}
 use Rattle.statement_text.specs.Statements.{claim_line, claim_lines}
 use Rattle.printed_text.specs.Printing.{line_bytes, lines_bytes}
 use Rattle.setoff_model.proofs.Lists.{on_err}
-use Rattle.printed_text.proofs.Passing.{GoesThroughUpTo, counted_later, up_begins, up_breaks, up_ends, up_more}
+use Rattle.printed_text.proofs.Passing.{GoesThroughUpTo, up_begins, up_breaks, up_ends, up_more, counted_later}
 use Rattle.printed_text.proofs.Printing.{claims_from}
 use Rattle.printed_text.proofs.statement.print_claims.Goals as goal
 
@@ -34,14 +34,14 @@ loop-i-preserved g c =
     record {
       passes = up_more (g.K.Sink.held c.args.sink.now) (g.K.Sink.held c.loop-i.sink) (g.K.Sink.held c.print_claim.new.sink) c.args.buffer.now.items c.loop-i.buffer.items c.print_claim.new.buffer.items one rest (lines_bytes (claim_lines fs cs ds)) up (c.in_ok-print_claim.ensures.ok no_claim);
       room = c.in_ok-print_claim.ensures.room;
-      later = omega (arith, c.loop-i.invariant.later, c.in_ok-print_claim.ensures.cause.later);
+      kept = omega (arith, c.loop-i.invariant.kept, c.in_ok-print_claim.ensures.cause.kept);
     }
 
 pub loop-i-init : goal.loop-i-init
 loop-i-init g c = record {
   passes = up_begins (g.K.Sink.held c.args.sink.now) c.args.buffer.now.items (lines_bytes (claim_lines c.args.cut.now.parties c.args.cut.now.claims c.args.discharges.now));
   room = c.requires.spare;
-  later = omega arith;
+  kept = omega arith;
 }
 
 pub returns-clause-ok : goal.returns-clause-ok
@@ -54,4 +54,4 @@ returns-clause-ok g c =
     (ap (λ (rest : List CutClaim). lines_bytes (claim_lines fs rest (drop i ds))) (drop_all i cs (omega (arith, c.loop-i-test.false, c.requires.discharge_each))))
 
 pub returns-in_err-print_claim-clause-cause : goal.returns-in_err-print_claim-clause-cause
-returns-in_err-print_claim-clause-cause g c = counted_later (g.K.Sink.faults c.args.sink.now) (g.K.Sink.faults c.loop-i.sink) (g.K.Sink.faults c.print_claim.new.sink) _ _ c.loop-i.invariant.later c.in_err-print_claim.ensures.cause
+returns-in_err-print_claim-clause-cause g c = counted_later (g.K.Sink.faults c.args.sink.now) (g.K.Sink.faults c.loop-i.sink) (g.K.Sink.faults c.print_claim.new.sink) _ c.from_residual.result c.from_residual.ensures.0 c.loop-i.invariant.kept c.in_err-print_claim.ensures.cause

@@ -11,7 +11,7 @@ use Rattle.statement_text.specs.declared.line.Line.TheVariants as line
 use Rattle.statement_text.specs.Statements.{party_lines}
 use Rattle.printed_text.specs.Printing.{line_bytes, lines_bytes}
 use Rattle.setoff_model.proofs.Lists.{on_err}
-use Rattle.printed_text.proofs.Passing.{GoesThroughUpTo, counted_later, up_begins, up_breaks, up_ends, up_more}
+use Rattle.printed_text.proofs.Passing.{GoesThroughUpTo, up_begins, up_breaks, up_ends, up_more, counted_later}
 use Rattle.printed_text.proofs.Printing.{parties_from}
 use Rattle.printed_text.proofs.statement.print_parties.Goals as goal
 
@@ -44,14 +44,14 @@ loop-i-preserved g c =
       passes = up_more (g.K.Sink.held c.args.sink.now) (g.K.Sink.held c.loop-i.sink) (g.K.Sink.held c.print_party.new.sink) c.args.buffer.now.items c.loop-i.buffer.items c.print_party.new.buffer.items (line_bytes (line.Party c.index-parties-i.result price)) rest (lines_bytes (party_lines fs ps)) up
           (subst (λ (p : ℤ). GoesThrough (g.K.Sink.held c.loop-i.sink) (g.K.Sink.held c.print_party.new.sink) c.loop-i.buffer.items c.print_party.new.buffer.items (line_bytes (line.Party c.index-parties-i.result p))) (to_z-of_z w64 price fits) c.in_ok-print_party.ensures.ok);
       room = c.in_ok-print_party.ensures.room;
-      later = omega (arith, c.loop-i.invariant.later, c.in_ok-print_party.ensures.cause.later);
+      kept = omega (arith, c.loop-i.invariant.kept, c.in_ok-print_party.ensures.cause.kept);
     }
 
 pub loop-i-init : goal.loop-i-init
 loop-i-init g c = record {
   passes = up_begins (g.K.Sink.held c.args.sink.now) c.args.buffer.now.items (lines_bytes (party_lines c.args.parties.now c.args.prices.now));
   room = c.requires.spare;
-  later = omega arith;
+  kept = omega arith;
 }
 
 pub returns-clause-ok : goal.returns-clause-ok
@@ -60,4 +60,4 @@ returns-clause-ok g c =
     (ap (λ (fs : List Party). lines_bytes (party_lines fs (drop c.loop-i.i c.args.prices.now))) (drop_all c.loop-i.i c.args.parties.now c.loop-i-test.false))
 
 pub returns-in_err-print_party-clause-cause : goal.returns-in_err-print_party-clause-cause
-returns-in_err-print_party-clause-cause g c = counted_later (g.K.Sink.faults c.args.sink.now) (g.K.Sink.faults c.loop-i.sink) (g.K.Sink.faults c.print_party.new.sink) _ _ c.loop-i.invariant.later c.in_err-print_party.ensures.cause
+returns-in_err-print_party-clause-cause g c = counted_later (g.K.Sink.faults c.args.sink.now) (g.K.Sink.faults c.loop-i.sink) (g.K.Sink.faults c.print_party.new.sink) _ c.from_residual.result c.from_residual.ensures.0 c.loop-i.invariant.kept c.in_err-print_party.ensures.cause

@@ -1,11 +1,11 @@
-use Rattle.std.proofs.Common.{◌≡◌, ℕ, ◌<◌, ◌≤◌, ◌^◌, ◌++◌, All, refl, sym, subst}
+use Rattle.std.proofs.Common.{◌≡◌, ℕ, ◌<◌, ◌≤◌, ◌^◌, ◌++◌, All, refl, sym, subst, arith}
 use Rattle.std.specs.Prelude.{unsigned_abs}
 use Rattle.setoff_model.specs.declared.limits.TheConstants.{SUM_LIMIT, MOST_WINDOW}
 use Rattle.statement_text.specs.declared.line.Line.TheVariants as line
 use Rattle.statement_text.specs.Statements.{party_lines, claim_lines, statement_bytes}
 use Rattle.printed_text.specs.Printing.{line_bytes, lines_bytes}
 use Rattle.setoff_model.proofs.Lists.{on_err}
-use Rattle.printed_text.proofs.Passing.{on_err_if, on_ok_if}
+use Rattle.printed_text.proofs.Passing.{on_err_if, on_ok_if, counted_later, counted_behind}
 use Rattle.printed_text.proofs.Printing.{spends_fit, rooms_fit, prices_fit, price_each, discharges_fit, discharge_each, statement_of_lists, four_pass, breaks_at_first, breaks_at_second, breaks_at_third, breaks_at_fourth}
 use Rattle.printed_text.proofs.statement.print_statement.Goals as goal
 
@@ -90,3 +90,12 @@ returns-clause-part g c =
     let all = statement_bytes cut outcome in
     let is : all ≡ head ++ (parties ++ (claims ++ end)) = statement_of_lists cut outcome c.parties.result.now c.prices.result.now c.discharges.result.now c.parties.ensures c.prices.ensures c.discharges.ensures in
     on_err_if c.print_end.result _ _ (λ h. breaks_at_fourth (g.K.Sink.held c.args.sink.now) (g.K.Sink.held c.print_head.new.sink) (g.K.Sink.held c.print_parties.new.sink) (g.K.Sink.held c.print_claims.new.sink) (g.K.Sink.held c.print_end.new.sink) c.args.buffer.now.items c.print_head.new.buffer.items c.print_parties.new.buffer.items c.print_claims.new.buffer.items head parties claims end all is c.in_ok-print_head.ensures.ok c.in_ok-print_parties.ensures.ok c.in_ok-print_claims.ensures.ok h) c.print_end.ensures.part
+
+pub returns-in_err-print_parties-clause-cause : goal.returns-in_err-print_parties-clause-cause
+returns-in_err-print_parties-clause-cause g c = counted_later (g.K.Sink.faults c.args.sink.now) (g.K.Sink.faults c.print_head.new.sink) (g.K.Sink.faults c.print_parties.new.sink) _ c.from_residual-in_err-print_parties.result c.from_residual-in_err-print_parties.ensures.0 c.in_ok-print_head.ensures.cause.kept c.in_err-print_parties.ensures.cause
+
+pub returns-in_err-print_claims-clause-cause : goal.returns-in_err-print_claims-clause-cause
+returns-in_err-print_claims-clause-cause g c = counted_later (g.K.Sink.faults c.args.sink.now) (g.K.Sink.faults c.print_parties.new.sink) (g.K.Sink.faults c.print_claims.new.sink) _ c.from_residual-in_err-print_claims.result c.from_residual-in_err-print_claims.ensures.0 (omega (arith, c.in_ok-print_parties.ensures.cause.kept, c.in_ok-print_head.ensures.cause.kept)) c.in_err-print_claims.ensures.cause
+
+pub returns-clause-cause : goal.returns-clause-cause
+returns-clause-cause g c = counted_behind (g.K.Sink.faults c.args.sink.now) (g.K.Sink.faults c.print_claims.new.sink) (g.K.Sink.faults c.print_end.new.sink) c.print_end.result (omega (arith, c.in_ok-print_claims.ensures.cause.kept, c.in_ok-print_parties.ensures.cause.kept, c.in_ok-print_head.ensures.cause.kept)) c.print_end.ensures.cause
