@@ -1,0 +1,5 @@
+mod Words
+mod Replies
+mod Lines
+mod Statements
+mod Texts
