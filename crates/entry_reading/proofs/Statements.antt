@@ -23,7 +23,7 @@ use Rattle.entry_reading.proofs.Lines.{NoFeed, line_both, parts_at, word_no_feed
 -- ---- the last field of a line
 
 -- a text up to a line feed, and what is behind it
-cut_at_feed : (a b rest other : List ℕ) → All NoFeed a → All NoFeed b → a ++ 10 ∷ rest ≡ b ++ 10 ∷ other → (a ≡ b) × (rest ≡ other)
+pub cut_at_feed : (a b rest other : List ℕ) → All NoFeed a → All NoFeed b → a ++ 10 ∷ rest ≡ b ++ 10 ∷ other → (a ≡ b) × (rest ≡ other)
 cut_at_feed a b rest other h k e =
     let cuts : a ∷ slice_split feed rest ≡ b ∷ slice_split feed other = sym (slice_split_at feed a 10 rest h refl) ∙ ap (slice_split feed) e ∙ slice_split_at feed b 10 other k refl in (
       ap (parts_at 0) cuts,

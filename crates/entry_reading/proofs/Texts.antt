@@ -1,11 +1,12 @@
--- The printed text of a batch fixes its entries.
+-- The printed text of batches fixes their entries.
 use Rattle.std.specs.Prelude.{codes, decimal, slice_get, reverse, if◌then◌else◌, Option, Some, ◌⊎◌}
 use Rattle.std.specs.Option.{option_map}
-use Rattle.std.specs.List.{AllZip}
-use Rattle.std.proofs.Common.{◌≡◌, ◌∙◌, ⊎_elim, inl, inr, ℕ, Bool, true, false, not, ◌&&◌, List, [], ◌∷◌, ◌++◌, length, get_or, take, All, refl, sym, ap, ap₂, subst, true≢false, append_assoc, length-append, arith}
-use Rattle.std.proofs.lemmas.Bool.{cases_Bool}
+use Rattle.std.specs.List.{AllZip, list_all, slice_index_or}
+use Rattle.std.proofs.Common.{◌≡◌, ◌∙◌, ⊎_elim, inl, inr, ℕ, ◌<◌, ◌^◌, Bool, true, false, not, ◌&&◌, List, [], ◌∷◌, ◌++◌, length, get_or, take, drop, All, refl, sym, ap, ap₂, subst, subst₂, true≢false, append_assoc, length-append, arith}
+use Rattle.std.proofs.lemmas.Bool.{cases_Bool, not-true}
 use Rattle.std.proofs.lemmas.List.{append-nil, reverse-append}
-use Rattle.std.proofs.lemmas.List.Elements.{All-head, All-tail}
+use Rattle.std.proofs.lemmas.List.Elements.{All-append, All-head, All-tail}
+use Rattle.std.proofs.lemmas.List.Sums.{AllPass-from_list_all}
 use Rattle.std.proofs.lemmas.Option.{same_Some, slice_get-get_or}
 use Rattle.std.proofs.Math.Seq.{get_or-append_seam, take-append_seam}
 use Rattle.setoff_model.specs.CutView.{CutView, OutcomeView}
@@ -27,6 +28,10 @@ use Rattle.claim_history.specs.PoolRounds.{open_cut_in}
 use Rattle.claim_history.proofs.Pasts.{legal_first}
 use Rattle.claim_history.proofs.Pools.{in_append, legal_in, past_own}
 use Rattle.claim_history.proofs.Replies.{publishes}
+use Rattle.limited_book.specs.declared.room.Room.{Room}
+use Rattle.limited_book.specs.declared.room.Room.TheVariants.{Entries, Bytes}
+use Rattle.text_lines.proofs.Cutting.{feed}
+use Rattle.text_lines.proofs.Visible.{visible_law}
 use Rattle.statement_text.specs.Statements.{statement_bytes}
 use Rattle.served_lines.specs.declared.answer.Answer.{Answer}
 use Rattle.served_lines.specs.declared.line_end.LineEnd.{LineEnd}
@@ -34,13 +39,15 @@ use Rattle.served_lines.specs.declared.line_end.LineEnd.TheVariants as ends
 use Rattle.entry_text.specs.Entries.{entry_line, entry_text}
 use Rattle.request_text.specs.Pools.{pool_text}
 use Rattle.printed_text.specs.Printing.{IsPrintable, added_text, end_text, ends_text, member_text, rounds_in, statement_of}
+use Rattle.printed_text.specs.Texts.{room_text}
 use Rattle.printed_text.proofs.Printing.{none_stated}
+use Rattle.batch_runs.specs.Runs.{Done, all_added, text_of}
 use Rattle.history_text.proofs.Stated.{stated}
 use Rattle.entry_reading.specs.Shown.{IsEntry, ShowSame, shown_act}
-use Rattle.entry_reading.specs.Texts.{MayBeAdded, ReadSame, TextLaw, is_untold}
-use Rattle.entry_reading.proofs.Lines.{line_law}
+use Rattle.entry_reading.specs.Texts.{IsToldEnd, MayBeAdded, ReadSame, TextLaw, is_untold}
+use Rattle.entry_reading.proofs.Lines.{NoFeed, line_law, word_no_feed}
 use Rattle.entry_reading.proofs.Replies.{Digit, digits}
-use Rattle.entry_reading.proofs.Statements.{statement_fixes}
+use Rattle.entry_reading.proofs.Statements.{cut_at_feed, statement_fixes}
 
 -- ---- what a publication says of its history
 
@@ -213,37 +220,196 @@ module _ (before other a b : List PoolEntry) (m n : PoolEntry) (same : SameState
       (sym (append_assoc (entry_line m) (stated_text m before) rest) ∙ e ∙ append_assoc (entry_line n) (stated_text n other) more) in
       ⊎_elim (λ p. both_published rest more line.0 p line.1) (λ none. none_published rest more line.0 none line.1) (published_or m.entry.reply)
 
--- ---- the end of a batch
+-- ---- lines of batches that have no entry
 
--- it begins with `!`, or there is none
-abbrev IsEnd : List ℕ → Type 0
-IsEnd text = (text ≡ []) ⊎ ((more : List ℕ) × (text ≡ 33 ∷ more))
+-- a line that begins with `!`, with its line feed
+record IsMark (text : List ℕ) : Type 0 where
+  more : List ℕ
+  is : text ≡ 33 ∷ (more ++ 10 ∷ [])
+  no_feed : All NoFeed more
 
-end_kind : (line : ℕ) (end : LineEnd) (rest : List ℕ) → IsEnd rest → IsEnd (end_text line end ++ rest)
-end_kind line ends.Replied rest h = h
-end_kind line ends.Memory rest h = inr (_, refl)
-end_kind line (ends.Full what needed limit) rest h = inr (_, refl)
+abbrev marks_at : ℕ → LineEnd → List (List ℕ)
+marks_at line ends.Replied = []
+marks_at line ends.Memory = end_text line ends.Memory ∷ []
+marks_at line (ends.Full what needed limit) = end_text line (ends.Full what needed limit) ∷ []
 
-is_end : (answers : List Answer) → IsEnd (ends_text answers)
-is_end [] = inl refl
-is_end (answer ∷ answers) = end_kind answer.line answer.end (ends_text answers) (is_end answers)
+number_no_feed : (n : ℕ) → n < 2 ^ 64 → All NoFeed (decimal n)
+number_no_feed n lt = word_no_feed (decimal n) (visible_law.whole n lt)
 
--- a text that begins with digits and a space
+known_no_feed : (text : List ℕ) → list_all (λ b. not (feed b)) text ≡ true → All NoFeed text
+known_no_feed text h = λ k d lt. not-true (feed (slice_index_or text k d)) (AllPass-from_list_all (λ b. not (feed b)) text h k d lt)
+
+both : (a b : List ℕ) → All NoFeed a → All NoFeed b → All NoFeed (a ++ b)
+both a b h k = All-append NoFeed a b h k
+
+room_no_feed : (what : Room) → All NoFeed (room_text what)
+room_no_feed Entries = known_no_feed (codes "entries") refl
+room_no_feed Bytes = known_no_feed (codes "bytes") refl
+
+memory_mark : (line : ℕ) → line < 2 ^ 64 → IsMark (end_text line ends.Memory)
+memory_mark line h = record {
+  more = codes " line " ++ decimal line ++ codes " memory";
+  is = simp append_assoc;
+  no_feed = both (codes " line " ++ decimal line) (codes " memory") (both (codes " line ") (decimal line) (known_no_feed (codes " line ") refl) (number_no_feed line h)) (known_no_feed (codes " memory") refl);
+}
+
+abbrev full_words : List ℕ → List ℕ → List ℕ → List ℕ → List ℕ
+full_words line what needed limit = codes " line " ++ line ++ codes " full " ++ what ++ codes " " ++ needed ++ codes " " ++ limit
+
+full_is : (line what needed limit : List ℕ) → codes "! line " ++ line ++ codes " full " ++ what ++ codes " " ++ needed ++ codes " " ++ limit ++ codes "\n" ≡ 33 ∷ (full_words line what needed limit ++ 10 ∷ [])
+full_is line what needed limit = simp append_assoc
+
+full_no_feed : (line what needed limit : List ℕ) → All NoFeed line → All NoFeed what → All NoFeed needed → All NoFeed limit → All NoFeed (full_words line what needed limit)
+full_no_feed line what needed limit a b c d =
+    let one = both (codes " line ") line (known_no_feed (codes " line ") refl) a in
+    let two = both (codes " line " ++ line) (codes " full ") one (known_no_feed (codes " full ") refl) in
+    let three = both (codes " line " ++ line ++ codes " full ") what two b in
+    let four = both (codes " line " ++ line ++ codes " full " ++ what) (codes " ") three (known_no_feed (codes " ") refl) in
+    let five = both (codes " line " ++ line ++ codes " full " ++ what ++ codes " ") needed four c in
+    let six = both (codes " line " ++ line ++ codes " full " ++ what ++ codes " " ++ needed) (codes " ") five (known_no_feed (codes " ") refl) in
+    both (codes " line " ++ line ++ codes " full " ++ what ++ codes " " ++ needed ++ codes " ") limit six d
+
+full_mark : (line : ℕ) (what : Room) (needed limit : ℕ) → line < 2 ^ 64 → needed < 2 ^ 64 → limit < 2 ^ 64 → IsMark (end_text line (ends.Full what needed limit))
+full_mark line what needed limit a c d = record {
+  more = full_words (decimal line) (room_text what) (decimal needed) (decimal limit);
+  is = full_is (decimal line) (room_text what) (decimal needed) (decimal limit);
+  no_feed = full_no_feed (decimal line) (room_text what) (decimal needed) (decimal limit) (number_no_feed line a) (room_no_feed what) (number_no_feed needed c) (number_no_feed limit d);
+}
+
+-- ---- pieces of a text: members, and such lines
+
+data Piece : Type 0 where
+  member : PoolEntry → Piece
+  mark : List ℕ → Piece
+
+abbrev pieces_text : List PoolEntry → List Piece → List ℕ
+pieces_text before [] = []
+pieces_text before (member m ∷ ps) = member_text before m ++ pieces_text (before ++ m ∷ []) ps
+pieces_text before (mark text ∷ ps) = text ++ pieces_text before ps
+
+abbrev members_of : List Piece → List PoolEntry
+members_of [] = []
+members_of (member m ∷ ps) = m ∷ members_of ps
+members_of (mark text ∷ ps) = members_of ps
+
+abbrev AreMarked : List Piece → Type 0
+AreMarked [] = Unit {0}
+AreMarked (member m ∷ ps) = AreMarked ps
+AreMarked (mark text ∷ ps) = IsMark text × AreMarked ps
+
+abbrev marks_before : List (List ℕ) → List Piece → List Piece
+marks_before [] ps = ps
+marks_before (text ∷ texts) ps = mark text ∷ marks_before texts ps
+
+abbrev answers_before : List Answer → List Piece → List Piece
+answers_before [] ps = ps
+answers_before (answer ∷ answers) ps = marks_before (marks_at answer.line answer.end) (answers_before answers ps)
+
+abbrev members_before : List PoolEntry → List Piece → List Piece
+members_before [] ps = ps
+members_before (m ∷ ms) ps = member m ∷ members_before ms ps
+
+abbrev pieces_of : List Done → List Piece
+pieces_of [] = []
+pieces_of (b ∷ bs) = members_before b.added (answers_before b.answers (pieces_of bs))
+
+-- ---- the text of batches, in pieces
+
+marks_flat : (before : List PoolEntry) (line : ℕ) (end : LineEnd) (ps : List Piece) → pieces_text before (marks_before (marks_at line end) ps) ≡ end_text line end ++ pieces_text before ps
+marks_flat before line ends.Replied ps = refl
+marks_flat before line ends.Memory ps = refl
+marks_flat before line (ends.Full what needed limit) ps = refl
+
+answers_flat : (before : List PoolEntry) (answers : List Answer) (ps : List Piece) → pieces_text before (answers_before answers ps) ≡ ends_text answers ++ pieces_text before ps
+answers_flat before [] ps = refl
+answers_flat before (a ∷ answers) ps =
+    marks_flat before a.line a.end (answers_before answers ps) ∙ ap (λ (t : List ℕ). end_text a.line a.end ++ t) (answers_flat before answers ps)
+    ∙ sym (append_assoc (end_text a.line a.end) (ends_text answers) (pieces_text before ps))
+
+members_flat : (before ms : List PoolEntry) (ps : List Piece) → pieces_text before (members_before ms ps) ≡ added_text before ms ++ pieces_text (before ++ ms) ps
+members_flat before [] ps = ap (λ (h : List PoolEntry). pieces_text h ps) (sym (append-nil before))
+members_flat before (m ∷ ms) ps =
+    ap (λ (t : List ℕ). member_text before m ++ t)
+    (members_flat (before ++ m ∷ []) ms ps ∙ ap (λ (h : List PoolEntry). added_text (before ++ m ∷ []) ms ++ pieces_text h ps) (append_assoc before (m ∷ []) ms))
+    ∙ sym (append_assoc (member_text before m) (added_text (before ++ m ∷ []) ms) (pieces_text (before ++ m ∷ ms) ps))
+
+pieces_flat : (before : List PoolEntry) (done : List Done) → pieces_text before (pieces_of done) ≡ text_of before done
+pieces_flat before [] = refl
+pieces_flat before (b ∷ bs) =
+    members_flat before b.added (answers_before b.answers (pieces_of bs))
+    ∙ ap (λ (t : List ℕ). added_text before b.added ++ t)
+    (answers_flat (before ++ b.added) b.answers (pieces_of bs) ∙ ap (λ (t : List ℕ). ends_text b.answers ++ t) (pieces_flat (before ++ b.added) bs))
+    ∙ sym (append_assoc (added_text before b.added) (ends_text b.answers) (text_of (before ++ b.added) bs))
+
+members_marks : (texts : List (List ℕ)) (ps : List Piece) → members_of (marks_before texts ps) ≡ members_of ps
+members_marks [] ps = refl
+members_marks (text ∷ texts) ps = members_marks texts ps
+
+members_answers : (answers : List Answer) (ps : List Piece) → members_of (answers_before answers ps) ≡ members_of ps
+members_answers [] ps = refl
+members_answers (a ∷ answers) ps = members_marks (marks_at a.line a.end) (answers_before answers ps) ∙ members_answers answers ps
+
+members_added : (ms : List PoolEntry) (ps : List Piece) → members_of (members_before ms ps) ≡ ms ++ members_of ps
+members_added [] ps = refl
+members_added (m ∷ ms) ps = ap (λ (rest : List PoolEntry). m ∷ rest) (members_added ms ps)
+
+members_all : (done : List Done) → members_of (pieces_of done) ≡ all_added done
+members_all [] = refl
+members_all (b ∷ bs) =
+    members_added b.added (answers_before b.answers (pieces_of bs))
+    ∙ ap (λ (rest : List PoolEntry). b.added ++ rest) (members_answers b.answers (pieces_of bs) ∙ members_all bs)
+
+abbrev ToldEnd : Answer → Type 0
+ToldEnd a = IsToldEnd a.line a.end
+
+marked_end : (line : ℕ) (end : LineEnd) (ps : List Piece) → IsToldEnd line end → AreMarked ps → AreMarked (marks_before (marks_at line end) ps)
+marked_end line ends.Replied ps h k = k
+marked_end line ends.Memory ps h k = (memory_mark line h, k)
+marked_end line (ends.Full what needed limit) ps h k = (full_mark line what needed limit h.0 h.1 h.2, k)
+
+marked_answers : (answers : List Answer) (ps : List Piece) → All ToldEnd answers → AreMarked ps → AreMarked (answers_before answers ps)
+marked_answers [] ps h k = k
+marked_answers (a ∷ answers) ps h k =
+    marked_end a.line a.end (answers_before answers ps) (All-head ToldEnd a answers h) (marked_answers answers ps (All-tail ToldEnd a answers h) k)
+
+marked_added : (ms : List PoolEntry) (ps : List Piece) → AreMarked ps → AreMarked (members_before ms ps)
+marked_added [] ps k = k
+marked_added (m ∷ ms) ps k = marked_added ms ps k
+
+abbrev ToldBatch : Done → Type 0
+ToldBatch b = All (λ answer. IsToldEnd answer.line answer.end) b.answers
+
+marked_all : (done : List Done) → All ToldBatch done → AreMarked (pieces_of done)
+marked_all [] h = tt
+marked_all (b ∷ bs) h =
+    marked_added b.added (answers_before b.answers (pieces_of bs))
+    (marked_answers b.answers (pieces_of bs) (All-head ToldBatch b bs h) (marked_all bs (All-tail ToldBatch b bs h)))
+
+-- ---- how a piece begins
+
+-- with digits and a space
 abbrev Begins : List ℕ → List ℕ → Type 0
 Begins ds text = (more : List ℕ) × (text ≡ ds ++ 32 ∷ more)
 
 begins_more : (ds text rest : List ℕ) → Begins ds text → Begins ds (text ++ rest)
 begins_more ds text rest h = (h.0 ++ rest, ap (λ (t : List ℕ). t ++ rest) h.1 ∙ append_assoc ds (32 ∷ h.0) rest)
 
-begins_so : (before : List PoolEntry) (m : PoolEntry) (added : List ℕ) (rest : List ℕ) → Begins (decimal m.entry.caller) ((member_text before m ++ added) ++ rest)
-begins_so before m added rest =
+begins_so : (before : List PoolEntry) (m : PoolEntry) (rest : List ℕ) → Begins (decimal m.entry.caller) (member_text before m ++ rest)
+begins_so before m rest =
     let d = decimal m.entry.caller in
     let first : Begins d (d ++ codes " ") = ([], refl) in
     let second = begins_more d (d ++ codes " ") (pool_text m.pool) first in
     let third = begins_more d (d ++ codes " " ++ pool_text m.pool) (entry_text m.entry) second in
     let line = begins_more d (d ++ codes " " ++ pool_text m.pool ++ entry_text m.entry) (codes "\n") third in
-    let member = begins_more d (entry_line m) (statement_of (open_cut_in before m.pool) m.entry.act m.entry.reply) line in
-    begins_more d (member_text before m ++ added) rest (begins_more d (member_text before m) added member)
+    let own = begins_more d (entry_line m) (statement_of (open_cut_in before m.pool) m.entry.act m.entry.reply) line in
+    begins_more d (member_text before m) rest own
+
+-- with `!`, or it is none
+abbrev IsEnd : List ℕ → Type 0
+IsEnd text = (text ≡ []) ⊎ ((more : List ℕ) × (text ≡ 33 ∷ more))
+
+mark_end : (text rest : List ℕ) → IsMark text → IsEnd (text ++ rest)
+mark_end text rest h = inr ((h.more ++ 10 ∷ []) ++ rest, ap (λ (t : List ℕ). t ++ rest) h.is)
 
 no_end : (ds text : List ℕ) → All Digit ds → IsEnd text → Begins ds text → ⊥
 no_end [] text h end begins = ⊎_elim
@@ -255,30 +421,61 @@ no_end (d ∷ ds) text h end begins = ⊎_elim
     (λ mark. let is : 33 ≡ d = ap (λ (t : List ℕ). get_or t 0 0) (sym mark.1 ∙ begins.1) in omega (arith, is, All-head Digit d ds h))
     end
 
+no_member : (before : List PoolEntry) (m : PoolEntry) (text rest : List ℕ) → IsEntry m → IsEnd text → text ≡ member_text before m ++ rest → ⊥
+no_member before m text rest here end e =
+    let begins = begins_so before m rest in
+    no_end (decimal m.entry.caller) text (digits m.entry.caller here.caller) end (begins.0, e ∙ begins.1)
+
+no_mark : (text rest : List ℕ) → IsMark text → ◌≡◌ {A = List ℕ} [] (text ++ rest) → ⊥
+no_mark text rest h e =
+    let long : length {A = ℕ} [] ≡ length (33 ∷ ((h.more ++ 10 ∷ []) ++ rest)) = ap length (e ∙ ap (λ (t : List ℕ). t ++ rest) h.is) in
+    omega (arith, long)
+
+mark_is : (text rest : List ℕ) (h : IsMark text) → text ++ rest ≡ 33 ∷ (h.more ++ 10 ∷ rest)
+mark_is text rest h = ap (λ (t : List ℕ). t ++ rest) h.is ∙ ap (λ (t : List ℕ). 33 ∷ t) (append_assoc h.more (10 ∷ []) rest)
+
+same_marks : (text other rest more : List ℕ) → IsMark text → IsMark other → text ++ rest ≡ other ++ more → rest ≡ more
+same_marks text other rest more h k e =
+    (cut_at_feed h.more k.more rest more h.no_feed k.no_feed (ap (drop 1) (sym (mark_is text rest h) ∙ e ∙ mark_is other more k))).1
+
 -- ---- the law
 
 one_less : (before added : List PoolEntry) (m : PoolEntry) → before ++ m ∷ added ≡ (before ++ m ∷ []) ++ added
 one_less before added m = sym (append_assoc before (m ∷ []) added)
 
-fixes : (a b before other : List PoolEntry) (x y : List ℕ) → IsEnd x → IsEnd y → SameStates before other → MayBeAdded before a → MayBeAdded other b
-    → added_text before a ++ x ≡ added_text other b ++ y → AllZip ReadSame a b × (x ≡ y)
-fixes [] [] before other x y end last same h k e = (tt, e)
-fixes [] (n ∷ b) before other x y end last same h k e =
-    let begins = begins_so other n (added_text (other ++ n ∷ []) b) y in
-    absurd (no_end (decimal n.entry.caller) x (digits n.entry.caller (All-head IsEntry n b k.entries).caller) end (begins.0, e ∙ begins.1))
-fixes (m ∷ a) [] before other x y end last same h k e =
-    let begins = begins_so before m (added_text (before ++ m ∷ []) a) x in
-    absurd (no_end (decimal m.entry.caller) y (digits m.entry.caller (All-head IsEntry m a h.entries).caller) last (begins.0, sym e ∙ begins.1))
-fixes (m ∷ a) (n ∷ b) before other x y end last same h k e =
-    let more = added_text (before ++ m ∷ []) a in
-    let next = added_text (other ++ n ∷ []) b in
-    let step = one_read before other a b m n same h.legal h.valid (All-head IsEntry m a h.entries) k.legal k.valid (All-head IsEntry n b k.entries) (more ++ x) (next ++ y)
-    (sym (append_assoc (member_text before m) more x) ∙ e ∙ append_assoc (member_text other n) next y) in
-    let rest = fixes a b (before ++ m ∷ []) (other ++ n ∷ []) x y end last (states_more before other m n same step.0)
-    (record { legal = subst IsLegal (one_less before a m) h.legal; valid = subst AreValid (one_less before a m) h.valid; entries = All-tail IsEntry m a h.entries })
-    (record { legal = subst IsLegal (one_less other b n) k.legal; valid = subst AreValid (one_less other b n) k.valid; entries = All-tail IsEntry n b k.entries })
-    step.1 in
-    ((step.0, rest.0), rest.1)
+added_less : (before added : List PoolEntry) (m : PoolEntry) → MayBeAdded before (m ∷ added) → MayBeAdded (before ++ m ∷ []) added
+added_less before added m h = record {
+  legal = subst IsLegal (one_less before added m) h.legal;
+  valid = subst AreValid (one_less before added m) h.valid;
+  entries = All-tail IsEntry m added h.entries;
+}
+
+fixes : (ps qs : List Piece) (before other : List PoolEntry) → SameStates before other → MayBeAdded before (members_of ps) → AreMarked ps → MayBeAdded other (members_of qs) → AreMarked qs
+    → pieces_text before ps ≡ pieces_text other qs → AllZip ReadSame (members_of ps) (members_of qs)
+fixes [] [] before other same h p k q e = tt
+fixes [] (member n ∷ qs) before other same h p k q e =
+    absurd (no_member other n [] (pieces_text (other ++ n ∷ []) qs) (All-head IsEntry n (members_of qs) k.entries) (inl refl) e)
+fixes [] (mark u ∷ qs) before other same h p k q e = absurd (no_mark u (pieces_text other qs) q.0 e)
+fixes (member m ∷ ps) [] before other same h p k q e =
+    absurd (no_member before m [] (pieces_text (before ++ m ∷ []) ps) (All-head IsEntry m (members_of ps) h.entries) (inl refl) (sym e))
+fixes (mark t ∷ ps) [] before other same h p k q e = absurd (no_mark t (pieces_text before ps) p.0 (sym e))
+fixes (member m ∷ ps) (member n ∷ qs) before other same h p k q e =
+    let a = members_of ps in
+    let b = members_of qs in
+    let step = one_read before other a b m n same h.legal h.valid (All-head IsEntry m a h.entries) k.legal k.valid (All-head IsEntry n b k.entries) (pieces_text (before ++ m ∷ []) ps) (pieces_text (other ++ n ∷ []) qs) e in
+    (step.0, fixes ps qs (before ++ m ∷ []) (other ++ n ∷ []) (states_more before other m n same step.0) (added_less before a m h) p (added_less other b n k) q step.1)
+fixes (member m ∷ ps) (mark u ∷ qs) before other same h p k q e =
+    absurd (no_member before m (u ++ pieces_text other qs) (pieces_text (before ++ m ∷ []) ps) (All-head IsEntry m (members_of ps) h.entries) (mark_end u (pieces_text other qs) q.0) (sym e))
+fixes (mark t ∷ ps) (member n ∷ qs) before other same h p k q e =
+    absurd (no_member other n (t ++ pieces_text before ps) (pieces_text (other ++ n ∷ []) qs) (All-head IsEntry n (members_of qs) k.entries) (mark_end t (pieces_text before ps) p.0) e)
+fixes (mark t ∷ ps) (mark u ∷ qs) before other same h p k q e =
+    fixes ps qs before other same h p.1 k q.1 (same_marks t u (pieces_text before ps) (pieces_text other qs) p.0 q.0 e)
 
 pub text_law : TextLaw
-text_law before a b answers others h k e = fixes a b before before (ends_text answers) (ends_text others) (is_end answers) (is_end others) (λ pool. refl) h k e
+text_law before done other h k e =
+    let ps = pieces_of done in
+    let qs = pieces_of other in
+    let first : MayBeAdded before (members_of ps) = subst (MayBeAdded before) (sym (members_all done)) h.added in
+    let second : MayBeAdded before (members_of qs) = subst (MayBeAdded before) (sym (members_all other)) k.added in
+    let read = fixes ps qs before before (λ pool. refl) first (marked_all done h.answers) second (marked_all other k.answers) (pieces_flat before done ∙ e ∙ sym (pieces_flat before other)) in
+    subst₂ (AllZip ReadSame) (members_all done) (members_all other) read

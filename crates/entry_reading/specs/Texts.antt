@@ -1,13 +1,14 @@
--- What the printed text of a batch shows of its entries.
-use Rattle.std.specs.Prelude.{◌≡◌, Bool, false, not, ◌&&◌, List, ◌++◌, All}
+-- What the printed text of batches shows of their entries.
+use Rattle.std.specs.Prelude.{◌≡◌, ◌<◌, ◌^◌, ℕ, Bool, false, not, ◌&&◌, List, ◌++◌, All}
 use Rattle.std.specs.List.{AllZip}
 use Rattle.claim_history.specs.declared.call.PoolEntry.{PoolEntry}
 use Rattle.claim_history.specs.declared.entry.Entry.{Entry}
 use Rattle.claim_history.specs.Acts.{is_publication}
 use Rattle.claim_history.specs.History.{is_accepted}
 use Rattle.claim_history.specs.Pools.{AreValid, IsLegal}
-use Rattle.served_lines.specs.declared.answer.Answer.{Answer}
-use Rattle.printed_text.specs.Printing.{ends_text, printed_of}
+use Rattle.served_lines.specs.declared.line_end.LineEnd.{LineEnd}
+use Rattle.served_lines.specs.declared.line_end.LineEnd.TheVariants as ends
+use Rattle.batch_runs.specs.Runs.{Done, all_added, text_of}
 use Rattle.entry_reading.specs.Shown.{IsEntry, ShowSame}
 
 -- a publication that was refused: no text shows its outcome
@@ -19,13 +20,24 @@ pub record ReadSame (m n : PoolEntry) : Type 0 where
   pub shown : ShowSame m n
   pub one : is_untold m.entry ≡ false → m ≡ n
 
--- entries that a batch may add to a history: it stays legal, of valid acts
+-- entries that may be added to a history: it stays legal, of valid acts
 pub record MayBeAdded (before added : List PoolEntry) : Type 0 where
   pub legal : IsLegal (before ++ added)
   pub valid : AreValid (before ++ added)
   pub entries : All IsEntry added
 
--- What was printed of a batch fixes its entries, where those before it are known, and what was told of lines that were not replied to.
+-- the numbers of the line that tells of an answer have 8 bytes
+abbrev pub IsToldEnd : ℕ → LineEnd → Type 0
+IsToldEnd line ends.Replied = Unit {0}
+IsToldEnd line ends.Memory = line < 2 ^ 64
+IsToldEnd line (ends.Full what needed limit) = (line < 2 ^ 64) × (needed < 2 ^ 64) × (limit < 2 ^ 64)
+
+-- batches whose entries may be added to a history
+pub record MayBeServed (before : List PoolEntry) (done : List Done) : Type 0 where
+  pub added : MayBeAdded before (all_added done)
+  pub answers : All (λ b. All (λ answer. IsToldEnd answer.line answer.end) b.answers) done
+
+-- What was printed of batches fixes their entries, where those before them are known.
 abbrev pub TextLaw : Type 0
-TextLaw = (before a b : List PoolEntry) (answers others : List Answer) → MayBeAdded before a → MayBeAdded before b
-    → printed_of before a answers ≡ printed_of before b others → AllZip ReadSame a b × (ends_text answers ≡ ends_text others)
+TextLaw = (before : List PoolEntry) (done other : List Done) → MayBeServed before done → MayBeServed before other
+    → text_of before done ≡ text_of before other → AllZip ReadSame (all_added done) (all_added other)

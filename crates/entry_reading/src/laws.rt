@@ -8,8 +8,8 @@ pub fn each_entry_line_has_one_reading()
     ensures { LineLaw }
 {}
 
-/// Where the entries before a batch are known, the text that was printed of it fixes its entries, but for the outcome of a publication
-/// that was refused; and what was told of its lines that were not replied to.
-pub fn each_batch_text_has_one_reading()
+/// Where the entries before a list of batches are known, the text that was printed of the batches fixes their entries, but for the
+/// outcome of a publication that was refused.
+pub fn printed_batches_have_one_reading()
     ensures { TextLaw }
 {}
