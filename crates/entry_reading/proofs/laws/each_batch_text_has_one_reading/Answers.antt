@@ -1,5 +1,0 @@
-use Rattle.entry_reading.proofs.Texts.{text_law}
-use Rattle.entry_reading.proofs.laws.each_batch_text_has_one_reading.Goals as goal
-
-pub returns : goal.returns
-returns c = text_law
