@@ -3,7 +3,6 @@ use crate::acts::name;
 use crate::facts::{are_facts, keeps_limits};
 use claim_history::{AccountFact, ClaimFact, Day, Status};
 use round_cut::{build_cut, cut_of_a_history_is_of_its_facts, open_cut_is_well_formed, window};
-use setoff_model::limits::FIRST_CEILING;
 use setoff_model::{Cut, CutClaim, Key, Kind, Name, Party};
 use std::alloc::Global;
 use std::process::Abort;

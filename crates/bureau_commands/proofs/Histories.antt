@@ -11,8 +11,9 @@ use Rattle.claim_history.specs.declared.entry.Reply.{Reply}
 use Rattle.claim_history.specs.declared.entry.Reply.TheVariants as reply
 use Rattle.claim_history.specs.States.{OpenRound}
 use Rattle.claim_history.specs.History.{is_accepted, is_no_refusal}
-use Rattle.claim_history.specs.Pools.{IsLegal, accepted_calls, answered, call_of, due_member, due_of_past, due_reply, open_round_in, replay_after, replay_of}
+use Rattle.claim_history.specs.Pools.{IsLegal, accepted_calls, accepted_members, answered, call_of, due_member, due_of_past, due_reply, open_round_in, replay_after, replay_of}
 use Rattle.claim_history.specs.PoolRounds.{ending_of, ending_reply, is_left_open, left_open, opened}
+use Rattle.claim_history.proofs.Accepted.{kept_append, kept_step, replay_append, replayed_past, same_due}
 use Rattle.claim_history.proofs.PoolRoom.{due_is}
 use Rattle.claim_history.proofs.Pools.{pool_replay_law}
 use Rattle.act_bodies.specs.Bodies.{body_of, is_keepable}
@@ -26,8 +27,8 @@ use Rattle.recorded_book.specs.Calls.{CanBeKept, LeftBy, StandsForLeft, bodies_o
 use Rattle.bureau_desk.specs.Opening.{HasViewed}
 use Rattle.printed_text.specs.Printing.{added_text, ends_text, member_text}
 use Rattle.history_text.specs.Histories.{IsRoundText, history_text}
-use Rattle.history_text.specs.Accepted.{accepted_members, accepted_text}
-use Rattle.history_text.proofs.Accepted.{kept_append, kept_step, publication_accepted, replay_append, replayed_law, replayed_past, retold_law, same_due, same_text, statement_law}
+use Rattle.history_text.specs.Accepted.{accepted_text}
+use Rattle.history_text.proofs.Accepted.{publication_accepted, replayed_law, retold_law, same_text, statement_law}
 use Rattle.batch_runs.specs.Runs.{Done, all_added, text_of}
 use Rattle.bureau_commands.specs.Headline.{run_text}
 use Rattle.bureau_commands.specs.Laws.{AreAllAccepted, HistoryLaw, IsTriedMember, kept_text}

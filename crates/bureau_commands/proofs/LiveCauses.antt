@@ -1,6 +1,6 @@
 -- What an input comes to that is served while it is read.
 use Rattle.std.specs.Prelude.{IsTrue, Option, Some}
-use Rattle.std.proofs.Common.{◌≡◌, ◌∙◌, ◌⊎◌, ⊎_elim, inl, inr, ℕ, ◌≤◌, true, false, List, [], ◌∷◌, length, refl, sym, subst, true≢false, arith}
+use Rattle.std.proofs.Common.{◌≡◌, ◌∙◌, ◌⊎◌, ⊎_elim, inl, inr, ℕ, ◌≤◌, false, List, [], ◌∷◌, length, refl, sym, subst, true≢false, arith}
 use Rattle.std.specs.Io.KnownBytes.{Consumes}
 use Rattle.setoff_model.specs.declared.limits.TheConstants.{MOST_INPUT_BYTES}
 use Rattle.disk_model.specs.Calls.{Seen}

@@ -4,13 +4,13 @@ use Rattle.disk_model.specs.Calls.{Seen, IsPresent}
 use Rattle.claim_history.specs.declared.call.Call.{Call}
 use Rattle.claim_history.specs.declared.call.PoolEntry.{PoolEntry}
 use Rattle.claim_history.specs.History.{is_accepted}
-use Rattle.claim_history.specs.Pools.{answered, due_reply}
+use Rattle.claim_history.specs.Pools.{accepted_members, answered, due_reply}
 use Rattle.claim_history.specs.PoolRounds.{open_cut_in}
 use Rattle.request_text.specs.declared.request.Request.{Request}
 use Rattle.printed_text.specs.declared.exit_status.ExitStatus.{ExitStatus}
 use Rattle.printed_text.specs.Printing.{added_text, ends_text, statement_of}
 use Rattle.history_text.specs.Histories.{IsRoundText, history_text, publishes_round}
-use Rattle.history_text.specs.Accepted.{accepted_members, accepted_text}
+use Rattle.history_text.specs.Accepted.{accepted_text}
 use Rattle.recorded_book.specs.Calls.{TriedLast}
 use Rattle.batch_runs.specs.Runs.{Done, HasTaken, all_added}
 use Rattle.bureau_desk.specs.Opening.{HasViewed, HoldsOpened}

@@ -1,18 +1,19 @@
 -- What a desk leaves on a disk stands for sound records.
 use Rattle.std.specs.Prelude.{reverse}
-use Rattle.std.proofs.Common.{◌≡◌, ◌∙◌, ⊎_elim, inl, ℕ, ◌+◌, ◌≤◌, Bool, true, false, if◌then◌else◌, Option, List, [], ◌∷◌, ◌++◌, length, map, filter, All, refl, sym, ap, subst, true≢false, arith}
-use Rattle.std.proofs.lemmas.List.{map-append, reverse-append, reverse-reverse}
-use Rattle.std.proofs.lemmas.List.Elements.{All-filter, All-map, All-push, All-weaker, All-nil, All-cons, All-head, All-tail, filter-append, filter_passes}
+use Rattle.std.proofs.Common.{◌≡◌, ◌∙◌, ⊎_elim, inl, ℕ, ◌+◌, ◌≤◌, Bool, true, false, if◌then◌else◌, Option, List, [], ◌∷◌, ◌++◌, length, map, All, refl, sym, ap, subst, true≢false, arith}
+use Rattle.std.proofs.lemmas.List.{reverse-reverse}
+use Rattle.std.proofs.lemmas.List.Elements.{All-filter, All-map, All-push, All-weaker, All-nil, All-cons, All-head, All-tail, filter_passes}
 use Rattle.claim_history.specs.declared.act.Act.{Act}
 use Rattle.claim_history.specs.declared.call.Call.{Call}
 use Rattle.claim_history.specs.declared.call.PoolEntry.{PoolEntry}
 use Rattle.claim_history.specs.declared.entry.Reply.{Reply}
 use Rattle.claim_history.specs.declared.entry.Reply.TheVariants as reply
-use Rattle.claim_history.specs.States.{OpenRound, State, after, state}
+use Rattle.claim_history.specs.States.{OpenRound, State, state}
 use Rattle.claim_history.specs.History.{IsReply, answer, failed, is_accepted, is_no_refusal, last_count, replied}
 use Rattle.claim_history.specs.Needs.{endings_entries, is_of_device}
-use Rattle.claim_history.specs.Pools.{IsLegal, IsLegalPast, accepted_calls, answered, call_of, due_member, due_of_past, entries_in, entries_of, is_in, replay_after}
+use Rattle.claim_history.specs.Pools.{IsLegal, IsLegalPast, accepted_calls, accepted_members, answered, call_of, due_member, due_of_past, entries_in, entries_of, replay_after}
 use Rattle.claim_history.specs.PoolNeeds.{FitsPast, IsWithinLimits, IsWithinLimitsPast, call_bytes, open_in, own_bytes, pool_endings_bytes, reserved_bytes, reserved_entries, used_bytes, used_entries}
+use Rattle.claim_history.proofs.Accepted.{kept_append, kept_reverse, kept_step, more_in, refused_in, replay_append, replayed_past, same_due, same_state}
 use Rattle.claim_history.proofs.Pasts.{all_reverse, reverse_parts}
 use Rattle.claim_history.proofs.Room.{answer_no_device, entries_more}
 use Rattle.claim_history.proofs.PoolRoom.{bytes_more, reserved_bytes_grow, reserved_entries_grow}
@@ -23,113 +24,29 @@ use Rattle.round_journal.specs.Records.{AreKeepable, IsBody, bodies_of, offsets_
 use Rattle.round_journal.specs.Opened.{AreFound}
 use Rattle.round_journal.specs.declared.record.Record.{Record}
 use Rattle.journal_replay.specs.Replays.{AreSound}
-use Rattle.journal_replay.proofs.Replays.{replay_append}
 use Rattle.recorded_book.specs.Calls.{CanBeKept, LeftBy, TriedLast, bodies_of_calls}
 use Rattle.bureau_desk.specs.Laws.{LeftLaw}
 use Rattle.bureau_desk.proofs.Endings.{IsTaken}
 
--- ---- a past and its accepted members
-
-abbrev kept : List PoolEntry → List PoolEntry
-kept past = filter (λ m. is_accepted m.entry) past
-
-kept_step : (m : PoolEntry) (past : List PoolEntry) (b : Bool) → is_accepted m.entry ≡ b
-    → kept (m ∷ past) ≡ (if b then m ∷ kept past else kept past)
-kept_step m past b is = ap (λ (c : Bool). if c then m ∷ kept past else kept past) is
-
-kept_reverse_by : (m : PoolEntry) (b : Bool) → is_accepted m.entry ≡ b → reverse (kept (m ∷ [])) ≡ kept (m ∷ [])
-kept_reverse_by m true is = ap reverse (kept_step m [] true is) ∙ sym (kept_step m [] true is)
-kept_reverse_by m false is = ap reverse (kept_step m [] false is) ∙ sym (kept_step m [] false is)
-
-kept_reverse : (history : List PoolEntry) → kept (reverse history) ≡ reverse (kept history)
-kept_reverse [] = refl
-kept_reverse (m ∷ history) =
-    ap kept (reverse-append (m ∷ []) history) ∙ filter-append (λ (x : PoolEntry). is_accepted x.entry) (reverse history) (m ∷ [])
-    ∙ ap (λ (l : List PoolEntry). l ++ kept (m ∷ [])) (kept_reverse history)
-    ∙ ap (λ (l : List PoolEntry). reverse (kept history) ++ l) (sym (kept_reverse_by m (is_accepted m.entry) refl))
-    ∙ sym (reverse-append (kept (m ∷ [])) (kept history)) ∙ ap reverse (sym (filter-append (λ (x : PoolEntry). is_accepted x.entry) (m ∷ []) history))
-
-refusal_same : (caller : ℕ) (a : Act) (r : Reply) (s : State) → is_no_refusal r ≡ false → after caller a r s ≡ s
-refusal_same caller a (reply.Refused w) s none = refl
-refusal_same caller a r s none = absurd (true≢false none)
-
--- one more member of a pool, or of another one
-in_step : (m : PoolEntry) (b : Bool) (xs ys : List PoolEntry) → state (entries_of xs) ≡ state (entries_of ys)
-    → state (entries_of (if b then m ∷ xs else xs)) ≡ state (entries_of (if b then m ∷ ys else ys))
-in_step m true xs ys same = ap (after m.entry.caller m.entry.act m.entry.reply) same
-in_step m false xs ys same = same
-
-refused_step : (m : PoolEntry) (b : Bool) (xs : List PoolEntry) → is_accepted m.entry ≡ false
-    → state (entries_of (if b then m ∷ xs else xs)) ≡ state (entries_of xs)
-refused_step m true xs is = refusal_same m.entry.caller m.entry.act m.entry.reply (state (entries_of xs)) is
-refused_step m false xs is = refl
-
-more_in : (pool : List ℕ) (m : PoolEntry) (xs ys : List PoolEntry) → state (entries_in pool xs) ≡ state (entries_in pool ys)
-    → state (entries_in pool (m ∷ xs)) ≡ state (entries_in pool (m ∷ ys))
-more_in pool m xs ys same = in_step m (is_in pool m) (filter (is_in pool) xs) (filter (is_in pool) ys) same
-
-refused_in : (pool : List ℕ) (m : PoolEntry) (past : List PoolEntry) → is_accepted m.entry ≡ false
-    → state (entries_in pool (m ∷ past)) ≡ state (entries_in pool past)
-refused_in pool m past is = refused_step m (is_in pool m) (filter (is_in pool) past) is
-
-same_state_by : (pool : List ℕ) (m : PoolEntry) (past : List PoolEntry) (b : Bool) → is_accepted m.entry ≡ b
-    → state (entries_in pool (kept past)) ≡ state (entries_in pool past)
-    → state (entries_in pool (kept (m ∷ past))) ≡ state (entries_in pool (m ∷ past))
-same_state_by pool m past true is same = ap (λ (ms : List PoolEntry). state (entries_in pool ms)) (kept_step m past true is) ∙ more_in pool m (kept past) past same
-same_state_by pool m past false is same = ap (λ (ms : List PoolEntry). state (entries_in pool ms)) (kept_step m past false is) ∙ same ∙ sym (refused_in pool m past is)
-
-same_state : (pool : List ℕ) (past : List PoolEntry) → state (entries_in pool (kept past)) ≡ state (entries_in pool past)
-same_state pool [] = refl
-same_state pool (m ∷ past) = same_state_by pool m past (is_accepted m.entry) refl (same_state pool past)
-
-same_due : (past : List PoolEntry) (call : Call) → due_of_past (kept past) call ≡ due_of_past past call
-same_due past call = ap (λ (s : State). answer s call.caller call.act) (same_state call.pool past)
-
--- ---- its calls, asked anew
-
-abbrev ask : List PoolEntry → Call → List PoolEntry
-ask past call = due_member past call ∷ past
-
-due_is : (counted : ℕ) (due got : Reply) → IsReply counted due got → is_no_refusal got ≡ true → got ≡ due
-due_is counted due got (replied is) accepts = is
-due_is counted due got (failed f) accepts = absurd (true≢false (sym accepts ∙ ap is_no_refusal f.is))
-
-abbrev again : List PoolEntry → List PoolEntry
-again past = replay_after [] (map call_of (reverse past))
-
-again_by : (m : PoolEntry) (past : List PoolEntry) (b : Bool) → is_accepted m.entry ≡ b → IsLegalPast (m ∷ past)
-    → again (kept past) ≡ kept past → again (kept (m ∷ past)) ≡ kept (m ∷ past)
-again_by m past true is legal same =
-    let before = kept past in
-    let calls : map call_of (reverse (m ∷ before)) ≡ map call_of (reverse before) ++ call_of m ∷ [] = ap (map call_of) (reverse-append (m ∷ []) before) ∙ map-append call_of (reverse before) (m ∷ []) in
-    let told : due_of_past before (call_of m) ≡ m.entry.reply = same_due past (call_of m) ∙ sym (due_is (last_count (entries_of past)) (due_of_past past (call_of m)) m.entry.reply legal.0 is) in
-    ap again (kept_step m past true is) ∙ ap (replay_after []) calls ∙ replay_append [] (map call_of (reverse before)) (call_of m ∷ [])
-    ∙ ap (λ (p : List PoolEntry). ask p (call_of m)) same ∙ ap (λ (r : Reply). answered (call_of m) r ∷ before) told ∙ sym (kept_step m past true is)
-again_by m past false is legal same = ap again (kept_step m past false is) ∙ same ∙ sym (kept_step m past false is)
-
-kept_again : (past : List PoolEntry) → IsLegalPast past → again (kept past) ≡ kept past
-kept_again [] legal = refl
-kept_again (m ∷ past) legal = again_by m past (is_accepted m.entry) refl legal (kept_again past legal.1)
-
 -- ---- the limits
 
 fewer_by : (m : PoolEntry) (past : List PoolEntry) (b : Bool) → is_accepted m.entry ≡ b
-    → used_entries (kept past) ≤ used_entries past → used_entries (kept (m ∷ past)) ≤ used_entries (m ∷ past)
-fewer_by m past true is few = omega (arith, ap used_entries (kept_step m past true is), entries_more m.entry (entries_of (kept past)), entries_more m.entry (entries_of past), few)
+    → used_entries (accepted_members past) ≤ used_entries past → used_entries (accepted_members (m ∷ past)) ≤ used_entries (m ∷ past)
+fewer_by m past true is few = omega (arith, ap used_entries (kept_step m past true is), entries_more m.entry (entries_of (accepted_members past)), entries_more m.entry (entries_of past), few)
 fewer_by m past false is few = omega (arith, ap used_entries (kept_step m past false is), entries_more m.entry (entries_of past), few)
 
-fewer : (past : List PoolEntry) → used_entries (kept past) ≤ used_entries past
+fewer : (past : List PoolEntry) → used_entries (accepted_members past) ≤ used_entries past
 fewer [] = omega arith
 fewer (m ∷ past) = fewer_by m past (is_accepted m.entry) refl (fewer past)
 
 same_bytes_by : (m : PoolEntry) (past : List PoolEntry) (b : Bool) → is_accepted m.entry ≡ b
-    → used_bytes (kept past) ≡ used_bytes past → used_bytes (kept (m ∷ past)) ≡ used_bytes (m ∷ past)
-same_bytes_by m past true is same = omega (arith, ap used_bytes (kept_step m past true is), bytes_more m (kept past), bytes_more m past, same)
+    → used_bytes (accepted_members past) ≡ used_bytes past → used_bytes (accepted_members (m ∷ past)) ≡ used_bytes (m ∷ past)
+same_bytes_by m past true is same = omega (arith, ap used_bytes (kept_step m past true is), bytes_more m (accepted_members past), bytes_more m past, same)
 same_bytes_by m past false is same =
     let none : own_bytes (call_of m) m.entry.reply ≡ 0 = ap (λ (b : Bool). if b then call_bytes (call_of m) else 0) is in
     omega (arith, ap used_bytes (kept_step m past false is), bytes_more m past, same, none)
 
-same_bytes : (past : List PoolEntry) → used_bytes (kept past) ≡ used_bytes past
+same_bytes : (past : List PoolEntry) → used_bytes (accepted_members past) ≡ used_bytes past
 same_bytes [] = refl
 same_bytes (m ∷ past) = same_bytes_by m past (is_accepted m.entry) refl (same_bytes past)
 
@@ -141,47 +58,47 @@ module _ (reserved : List PoolEntry → ℕ) (part : List ℕ → Option OpenRou
       → part pool (open_in xs pool) ≡ part pool (open_in ys pool)
   same_part pool xs ys same = ap (λ (s : State). part pool s.open_round) same
 
-  more_reserved : (m : PoolEntry) (past : List PoolEntry) → reserved (kept past) ≡ reserved past
-      → reserved (m ∷ kept past) ≡ reserved (m ∷ past)
+  more_reserved : (m : PoolEntry) (past : List PoolEntry) → reserved (accepted_members past) ≡ reserved past
+      → reserved (m ∷ accepted_members past) ≡ reserved (m ∷ past)
   more_reserved m past same = omega (
     arith,
     same,
-    grows m (kept past),
+    grows m (accepted_members past),
     grows m past,
-    same_part m.pool (kept past) past (same_state m.pool past),
-    same_part m.pool (m ∷ kept past) (m ∷ past) (more_in m.pool m (kept past) past (same_state m.pool past)),
+    same_part m.pool (accepted_members past) past (same_state m.pool past),
+    same_part m.pool (m ∷ accepted_members past) (m ∷ past) (more_in m.pool m (accepted_members past) past (same_state m.pool past)),
   )
 
   reserved_by : (m : PoolEntry) (past : List PoolEntry) (b : Bool) → is_accepted m.entry ≡ b
-      → reserved (kept past) ≡ reserved past → reserved (kept (m ∷ past)) ≡ reserved (m ∷ past)
+      → reserved (accepted_members past) ≡ reserved past → reserved (accepted_members (m ∷ past)) ≡ reserved (m ∷ past)
   reserved_by m past true is same = ap reserved (kept_step m past true is) ∙ more_reserved m past same
   reserved_by m past false is same =
       omega (arith, ap reserved (kept_step m past false is), same, grows m past, same_part m.pool (m ∷ past) past (refused_in m.pool m past is))
 
-  same_reserved : (past : List PoolEntry) → reserved (kept past) ≡ reserved past
+  same_reserved : (past : List PoolEntry) → reserved (accepted_members past) ≡ reserved past
   same_reserved [] = refl
   same_reserved (m ∷ past) = reserved_by m past (is_accepted m.entry) refl (same_reserved past)
 
   due_reserved : (past : List PoolEntry) (call : Call)
-      → reserved (due_member (kept past) call ∷ kept past) ≡ reserved (due_member past call ∷ past)
+      → reserved (due_member (accepted_members past) call ∷ accepted_members past) ≡ reserved (due_member past call ∷ past)
   due_reserved past call =
-      ap (λ (r : Reply). reserved (answered call r ∷ kept past)) (same_due past call) ∙ more_reserved (due_member past call) past (same_reserved past)
+      ap (λ (r : Reply). reserved (answered call r ∷ accepted_members past)) (same_due past call) ∙ more_reserved (due_member past call) past (same_reserved past)
 
 abbrev entries_part : List ℕ → Option OpenRound → ℕ
 entries_part pool o = endings_entries o
 
-fits_kept : (past : List PoolEntry) (call : Call) → FitsPast past call → FitsPast (kept past) call
+fits_kept : (past : List PoolEntry) (call : Call) → FitsPast past call → FitsPast (accepted_members past) call
 fits_kept past call fits = record {
   entries = omega (arith, fits.entries, fewer past, due_reserved reserved_entries entries_part reserved_entries_grow past call);
   bytes = omega (arith, fits.bytes, same_bytes past, ap (own_bytes call) (same_due past call), due_reserved reserved_bytes pool_endings_bytes reserved_bytes_grow past call);
 }
 
 within_by : (m : PoolEntry) (past : List PoolEntry) (b : Bool) → is_accepted m.entry ≡ b → FitsPast past (call_of m)
-    → IsWithinLimitsPast (kept past) → IsWithinLimitsPast (kept (m ∷ past))
+    → IsWithinLimitsPast (accepted_members past) → IsWithinLimitsPast (accepted_members (m ∷ past))
 within_by m past true is fits within = subst IsWithinLimitsPast (sym (kept_step m past true is)) (fits_kept past (call_of m) fits, within)
 within_by m past false is fits within = subst IsWithinLimitsPast (sym (kept_step m past false is)) within
 
-within_kept : (past : List PoolEntry) → IsWithinLimitsPast past → IsWithinLimitsPast (kept past)
+within_kept : (past : List PoolEntry) → IsWithinLimitsPast past → IsWithinLimitsPast (accepted_members past)
 within_kept [] within = tt
 within_kept (m ∷ past) within = within_by m past (is_accepted m.entry) refl within.0 (within_kept past within.1)
 
@@ -202,13 +119,10 @@ record Comes (calls : List Call) : Type 0 where
   accepted : All IsTaken past
   within : IsWithinLimitsPast past
 
-alone : (history : List PoolEntry) → replay_after [] (accepted_calls history) ≡ again (kept (reverse history))
-alone history = ap (λ (l : List PoolEntry). replay_after [] (map call_of l)) (sym (reverse-reverse (kept history)) ∙ ap reverse (sym (kept_reverse history)))
-
 comes_alone : (history : List PoolEntry) → IsLegal history → IsWithinLimits history → Comes (accepted_calls history)
 comes_alone history legal within = record {
-  past = kept (reverse history);
-  is = alone history ∙ kept_again (reverse history) legal;
+  past = accepted_members (reverse history);
+  is = replayed_past history legal;
   accepted = filter_passes (λ (m : PoolEntry). is_accepted m.entry) (reverse history);
   within = within_kept (reverse history) within;
 }
@@ -234,11 +148,11 @@ comes_tried history call legal within t =
     let m = t.tried in
     let asked = call_of m in
     let early = reverse t.before in
-    let past = kept (reverse history) in
+    let past = accepted_members (reverse history) in
     let parts : reverse history ≡ reverse t.later ++ m ∷ early = ap reverse t.parts ∙ reverse_parts t.before t.later m in
-    let none : kept (reverse t.later) ≡ [] = kept_reverse t.later ∙ ap reverse (none_kept (kept t.later) t.none_later) in
-    let before : past ≡ kept early =
-    ap kept parts ∙ filter-append (λ (x : PoolEntry). is_accepted x.entry) (reverse t.later) (m ∷ early) ∙ ap (λ (l : List PoolEntry). l ++ kept (m ∷ early)) none ∙ kept_step m early false (device_refused m.entry.reply t.device) in
+    let none : accepted_members (reverse t.later) ≡ [] = kept_reverse t.later ∙ ap reverse (none_kept (accepted_members t.later) t.none_later) in
+    let before : past ≡ accepted_members early =
+    ap accepted_members parts ∙ kept_append (reverse t.later) (m ∷ early) ∙ ap (λ (l : List PoolEntry). l ++ accepted_members (m ∷ early)) none ∙ kept_step m early false (device_refused m.entry.reply t.device) in
     let first = legal_rest (reverse t.later) (m ∷ early) (subst IsLegalPast parts legal) in
     let yes_ : is_no_refusal (due_of_past past asked) ≡ true =
     ap (λ (p : List PoolEntry). is_no_refusal (due_of_past p asked)) before ∙ ap is_no_refusal (same_due early asked)
@@ -248,8 +162,8 @@ comes_tried history call legal within t =
     let so = comes_alone history legal within in
     subst (λ (c : Call). Comes (accepted_calls history ++ c ∷ [])) (sym t.is)
     (record {
-      past = ask past asked;
-      is = replay_append [] (accepted_calls history) (asked ∷ []) ∙ ap (λ (p : List PoolEntry). ask p asked) so.is;
+      past = due_member past asked ∷ past;
+      is = replay_append [] (accepted_calls history) (asked ∷ []) ∙ ap (λ (p : List PoolEntry). due_member p asked ∷ p) so.is;
       accepted = All-cons IsTaken (due_member past asked) past yes_ so.accepted;
       within = (fits, so.within);
     })
@@ -272,7 +186,7 @@ all_at P (y ∷ before) x later all = all_at P before x later (All-tail P y (bef
 
 keepable_alone : (history : List PoolEntry) → CanBeKept history → All IsKeepable (accepted_calls history)
 keepable_alone history can =
-    All-map IsKeepable call_of (kept history) (All-filter (λ (m : PoolEntry). is_accepted m.entry) (λ (m : PoolEntry). IsKeepable (call_of m)) history can)
+    All-map IsKeepable call_of (accepted_members history) (All-filter (λ (m : PoolEntry). is_accepted m.entry) (λ (m : PoolEntry). IsKeepable (call_of m)) history can)
 
 keepable_left : (history : List PoolEntry) (calls : List Call) → CanBeKept history → LeftBy history calls → All IsKeepable calls
 keepable_left history calls can left = ⊎_elim

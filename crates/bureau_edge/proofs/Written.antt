@@ -1,10 +1,9 @@
 -- A piece that is written a part at a time.
 use Rattle.std.proofs.Common.{◌≡◌, ℕ, List, [], ◌++◌, take, drop, refl, sym, ap, ◌∙◌, append_assoc}
 use Rattle.std.specs.Prelude.{Option, Some, None}
-use Rattle.std.specs.Io.KnownBytes.{Appends, Keeps}
+use Rattle.std.specs.Io.KnownBytes.{Appends}
 use Rattle.std.proofs.lemmas.List.{append-nil, take-append-drop}
-use Rattle.bureau_edge.specs.Streams.{AppendsPart}
-use Rattle.bureau_edge.proofs.Known.{Appends-none, Appends-then, Appends-kept}
+use Rattle.bureau_edge.proofs.Known.{Appends-none, Appends-then}
 
 -- a piece was written up to a rest
 pub record Written (old now : Option (List ℕ)) (piece rest : List ℕ) : Type 0 where
@@ -28,6 +27,3 @@ ended (Some xs) None piece rest w e = absurd w.held
 ended (Some xs) (Some ys) piece rest w e =
     let whole : piece ≡ w.front = w.split ∙ ap (λ (t : List ℕ). w.front ++ t) e ∙ append-nil w.front in
     w.held ∙ ap (λ (t : List ℕ). xs ++ t) (sym whole)
-
-pub broke : (old now next : Option (List ℕ)) (piece rest : List ℕ) → Written old now piece rest → Keeps now next → AppendsPart old next piece
-broke old now next piece rest w k = (w.front, rest, w.split, Appends-kept old now next w.front w.held k)

@@ -1,5 +1,4 @@
 //! Calls of a device that a signal may interrupt. Such a call did nothing, and is made again, `MOST_CALLS` times in all.
-ghost use Rattle.std.specs.Prelude.{length};
 ghost use Rattle.std.specs.Io.{ReadsAtMost, WritesAtMost};
 ghost use Rattle.std.specs.Io.KnownBytes.{Keeps, ReadConsumes, WriteAppends};
 

@@ -1,5 +1,5 @@
 //! A source that never fails.
-ghost use Rattle.std.specs.Prelude.{◌≡◌, ◌++◌, length, min, take, drop};
+ghost use Rattle.std.specs.Prelude.{◌≡◌, length, min, take, drop};
 ghost use Rattle.std.specs.Io.{ReadsAtMost};
 ghost use Rattle.std.specs.Io.KnownBytes.{ReadConsumes};
 ghost use Rattle.fault_count.specs.Counts.{IsCounted};

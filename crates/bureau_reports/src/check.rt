@@ -1,5 +1,4 @@
 //! The words `check`: from the bytes of a statement to the line of its verdict.
-ghost use Rattle.std.specs.Prelude.{◌≡◌, ◌≢◌};
 ghost use Rattle.std.specs.Str.Lines.{lines};
 ghost use Rattle.command_words.specs.declared.input_report.InputReport.TheVariants as inputs;
 ghost use Rattle.statement_text.specs.Statements.{IsStatement};

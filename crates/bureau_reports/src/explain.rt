@@ -1,5 +1,5 @@
 //! The words `explain`: from the bytes of a statement to the chains of its round.
-ghost use Rattle.std.specs.Prelude.{◌≡◌, ◌≢◌, ◌≤◌, [], vec_capacity};
+ghost use Rattle.std.specs.Prelude.{◌≡◌, ◌≤◌, [], vec_capacity};
 ghost use Rattle.std.specs.Str.Lines.{lines};
 ghost use Rattle.setoff_model.specs.declared.limits.TheConstants.{OUTPUT_BYTES};
 ghost use Rattle.command_words.specs.declared.input_report.InputReport.TheVariants as inputs;

@@ -1,5 +1,4 @@
 //! Invoices as requests: from the bytes of CSV to the lines that file them.
-ghost use Rattle.std.specs.Prelude.{◌≡◌, ◌≢◌};
 ghost use Rattle.command_words.specs.declared.input_report.InputReport.TheVariants as inputs;
 ghost use Rattle.request_text.specs.Lanes.{IsLane};
 ghost use Rattle.firm_notices.specs.Invoices.{IsFirstBadRow};

@@ -1,5 +1,4 @@
 //! Reports on an input.
-ghost use Rattle.std.specs.Prelude.{◌≡◌, ◌≢◌};
 ghost use Rattle.command_words.specs.declared.command.Command.TheVariants as commands;
 ghost use Rattle.command_words.specs.Words.{IsCommand};
 ghost use Rattle.printed_text.specs.Statuses.{IsOneOf, TellsSinkFault};

@@ -1,5 +1,5 @@
 //! Reports on a journal.
-ghost use Rattle.std.specs.Prelude.{◌≡◌, ◌≢◌, ◌≤◌, [], IfOk, vec_len, vec_capacity};
+ghost use Rattle.std.specs.Prelude.{◌≡◌, ◌≤◌, [], IfOk, vec_len, vec_capacity};
 ghost use Rattle.fault_count.specs.Counts.{HasRisen};
 ghost use Rattle.round_journal.specs.Opened.{IsQuiet};
 ghost use Rattle.printed_text.specs.declared.exit_status.ExitStatus.TheVariants as statuses;

@@ -1,5 +1,4 @@
 //! A statement that is not in form.
-ghost use Rattle.std.specs.Prelude.{◌≡◌, ◌≢◌};
 ghost use Rattle.std.specs.Str.Lines.{lines};
 ghost use Rattle.command_words.specs.declared.input_report.InputReport.TheVariants as inputs;
 ghost use Rattle.statement_text.specs.Causes.{HasCause};

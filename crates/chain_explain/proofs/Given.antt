@@ -1,7 +1,7 @@
 -- The end of a walk is a chain, and the rest of it is a walk.
 use Rattle.std.specs.Prelude.{slice_index, ◌==◌}
 use Rattle.std.specs.List.{list_any}
-use Rattle.std.proofs.Common.{◌≡◌, ◌≢◌, ℕ, suc, ◌+◌, ◌-◌, ◌<◌, ◌≤◌, false, List, length, take, drop, refl, sym, ◌∙◌, ap, subst, inl, inr, arith}
+use Rattle.std.proofs.Common.{◌≡◌, ◌≢◌, ℕ, suc, ◌+◌, ◌-◌, ◌<◌, ◌≤◌, false, List, length, take, drop, sym, ◌∙◌, ap, subst, inl, inr, arith}
 use Rattle.std.proofs.lemmas.List.{get_or-take, get_or-drop, length-take-le, length-drop}
 use Rattle.setoff_model.specs.Setoff.{Obligations}
 use Rattle.chain_explain.specs.Chains.{IsTrail, IsOpenChain, debtor_at, creditor_at, first_debtor, last_creditor}
@@ -86,21 +86,6 @@ module _ (o : Obligations) (rests path marks : List ℕ) (from at n : ℕ) (is :
     linked = λ i lt. is.linked i (omega arith);
     marked = λ i lt. is.marked i (omega arith);
   }
-
--- a walk that begins at a party
-pub no_step : (o : Obligations) (rests path marks : List ℕ) (party : ℕ) → length path ≡ length o.spends → length marks ≡ length o.spends → party < length o.spends →
-    IsPath o rests path marks party party 0
-no_step o rests path marks party many_path many_marks in' = record {
-  room = many_path;
-  mark_each = many_marks;
-  fits = omega arith;
-  here = in';
-  stands = refl;
-  claims = λ i lt. absurd (omega arith);
-  held = λ i lt. absurd (omega arith);
-  linked = λ i lt. absurd (omega arith);
-  marked = λ i lt. absurd (omega arith);
-}
 
 -- a walk that has begun comes from a party
 pub from_party : (o : Obligations) (rests path marks : List ℕ) (from at n : ℕ) → IsPath o rests path marks from at n →

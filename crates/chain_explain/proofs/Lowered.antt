@@ -5,7 +5,7 @@ use Rattle.std.proofs.Common.{◌≡◌, ◌≢◌, ◌⊎◌, ℕ, zero, suc, �
 use Rattle.std.proofs.lemmas.Bool.{cases_eq, eq-eqb, ne_eqb}
 use Rattle.setoff_model.specs.Setoff.{Obligations}
 use Rattle.setoff_model.proofs.Sums.{flow_at-set}
-use Rattle.chain_explain.specs.Chains.{IsTrail, debtor_at, creditor_at, first_debtor, last_creditor}
+use Rattle.chain_explain.specs.Chains.{IsTrail, debtor_at, first_debtor}
 use Rattle.chain_explain.specs.Walks.{IsCarried, IsLowered, stand}
 use Rattle.chain_explain.proofs.Lists.{set_cases}
 
@@ -33,11 +33,6 @@ carried_on o old rests k a from at in' within enough owed is f =
 stands : (o : Obligations) (chain : List ℕ) (i : ℕ) → IsTrail o chain → i < length chain → debtor_at o chain i ≡ stand o chain (first_debtor o chain) i
 stands o chain zero is in' = refl
 stands o chain (suc i) is in' = sym (is.linked i in')
-
--- the last creditor is where it ends
-pub stands_last : (o : Obligations) (chain : List ℕ) (n : ℕ) → n ≡ length chain → 0 < n → stand o chain (first_debtor o chain) n ≡ last_creditor o chain
-stands_last o chain zero e some = absurd (omega arith)
-stands_last o chain (suc n) e some = let last : n ≡ length chain - 1 = omega arith in ap (λ i. creditor_at o chain i) last
 
 -- one claim more is lowered
 module _ (o : Obligations) (old rests chain : List ℕ) (a i : ℕ) (is : IsTrail o chain) (in' : i < length chain) (each : length rests ≡ length o.amounts)

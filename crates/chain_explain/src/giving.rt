@@ -1,5 +1,5 @@
 //! A chain is found and taken off what is left.
-ghost use Rattle.std.specs.Prelude.{◌≡◌, ◌⊎◌, ℕ, ◌<◌, ◌≤◌, IsTrue, length, slice_index};
+ghost use Rattle.std.specs.Prelude.{◌≡◌, ◌⊎◌, ℕ, ◌<◌, IsTrue, slice_index};
 ghost use Rattle.setoff_model.specs.CutView.{WellFormed, obligations};
 ghost use Rattle.chain_explain.specs.Chains.{IsChainOf, chain_view};
 ghost use Rattle.chain_explain.specs.Walks.{IsLeft, IsListed, IsWalk, IsOrigin, IsBackAt, IsThrough, IsBetween};

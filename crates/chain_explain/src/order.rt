@@ -4,7 +4,7 @@ use loose_places::{at, put, short};
 use std::alloc::{AllocError, Global};
 
 // Parties with more claims count as if they had so many.
-const MOST_CLAIMS: u32 = 1_023;
+const MOST_COUNTED: u32 = 1_023;
 
 // The parties that owe something, those with the fewest claims first, as it was when they were last listed.
 //
@@ -21,9 +21,9 @@ pub(crate) struct Order {
 impl Order {
     pub(crate) fn new(alloc: Global, parties: usize) -> Result<Order, AllocError> {
         Ok(Order {
-            firsts: vec![in alloc; NONE; MOST_CLAIMS as usize + 1]?,
+            firsts: vec![in alloc; NONE; MOST_COUNTED as usize + 1]?,
             later: vec![in alloc; NONE; parties]?,
-            least: MOST_CLAIMS,
+            least: MOST_COUNTED,
             taken: parties,
         })
     }
@@ -54,7 +54,7 @@ impl Order {
                 let claims = owed
                     .count(party)
                     .wrapping_add(due.count(party))
-                    .min(MOST_CLAIMS);
+                    .min(MOST_COUNTED);
                 put(
                     &mut self.later,
                     party as usize,
@@ -79,7 +79,7 @@ impl Order {
                     self.taken = self.taken.wrapping_add(1);
                     return party;
                 }
-            } else if self.least < MOST_CLAIMS {
+            } else if self.least < MOST_COUNTED {
                 self.least = self.least.wrapping_add(1);
             } else {
                 return NONE;

@@ -38,7 +38,8 @@ pub struct Place {
 // Where a book has too little room, room is made for one entry more for each so many that it has, so that most acts find theirs.
 const SHARE_AHEAD: usize = 64;
 
-/// Makes the room that an act needs in a book and among the places, of which so many are promised.
+/// Makes the room that an act needs in a book and among the places, of which so many are promised. The error is want of
+/// memory, and comes only where more room was needed.
 pub fn make_room(
     kept: &mut PoolBook,
     places: &mut Vec<Place>,

@@ -36,13 +36,6 @@ in_reverse pool (m ∷ ms) =
     ∙ ap (λ (es : List Entry). es ++ entries_in pool (m ∷ [])) (in_reverse pool ms)
     ∙ reverse_step (is_in pool m) m (filter (is_in pool) ms)
 
-pub of_reverse : (ms : List PoolEntry) → entries_of (reverse ms) ≡ reverse (entries_of ms)
-of_reverse [] = refl
-of_reverse (m ∷ ms) =
-    ap entries_of (reverse-append (m ∷ []) ms) ∙ map-append (λ x. x.entry) (reverse ms) (m ∷ [])
-    ∙ ap (λ (es : List Entry). es ++ m.entry ∷ []) (of_reverse ms)
-    ∙ reverse_step true m ms
-
 pub in_own : (history : List PoolEntry) (pool : List ℕ) (e : Entry) → entries_in pool (history ++ member_of pool e ∷ []) ≡ entries_in pool history ++ e ∷ []
 in_own history pool e =
     in_append pool history (member_of pool e ∷ [])

@@ -55,9 +55,13 @@ open_round_in history pool = (state_in history pool).open_round
 abbrev pub call_of : PoolEntry → Call
 call_of m = record { caller = m.entry.caller; pool = m.pool; act = m.entry.act }
 
--- the calls of the accepted members, in the order of the list
+-- the accepted members, in the order of the list
+abbrev pub accepted_members : List PoolEntry → List PoolEntry
+accepted_members members = filter (λ m. is_accepted m.entry) members
+
+-- and their calls
 abbrev pub accepted_calls : List PoolEntry → List Call
-accepted_calls members = map call_of (filter (λ m. is_accepted m.entry) members)
+accepted_calls members = map call_of (accepted_members members)
 
 -- the members of one caller, in the order of the list
 abbrev pub members_by : ℕ → List PoolEntry → List PoolEntry

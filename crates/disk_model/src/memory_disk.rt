@@ -2,7 +2,7 @@
 ghost use Rattle.std.specs.Prelude.{◌≡◌, ◌+◌, ◌^◌, ◌≤◌, ◌<◌, ℕ, List, [], ◌∷◌, ◌++◌, length, take, drop, true, Option, None, Some, IfOk, IsErr, OnOk, OnErr};
 ghost use Rattle.disk_model.specs.Calls.{Holds, Torn, After, Only, Passes, IsPresent};
 ghost use Rattle.fault_count.specs.Counts.{IsCounted, HasRisen};
-ghost use Rattle.disk_model.specs.Steps.{overlay, reads_after, all_within, images_from};
+ghost use Rattle.disk_model.specs.Steps.{reads_after, all_within};
 ghost use Rattle.disk_model.specs.Memory.{first_of, end_step, is_named, after_quiet, after_refused, after_write, HasFailed, new_state};
 ghost use Rattle.disk_model.specs.declared.step.Step.TheVariants.{Waited, Synced};
 

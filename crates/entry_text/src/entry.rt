@@ -1,5 +1,5 @@
 //! The line of an entry.
-ghost use Rattle.std.specs.Prelude.{◌≡◌, ◌+◌, ◌<◌, ◌≤◌, ◌^◌, ◌++◌, unsigned_abs, length, codes, decimal, true, vec_len, vec_capacity};
+ghost use Rattle.std.specs.Prelude.{◌≡◌, ◌+◌, ◌<◌, ◌≤◌, ◌++◌, unsigned_abs, length, codes, decimal, true, vec_len, vec_capacity};
 ghost use Rattle.setoff_model.specs.declared.limits.TheConstants.{SUM_LIMIT, LINE_BYTES};
 ghost use Rattle.setoff_model.specs.Texts.{cents_text, signed_cents_text};
 ghost use Rattle.claim_history.specs.Acts.{is_valid};

@@ -86,12 +86,6 @@ pub sum_by-map : {X Y : Type 0} (m : Y → ℕ) (f : X → Y) (xs : List X) → 
 sum_by-map m f [] = refl
 sum_by-map m f (x ∷ xs) = sum_by-cons m (f x) (map f xs) ∙ ap (λ n. m (f x) + n) (sum_by-map m f xs) ∙ sym (sum_by-cons (λ y. m (f y)) x xs)
 
--- a step that changes no name changes no count
-pub count_stepped : {X : Type 0} (p : X → Bool) (step : X → X) (xs : List X) → ((x : X) → p (step x) ≡ p x) → count_by p (map step xs) ≡ count_by p xs
-count_stepped p step [] same = refl
-count_stepped p step (x ∷ xs) same =
-    count_cons p (step x) (map step xs) ∙ ap₂ (λ (b : Bool) (n : ℕ). cond b 1 0 + n) (same x) (count_stepped p step xs same) ∙ sym (count_cons p x xs)
-
 -- ---- a step of the one row
 
 pub step_at : {X : Type 0} (p : X → Bool) (change : X → X) (xs : List X) (i : ℕ) (d : X) → position p xs ≡ Some i → count_by p xs ≤ 1 → set xs i (change (get_or xs i d)) ≡ map (λ x. if p x then change x else x) xs

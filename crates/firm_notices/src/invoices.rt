@@ -20,8 +20,8 @@ use std::alloc::Global;
 ///
 /// The first row has the names `creditor,invoice,debtor,amount,due`, and every other row these fields of an invoice. A
 /// byte order mark at the start, quoted fields, and rows that end with a carriage return and a line feed are read as
-/// spreadsheets write them. `BadRow` tells the first row that is not as it has to be, and its first cause. The lane is
-/// 1 to 16.
+/// spreadsheets write them. `BadRow` tells the first row that is not as it has to be, and its first cause; the other error is
+/// want of memory. The lane is 1 to 16.
 pub fn import(alloc: Global, input: &[u8], lane: u32) -> Result<Vec<u8>, ImportError>
     requires { IsLane lane }
     ensures read { IfOk result (λ text. (filings : List Act) × IsInvoiceText input.now filings × (text.items ≡ import_text lane filings)) }

@@ -1,124 +1,41 @@
 -- What is kept of a history is told again.
-use Rattle.std.specs.Prelude.{position, slice_get, is_some, reverse, filter, nat_lt, if◌then◌else◌, Option, Some, None}
+use Rattle.std.specs.Prelude.{position, slice_get, is_some, reverse, nat_lt, if◌then◌else◌, Option, Some, None}
 use Rattle.std.specs.List.{position_or_len}
 use Rattle.std.specs.Option.{option_map}
-use Rattle.std.proofs.Common.{◌≡◌, ◌∙◌, ℕ, ◌+◌, ◌<◌, Bool, true, false, not, cond, ◌&&◌, ◌||◌, List, [], ◌∷◌, ◌++◌, map, length, take, All, refl, sym, ap, ap₂, subst, true≢false, append_assoc, length-append, arith}
+use Rattle.std.proofs.Common.{◌≡◌, ◌∙◌, ℕ, ◌+◌, ◌<◌, Bool, true, false, not, cond, ◌&&◌, ◌||◌, List, [], ◌∷◌, ◌++◌, length, take, All, refl, sym, ap, ap₂, subst, true≢false, append_assoc, length-append, arith}
 use Rattle.std.proofs.lemmas.Bool.{eqb-true, false_from_ne_true, lt-ltb, or_left, or_right}
-use Rattle.std.proofs.lemmas.List.{append-nil, map-append, reverse-append, reverse-reverse}
-use Rattle.std.proofs.lemmas.List.Elements.{All-nil, All-cons, All-head, All-tail, filter-append}
+use Rattle.std.proofs.lemmas.List.{append-nil, reverse-reverse}
+use Rattle.std.proofs.lemmas.List.Elements.{All-nil, All-cons, All-head, All-tail}
 use Rattle.std.proofs.lemmas.List.Folds.{list_any-append}
 use Rattle.std.proofs.lemmas.Option.{same_Some, slice_get-get_or}
 use Rattle.std.proofs.Math.Seq.{get_or-append_seam, take-append_seam}
 use Rattle.claim_history.specs.declared.act.Act.{Act}
 use Rattle.claim_history.specs.declared.act.Act.TheVariants as act
-use Rattle.claim_history.specs.declared.call.Call.{Call}
 use Rattle.claim_history.specs.declared.call.PoolEntry.{PoolEntry}
 use Rattle.claim_history.specs.declared.entry.Entry.{Entry}
 use Rattle.claim_history.specs.declared.entry.Reply.{Reply}
 use Rattle.claim_history.specs.declared.entry.Reply.TheVariants as reply
 use Rattle.claim_history.specs.Acts.{is_abandonment, is_publication}
-use Rattle.claim_history.specs.States.{OpenRound, State, after, number_of, state, state_of}
+use Rattle.claim_history.specs.States.{OpenRound, State, number_of, state, state_of}
 use Rattle.claim_history.specs.History as one
-use Rattle.claim_history.specs.History.{answer, is_accepted, is_no_refusal, last_count}
+use Rattle.claim_history.specs.History.{is_accepted, is_no_refusal}
 use Rattle.claim_history.specs.Rounds.{ends_round, has_end, open_cut_of}
-use Rattle.claim_history.specs.Pools.{IsLegal, IsLegalPast, accepted_calls, answered, call_of, due_member, due_of_past, entries_in, entries_of, is_in, replay_after}
+use Rattle.claim_history.specs.Pools.{IsLegal, accepted_members, entries_in}
 use Rattle.claim_history.specs.PoolRounds.{open_cut_in}
+use Rattle.claim_history.proofs.Accepted.{kept_append, kept_reverse, kept_step, replayed_past, same_state}
 use Rattle.claim_history.proofs.Agreement.{cut_law}
 use Rattle.claim_history.proofs.Greatest.{greatest_law}
 use Rattle.claim_history.proofs.Open.{open_law}
 use Rattle.claim_history.proofs.Pasts.{legal_first}
 use Rattle.claim_history.proofs.Pools.{in_append, in_reverse, legal_in, past_own}
-use Rattle.claim_history.proofs.Replies.{accepted_due}
 use Rattle.setoff_model.specs.CutView.{CutView, OutcomeView}
 use Rattle.setoff_model.proofs.SameNames.{name_same}
 use Rattle.entry_text.specs.Entries.{entry_line}
 use Rattle.printed_text.specs.Printing.{added_text, member_text, statement_of}
 use Rattle.history_text.specs.Histories.{IsRoundText, IsStatementOf, IsTextWhere, is_published_by, publication_place, publishes_round}
-use Rattle.history_text.specs.Accepted.{ReplayedLaw, RetoldLaw, StatementLaw, accepted_members, accepted_text}
-
--- ---- accepted members
-
-pub kept_step : (m : PoolEntry) (members : List PoolEntry) (b : Bool) → is_accepted m.entry ≡ b
-    → accepted_members (m ∷ members) ≡ (if b then m ∷ accepted_members members else accepted_members members)
-kept_step m members b is = ap (λ (c : Bool). if c then m ∷ accepted_members members else accepted_members members) is
-
-pub kept_append : (xs ys : List PoolEntry) → accepted_members (xs ++ ys) ≡ accepted_members xs ++ accepted_members ys
-kept_append xs ys = filter-append (λ (x : PoolEntry). is_accepted x.entry) xs ys
-
-kept_one : (m : PoolEntry) (b : Bool) → is_accepted m.entry ≡ b → reverse (accepted_members (m ∷ [])) ≡ accepted_members (m ∷ [])
-kept_one m true is = ap reverse (kept_step m [] true is) ∙ sym (kept_step m [] true is)
-kept_one m false is = ap reverse (kept_step m [] false is) ∙ sym (kept_step m [] false is)
-
-kept_reverse : (history : List PoolEntry) → accepted_members (reverse history) ≡ reverse (accepted_members history)
-kept_reverse [] = refl
-kept_reverse (m ∷ history) =
-    ap accepted_members (reverse-append (m ∷ []) history) ∙ kept_append (reverse history) (m ∷ [])
-    ∙ ap (λ (l : List PoolEntry). l ++ accepted_members (m ∷ [])) (kept_reverse history)
-    ∙ ap (λ (l : List PoolEntry). reverse (accepted_members history) ++ l) (sym (kept_one m (is_accepted m.entry) refl))
-    ∙ sym (reverse-append (accepted_members (m ∷ [])) (accepted_members history)) ∙ ap reverse (sym (kept_append (m ∷ []) history))
-
--- ---- a refusal changes nothing
-
-refusal_same : (caller : ℕ) (a : Act) (r : Reply) (s : State) → is_no_refusal r ≡ false → after caller a r s ≡ s
-refusal_same caller a (reply.Refused w) s none = refl
-refusal_same caller a r s none = absurd (true≢false none)
-
--- one more member of a pool, or of another one
-more_by : (m : PoolEntry) (b : Bool) (xs ys : List PoolEntry) → state (entries_of xs) ≡ state (entries_of ys)
-    → state (entries_of (if b then m ∷ xs else xs)) ≡ state (entries_of (if b then m ∷ ys else ys))
-more_by m true xs ys same = ap (after m.entry.caller m.entry.act m.entry.reply) same
-more_by m false xs ys same = same
-
-refused_by : (m : PoolEntry) (b : Bool) (xs : List PoolEntry) → is_accepted m.entry ≡ false → state (entries_of (if b then m ∷ xs else xs)) ≡ state (entries_of xs)
-refused_by m true xs is = refusal_same m.entry.caller m.entry.act m.entry.reply (state (entries_of xs)) is
-refused_by m false xs is = refl
-
-same_state_by : (pool : List ℕ) (m : PoolEntry) (past : List PoolEntry) (b : Bool) → is_accepted m.entry ≡ b
-    → state (entries_in pool (accepted_members past)) ≡ state (entries_in pool past)
-    → state (entries_in pool (accepted_members (m ∷ past))) ≡ state (entries_in pool (m ∷ past))
-same_state_by pool m past true is same =
-    ap (λ (ms : List PoolEntry). state (entries_in pool ms)) (kept_step m past true is)
-    ∙ more_by m (is_in pool m) (filter (is_in pool) (accepted_members past)) (filter (is_in pool) past) same
-same_state_by pool m past false is same =
-    ap (λ (ms : List PoolEntry). state (entries_in pool ms)) (kept_step m past false is) ∙ same
-    ∙ sym (refused_by m (is_in pool m) (filter (is_in pool) past) is)
-
--- a past comes to what its accepted members come to, in each pool
-same_state : (pool : List ℕ) (past : List PoolEntry) → state (entries_in pool (accepted_members past)) ≡ state (entries_in pool past)
-same_state pool [] = refl
-same_state pool (m ∷ past) = same_state_by pool m past (is_accepted m.entry) refl (same_state pool past)
-
-pub same_due : (past : List PoolEntry) (call : Call) → due_of_past (accepted_members past) call ≡ due_of_past past call
-same_due past call = ap (λ (s : State). answer s call.caller call.act) (same_state call.pool past)
+use Rattle.history_text.specs.Accepted.{ReplayedLaw, RetoldLaw, StatementLaw, accepted_text}
 
 -- ---- the replay
-
-pub replay_append : (past : List PoolEntry) (xs ys : List Call) → replay_after past (xs ++ ys) ≡ replay_after (replay_after past xs) ys
-replay_append past [] ys = refl
-replay_append past (x ∷ xs) ys = replay_append (due_member past x ∷ past) xs ys
-
-abbrev again : List PoolEntry → List PoolEntry
-again past = replay_after [] (map call_of (reverse past))
-
-again_by : (m : PoolEntry) (past : List PoolEntry) (b : Bool) → is_accepted m.entry ≡ b → IsLegalPast (m ∷ past)
-    → again (accepted_members past) ≡ accepted_members past → again (accepted_members (m ∷ past)) ≡ accepted_members (m ∷ past)
-again_by m past true is legal same =
-    let before = accepted_members past in
-    let calls : map call_of (reverse (m ∷ before)) ≡ map call_of (reverse before) ++ call_of m ∷ [] = ap (map call_of) (reverse-append (m ∷ []) before) ∙ map-append call_of (reverse before) (m ∷ []) in
-    let told : due_of_past before (call_of m) ≡ m.entry.reply = same_due past (call_of m) ∙ accepted_due (last_count (entries_of past)) (due_of_past past (call_of m)) m.entry.reply legal.0 is in
-    ap again (kept_step m past true is) ∙ ap (replay_after []) calls ∙ replay_append [] (map call_of (reverse before)) (call_of m ∷ [])
-    ∙ ap (λ (p : List PoolEntry). due_member p (call_of m) ∷ p) same ∙ ap (λ (r : Reply). answered (call_of m) r ∷ before) told ∙ sym (kept_step m past true is)
-again_by m past false is legal same = ap again (kept_step m past false is) ∙ same ∙ sym (kept_step m past false is)
-
-kept_again : (past : List PoolEntry) → IsLegalPast past → again (accepted_members past) ≡ accepted_members past
-kept_again [] legal = refl
-kept_again (m ∷ past) legal = again_by m past (is_accepted m.entry) refl legal (kept_again past legal.1)
-
--- the calls of the accepted members come to them
-pub replayed_past : (history : List PoolEntry) → IsLegal history → replay_after [] (accepted_calls history) ≡ accepted_members (reverse history)
-replayed_past history legal =
-    ap (λ (l : List PoolEntry). replay_after [] (map call_of l)) (sym (reverse-reverse (accepted_members history)) ∙ ap reverse (sym (kept_reverse history)))
-    ∙ kept_again (reverse history) legal
 
 pub replayed_law : ReplayedLaw
 replayed_law history legal = ap reverse (replayed_past history legal ∙ kept_reverse history) ∙ reverse-reverse (accepted_members history)

@@ -17,16 +17,12 @@ use Rattle.printed_text.specs.Printing.{IsPrintableAt, added_text, member_text, 
 use Rattle.printed_text.specs.Writing.{GoesThrough}
 use Rattle.printed_text.proofs.Members.{added_from, from_it}
 use Rattle.printed_text.proofs.Printing.{same_statement}
-use Rattle.printed_text.proofs.Passing.{GoesThroughUpTo, part_left, part_more, part_of_text, pass_none, pass_then, pass_whole, up_breaks, up_more}
+use Rattle.printed_text.proofs.Passing.{GoesThroughUpTo, part_left, part_more, part_of_text, pass_then, pass_whole, up_breaks, up_more}
 use Rattle.history_text.specs.Histories.{HasPrinted, HasTold, told_text}
 use Rattle.history_text.specs.declared.told.Told.{Told}
 use Rattle.history_text.specs.declared.told.Told.TheVariants as told
 
 -- ---- the text of one more member
-
--- where nothing was printed
-pub none_told : (x : Option (List ℕ)) (a text : List ℕ) → HasTold told.Short x x a a text
-none_told x a text = ([], text, refl, pass_none x a)
 
 -- the text of the member at a place
 pub told_is : (history : List PoolEntry) (i : ℕ) (m : PoolEntry) → slice_get history i ≡ Some m → told_text history i ≡ member_text (take i history) m

@@ -1,7 +1,6 @@
 -- Members that are put at the end of those before them.
 use Rattle.std.specs.Prelude.{reverse, slice_get, Some}
 use Rattle.std.proofs.Common.{◌≡◌, ◌∙◌, ℕ, ◌+◌, ◌≤◌, ◌<◌, true, List, [], ◌∷◌, ◌++◌, length, take, drop, sym, ap, ap₂, subst, arith}
-use Rattle.std.proofs.lemmas.List.{length-take-le}
 use Rattle.setoff_model.specs.declared.kind.Kind.{Kind}
 use Rattle.setoff_model.specs.CutView.{CutView}
 use Rattle.setoff_model.specs.declared.limits.TheConstants.{MOST_ROUNDS}
@@ -74,12 +73,6 @@ none_are_first most history members none = record {
   are = none ∙ sym (ap (λ (ms : List PoolEntry). take (length ms) history) none);
   few = omega (arith, ap (λ (ms : List PoolEntry). length ms) none);
 }
-
--- those up to a place are the first, at most so many
-pub first_to : (most place : ℕ) (history members : List PoolEntry) → place ≤ length history → place ≤ most → members ≡ take place history → AreFirst most history members
-first_to most place history members within few are =
-    let many : length members ≡ place = ap (λ (ms : List PoolEntry). length ms) are ∙ length-take-le place history within in
-    record { are = are ∙ ap (λ (n : ℕ). take n history) (sym many); few = omega (arith, many, few) }
 
 pub first_later : (most : ℕ) (history members : List PoolEntry) → AreFirst most history members → AreFirst (most + 1) history members
 first_later most history members first = record { are = first.are; few = omega (arith, first.few) }

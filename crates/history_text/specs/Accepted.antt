@@ -1,15 +1,11 @@
 -- What is kept of a history: its accepted members, with the replies that they had, and how they are told.
-use Rattle.std.specs.Prelude.{◌≡◌, ℕ, true, List, [], ◌∷◌, ◌++◌, filter, if◌then◌else◌}
+use Rattle.std.specs.Prelude.{◌≡◌, ℕ, true, List, [], ◌∷◌, ◌++◌, if◌then◌else◌}
 use Rattle.claim_history.specs.declared.call.PoolEntry.{PoolEntry}
 use Rattle.claim_history.specs.History.{is_accepted}
-use Rattle.claim_history.specs.Pools.{IsLegal, accepted_calls, replay_of}
+use Rattle.claim_history.specs.Pools.{IsLegal, accepted_calls, accepted_members, replay_of}
 use Rattle.claim_history.specs.PoolRounds.{open_cut_in}
 use Rattle.printed_text.specs.Printing.{added_text, member_text, statement_of}
 use Rattle.history_text.specs.Histories.{IsRoundText, publishes_round}
-
--- the accepted members, in the order of the list
-abbrev pub accepted_members : List PoolEntry → List PoolEntry
-accepted_members members = filter (λ m. is_accepted m.entry) members
 
 -- the calls of the accepted members of a legal history, replayed, are these members, with the replies that they had
 abbrev pub ReplayedLaw : Type 0

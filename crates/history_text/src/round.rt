@@ -1,5 +1,5 @@
 //! The statement of one round.
-ghost use Rattle.std.specs.Prelude.{◌≡◌, ◌+◌, ◌≤◌, ◌++◌, [], OnOk, OnErr, Some, position, slice_get, vec_len, vec_capacity, codes, decimal, true};
+ghost use Rattle.std.specs.Prelude.{◌≡◌, ◌+◌, ◌≤◌, ◌++◌, [], OnOk, OnErr, Some, position, slice_get, vec_len, vec_capacity, true};
 ghost use Rattle.setoff_model.specs.declared.limits.TheConstants.{LINE_BYTES, OUTPUT_BYTES};
 ghost use Rattle.std.specs.Io.KnownBytes.{Appends};
 ghost use Rattle.bureau_edge.specs.Streams.{AppendsPart, CountsFaults};

@@ -5,13 +5,13 @@ use Rattle.std.proofs.lemmas.Bool.{false_from_ne_true}
 use Rattle.std.proofs.lemmas.List.{map-append, reverse-append, reverse-reverse}
 use Rattle.std.proofs.lemmas.List.Elements.{All-push}
 use Rattle.claim_history.specs.declared.entry.Reply.{Reply}
-use Rattle.claim_history.specs.declared.entry.Reply.TheVariants as reply
 use Rattle.claim_history.specs.declared.call.Call.{Call}
 use Rattle.claim_history.specs.declared.call.PoolEntry.{PoolEntry}
 use Rattle.claim_history.specs.Acts.{is_publication, is_close}
 use Rattle.claim_history.specs.History.{is_accepted, is_no_refusal, is_opening, replied}
 use Rattle.claim_history.specs.Pools.{IsLegal, answered, due_member, due_of_past, due_reply, replay_after, state_in, with_due}
 use Rattle.claim_history.specs.PoolNeeds.{IsWithinLimits, is_full}
+use Rattle.claim_history.proofs.Accepted.{replay_append}
 use Rattle.claim_history.proofs.PoolRoom.{due_is, use_law}
 use Rattle.claim_history.proofs.Replies.{opens}
 use Rattle.round_journal.specs.declared.record.Record.{Record}
@@ -26,12 +26,6 @@ use Rattle.journal_replay.specs.Replays.{AreSound, IsReplayed, StopsFirst, Tells
 pub other_opens_none : (history : List PoolEntry) (call : Call) (r : Reply) → r ≡ due_reply history call → is_close call.act ≡ false → is_opening r ≡ false
 other_opens_none history call r due other =
     false_from_ne_true (is_opening r) (λ e. true≢false (sym (ap is_close (opens (state_in history call.pool) 0 call.caller call.act r (replied due) e).act_is ∙ refl) ∙ other))
-
--- an opening is accepted
-pub opening_accepted : (r : Reply) → is_opening r ≡ true → is_no_refusal r ≡ true
-opening_accepted (reply.Opened round) is = refl
-opening_accepted (reply.Refused why) is = absurd (true≢false (sym is))
-opening_accepted r is = refl
 
 -- a publication that is accepted is within the limits
 pub published_so : (history new : List PoolEntry) (call : Call) (r : Reply) → new ≡ history ++ answered call r ∷ [] → IsLegal history → is_publication call.act ≡ true
@@ -48,10 +42,6 @@ published_so history new call r is legal publishes due accepted within =
 
 abbrev ask : List PoolEntry → Call → List PoolEntry
 ask past call = due_member past call ∷ past
-
-pub replay_append : (past : List PoolEntry) (xs ys : List Call) → replay_after past (xs ++ ys) ≡ replay_after (replay_after past xs) ys
-replay_append past [] ys = refl
-replay_append past (x ∷ xs) ys = replay_append (ask past x) xs ys
 
 -- the newest member of the records with one more
 pub more_asked : (before after : List Record) (r : Record) → replay_after [] (map recorded_call (before ++ r ∷ after)) ≡ replay_after (ask (replay_after [] (map recorded_call before)) (recorded_call r)) (map recorded_call after)

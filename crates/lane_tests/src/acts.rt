@@ -1,5 +1,4 @@
 //! Acts, and how a seat of a shared desk on a disk in memory asks them.
-ghost use Rattle.std.specs.Prelude.{◌≡◌};
 ghost use Rattle.shared_bureau.specs.Adding.{IsReady};
 
 use bureau_desk::Desk;

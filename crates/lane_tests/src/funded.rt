@@ -1,5 +1,4 @@
 //! A FUNDED round of a shared desk, which holds its firms, and which the level solver solves.
-ghost use Rattle.std.specs.Prelude.{◌≡◌};
 ghost use Rattle.shared_bureau.specs.Adding.{IsReady};
 
 use crate::acts::{MemoryDesk, ask, firm};

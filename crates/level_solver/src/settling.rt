@@ -6,7 +6,7 @@ ghost use Rattle.residual_state.specs.States.{IsState, StaysOn};
 use crate::levels::{MOST_WEIGHTED, all_levels, first_levels};
 use level_engine::{Advice, Halves};
 use residual_state::{State, adopt, surplus_of};
-use simplex_engine::{Position, Solution, seek_cold, seek_solution};
+use simplex_engine::{Solution, Start, seek_cold, seek_solution};
 use std::alloc::{AllocError, Global};
 
 // After so many turns, each of twice as much work, the levels go on alone.
@@ -147,14 +147,14 @@ fn found(
     windows: &[u64],
     turns: u32,
 ) -> Result<Option<Solution>, AllocError> {
-    let position = Position {
+    let start = Start {
         edges: &state.edges,
         flows: &state.flows,
         prices: &state.prices,
         excess: &state.excess,
         windows,
     };
-    seek_solution(alloc, &position, halves, turns)
+    seek_solution(alloc, &start, halves, turns)
 }
 
 // A whole solution, if it is found from where nothing is set off.
@@ -164,12 +164,12 @@ fn found_cold(
     halves: &Halves,
     windows: &[u64],
 ) -> Result<Option<Solution>, AllocError> {
-    let position = Position {
+    let start = Start {
         edges: &state.edges,
         flows: &state.flows,
         prices: &state.prices,
         excess: &state.excess,
         windows,
     };
-    seek_cold(alloc, &position, halves)
+    seek_cold(alloc, &start, halves)
 }

@@ -27,7 +27,7 @@ use Rattle.live_intake.specs.declared.stop.Stop.{Stop}
 use Rattle.live_intake.specs.declared.stop.Stop.TheVariants as stop
 use Rattle.live_intake.specs.Handing.{handed_of}
 use Rattle.live_intake.specs.Joining.{HaveHanded}
-use Rattle.live_intake.specs.Rings.{AreMarked, HasHanded, HasRoom, HasSent, IsOpen, Ring}
+use Rattle.live_intake.specs.Rings.{AreMarked, HasHanded, HasSent, Ring}
 use Rattle.live_intake.specs.Reading.{Ends, HasFront, HasGoneOn, HasReadLast, HasReadThese, HasSentAll, HasTaken, HaveSentAll, IsBadForGood}
 
 -- ---- rings
@@ -273,9 +273,6 @@ pub kept_none : (l0 l1 : Option (List ℕ)) → Keeps l0 l1 → Consumes l0 l1 [
 kept_none None l1 k = tt
 kept_none (Some x) None k = absurd k
 kept_none (Some x) (Some y) k = sym k
-
-pub open_room : (rings : List Ring) → All IsOpen rings → All HasRoom rings
-open_room rings h = λ k ring lt. record { all = (h k ring lt).all; mark = let two = (h k ring lt).line in omega (arith, two) }
 
 marked_at : (olds news : List Ring) → AreMarked olds news → (k : ℕ) (ring : Ring) → k < length olds → HasSent (get_or olds k ring) (get_or news k ring) handed.End
 marked_at olds news marked k ring lt =

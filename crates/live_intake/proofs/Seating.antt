@@ -34,9 +34,3 @@ joined_more {D} rings lanes ring lane so_far one = record {
   same = omega (arith, so_far.same, length-append rings (ring ∷ []), length-append lanes (lane ∷ []));
   each = pushed_both (λ k r l. IsJoined k r l) rings lanes ring lane so_far.same so_far.each (subst (λ n. IsJoined n ring lane) so_far.same one);
 }
-
-pub none_joined : {D : Type 0} (rings : List Ring) (lanes : List (LiveLane D)) → rings ≡ [] → lanes ≡ [] → AreJoined rings lanes
-none_joined {D} rings lanes r l = record {
-  same = ap length l ∙ sym (ap length r);
-  each = λ k a b lt. absurd (omega (arith, lt, ap length r));
-}

@@ -1,5 +1,5 @@
 //! What came of the lines of a segment, behind what came of those before.
-ghost use Rattle.std.specs.Prelude.{◌≡◌, ◌+◌, ◌≤◌, ◌++◌, List, length, All, vec_len, vec_capacity};
+ghost use Rattle.std.specs.Prelude.{◌≡◌, ◌+◌, ◌≤◌, length, All, vec_len, vec_capacity};
 ghost use Rattle.setoff_model.specs.declared.limits.TheConstants.{MOST_LANES};
 ghost use Rattle.live_intake.specs.Batching.{HasMergedMore, HaveEnds};
 

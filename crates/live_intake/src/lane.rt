@@ -1,5 +1,5 @@
 //! One lane, while lines are handed to it.
-ghost use Rattle.std.specs.Prelude.{◌≡◌, ◌≤◌, ◌++◌, ◌∷◌, [], vec_capacity};
+ghost use Rattle.std.specs.Prelude.{◌≡◌, ◌++◌, ◌∷◌, []};
 ghost use Rattle.rtrb.specs.Ring.{received, SameConsumer};
 ghost use Rattle.live_intake.specs.Handing.{MayHand};
 ghost use Rattle.live_intake.specs.Segments.{HasServedSegment, IsFit};

@@ -1,6 +1,6 @@
 -- The batches that were served so far of an input that is still read, and one more.
-use Rattle.std.specs.Prelude.{Option, Result, ◌<◌}
-use Rattle.std.proofs.Common.{true≢false, ◌≡◌, ◌≢◌, ◌∙◌, ◌⊎◌, inl, inr, ⊎_elim, ℕ, ◌≤◌, Bool, true, false, List, [], ◌∷◌, ◌++◌, length, map, take, drop, refl, sym, ap, subst, zero, suc, arith}
+use Rattle.std.specs.Prelude.{Option, Result}
+use Rattle.std.proofs.Common.{true≢false, ◌≡◌, ◌≢◌, ◌∙◌, ◌⊎◌, inl, inr, ⊎_elim, ℕ, ◌≤◌, true, false, List, [], ◌∷◌, ◌++◌, length, drop, refl, sym, ap, subst, arith}
 use Rattle.std.proofs.lemmas.List.{append-nil, take-append-drop}
 use Rattle.std.proofs.lemmas.List.Splits.{slice_split_none}
 use Rattle.std.specs.Io.KnownBytes.{Appends, Consumes}
@@ -13,7 +13,6 @@ use Rattle.disk_model.specs.Calls.{Seen}
 use Rattle.request_text.specs.declared.request.Request.{Request}
 use Rattle.request_text.specs.Grammar.{AreBatches, IsRequestText}
 use Rattle.bureau_desk.specs.Desks.{DeskView}
-use Rattle.served_lines.specs.declared.answer.Answer.{Answer}
 use Rattle.printed_text.specs.declared.exit_status.ExitStatus.{ExitStatus}
 use Rattle.printed_text.specs.declared.exit_status.ExitStatus.TheVariants as statuses
 use Rattle.input_front.specs.Front.{IsFrontOf, is_feed, whole_lines, whole_of_parts}
@@ -21,7 +20,7 @@ use Rattle.input_front.specs.Taken.{HasBatches, HasNoFeed, HasRead, IntakeView}
 use Rattle.input_front.proofs.Fronts.{front_law}
 use Rattle.live_intake.specs.declared.stop.Stop.{Stop}
 use Rattle.live_intake.specs.declared.stop.Stop.TheVariants as stop
-use Rattle.live_intake.specs.Live.{HasRunLive, IsStop, is_fence}
+use Rattle.live_intake.specs.Live.{IsStop, is_fence}
 use Rattle.batch_runs.specs.declared.tally.Tally.{Tally}
 use Rattle.batch_runs.specs.Runs.{run_status}
 use Rattle.batch_runs.specs.Serving.{IsTally, text_between}

@@ -2,7 +2,6 @@
 ghost use Rattle.std.specs.Prelude.{◌≡◌, ◌≢◌, ◌≤◌, [], true, vec_capacity, OnOk};
 ghost use Rattle.setoff_model.specs.declared.limits.TheConstants.{MOST_INPUT_BYTES, OUTPUT_BYTES};
 ghost use Rattle.bureau_edge.specs.Streams.{CountsFaults};
-ghost use Rattle.input_front.specs.Taken.{HasBatches};
 ghost use Rattle.live_intake.specs.Live.{is_fence};
 ghost use Rattle.live_intake.specs.Reading.{fence_lines};
 ghost use Rattle.printed_text.specs.declared.exit_status.ExitStatus.TheVariants as statuses;

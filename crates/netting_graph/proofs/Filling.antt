@@ -23,16 +23,6 @@ pub record Filled (m : ℕ) (o n : Obligations) (flows left d : List ℕ) : Type
   pub oldest : (a b : ℕ) → a < b → b < m → slice_index o.debtors a ≡ slice_index o.debtors b
       → slice_index o.creditors a ≡ slice_index o.creditors b → slice_index d a < slice_index o.amounts a → slice_index d b ≡ 0
 
-pub filled_none : (o n : Obligations) (flows : List ℕ) → length flows ≡ length n.amounts → Filled 0 o n flows flows []
-filled_none o n flows long = record {
-  long = refl;
-  left_long = long;
-  within = λ c l. absurd (omega arith);
-  sums = λ a l. omega arith;
-  full = λ a c la l on pos. absurd (omega arith);
-  oldest = λ a b lt l d c below. absurd (omega arith);
-}
-
 -- sums of numbers that are the same below m
 between_front : (m : ℕ) (ds cs x y : List ℕ) (p q : ℕ) → ((c : ℕ) → c < m → slice_index x c ≡ slice_index y c)
     → flow_between m ds cs x p q ≡ flow_between m ds cs y p q

@@ -122,9 +122,6 @@ module _ (widest : ℕ) (s t : List ℤ) (m : ℕ) (up : IsRising s) (few : m �
       (omega (arith, ints, first, some), omega (arith, ints, first, most))
 
 -- one number more
-pub numbered_none : (widest : ℕ) (s : List ℤ) → AreNumbered widest s [] 0
-numbered_none widest s = record { one_each = refl; first = λ h. absurd (omega arith); steps = λ k h. absurd (omega arith) }
-
 pub numbered_more : (widest : ℕ) (s t : List ℤ) (m : ℕ) (v : ℤ) → AreNumbered widest s t m → (m ≡ 0 → v ≡ pos 0) →
     ((k : ℕ) → k + 1 ≡ m → IsStep widest (price_at s m -ℤ price_at s k) (v -ℤ price_at t k)) → AreNumbered widest s (t ++ v ∷ []) (m + 1)
 numbered_more widest s t m v are none step =
@@ -267,9 +264,6 @@ placed_more p q s t z n k v before in' within at number = record {
       (record { place = k; within = within; at = at ∙ before.kept n (omega arith); number = get_or-set_same q n v (pos 0) in' ∙ number });
   kept = λ f le. get_or-set_other q n f v (pos 0) (λ e. absurd (omega (arith, e))) ∙ before.kept f (omega arith);
 }
-
-pub placed_none : (p s t : List ℤ) (z : ℤ) → IsPlacedBelow p p s t z 0
-placed_none p s t z = record { long = refl; done = λ f lt. absurd (omega arith); kept = λ f le. refl }
 
 -- the number of the ground, named otherwise
 pub placed_from : (p q s t : List ℤ) (z y : ℤ) (f : ℕ) → z ≡ y → IsPlaced p q s t z f → IsPlaced p q s t y f

@@ -1,5 +1,5 @@
 -- Text that goes through a buffer, step after step.
-use Rattle.std.proofs.Common.{◌≡◌, ◌≤◌, ℕ, List, [], ◌++◌, refl, sym, ap, ◌∙◌, subst, append_assoc, arith}
+use Rattle.std.proofs.Common.{◌≡◌, ℕ, List, [], ◌++◌, refl, sym, ap, ◌∙◌, subst, append_assoc, arith}
 use Rattle.std.specs.Prelude.{Option, Result, Ok, Err, IsErr, OnOk, OnErr}
 use Rattle.std.specs.Io.KnownBytes.{Appends}
 use Rattle.std.proofs.lemmas.List.{append-nil}
@@ -14,10 +14,6 @@ pass_into x a t = record { taken = []; split = refl; appended = Appends-none x }
 
 pub pass_none : (x : Option (List ℕ)) (a : List ℕ) → GoesThrough x x a a []
 pass_none x a = record { taken = []; split = append-nil a; appended = Appends-none x }
-
--- a buffer that was taken whole
-pub pass_out : (x y : Option (List ℕ)) (a b : List ℕ) → Appends x y a → b ≡ [] → GoesThrough x y a b []
-pass_out x y a b h e = record { taken = a; split = ap (λ (t : List ℕ). a ++ t) (sym e); appended = h }
 
 -- one text after another
 pub pass_then : (x y z : Option (List ℕ)) (a b c t u : List ℕ) → GoesThrough x y a b t → GoesThrough y z b c u → GoesThrough x z a c (t ++ u)

@@ -1,5 +1,5 @@
 //! Lines that end a run.
-ghost use Rattle.std.specs.Prelude.{◌≡◌, ◌≢◌};
+ghost use Rattle.std.specs.Prelude.{◌≢◌};
 ghost use Rattle.printed_text.specs.declared.exit_status.ExitStatus.TheVariants as statuses;
 ghost use Rattle.printed_text.specs.Statuses.{TellsSinkFault};
 ghost use Rattle.printed_text.specs.Texts.{memory_text, read_text, too_long_text, words_text};

@@ -7,7 +7,7 @@ ghost use Rattle.printed_text.specs.Statuses.{number_of};
 pub enum ExitStatus {
     /// What was asked for was done.
     Done,
-    /// A set-off is not proved, or an act of a journal is refused or full.
+    /// A set-off is not proved, no round of the number was published, or an act of a journal is refused or full.
     No,
     /// The words ask for nothing.
     Words,

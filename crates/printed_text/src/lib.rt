@@ -24,7 +24,7 @@ pub use ending::{end_with, tell_no_memory, tell_read_fault, tell_too_long, tell_
 pub use exit_status::ExitStatus;
 pub use fault_text::{write_bad_line, write_bad_row, write_bad_statement};
 pub use output::{
-    flush, make_room, output_buffer, print_batch, print_member, print_members, print_publication,
+    flush, make_room, output_buffer, print_batch, print_member, print_publication,
     print_unanswered, print_unanswered_lines,
 };
 pub use verdict_text::{status_of_verdict, write_verdict};

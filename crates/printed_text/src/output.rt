@@ -1,5 +1,5 @@
 //! Output in pieces: text goes through a buffer of `OUTPUT_BYTES` to the sink.
-ghost use Rattle.std.specs.Prelude.{◌≡◌, ℕ, ◌+◌, ◌^◌, ◌<◌, ◌≤◌, [], ◌++◌, true, All, IfOk};
+ghost use Rattle.std.specs.Prelude.{◌≡◌, ℕ, ◌+◌, ◌^◌, ◌<◌, ◌≤◌, [], ◌++◌, true, IfOk};
 ghost use Rattle.std.specs.Prelude.{OnOk, OnErr, vec_len, vec_capacity, length, slice_get, take, drop};
 ghost use Rattle.std.specs.Io.KnownBytes.{Appends};
 ghost use Rattle.bureau_edge.specs.Streams.{AppendsPart, CountsFaults};
@@ -34,7 +34,7 @@ pub fn output_buffer(alloc: Global) -> Result<Vec<u8>, AllocError>
     Vec::with_capacity(alloc, OUTPUT_BYTES)
 }
 
-/// Writes what is in the buffer, and empties it.
+/// Writes what is in the buffer, and empties it. An error is a failure of the sink, which counted it.
 pub fn flush<K: Sink>(sink: &mut K, buffer: &mut Vec<u8>) -> Result<(), Failed>
 
     // The text went through, or the sink failed and took some first bytes of it.
@@ -50,7 +50,7 @@ pub fn flush<K: Sink>(sink: &mut K, buffer: &mut Vec<u8>) -> Result<(), Failed>
     Ok(())
 }
 
-/// Makes room for a line, of `LINE_BYTES`.
+/// Makes room for a line, of `LINE_BYTES`. An error is a failure of the sink, which counted it.
 pub fn make_room<K: Sink>(sink: &mut K, buffer: &mut Vec<u8>) -> Result<(), Failed>
     requires { OUTPUT_BYTES ≤ vec_capacity buffer.old }
 
@@ -153,11 +153,11 @@ pub fn print_member<K: Sink>(
     print_publication(sink, buffer, entry, rounds, next)
 }
 
-/// Prints the members of a history from a place on, each published one with the statement of its round. The rounds are the cuts of
-/// those that were published from there on.
-///
-/// The buffer and the failure are as for `print_publication`.
-pub fn print_members<K: Sink>(
+// Prints the members of a history from a place on, each published one with the statement of its round. The rounds are the cuts of
+// those that were published from there on.
+//
+// The buffer and the failure are as for `print_publication`.
+fn print_members<K: Sink>(
     sink: &mut K,
     buffer: &mut Vec<u8>,
     books: &Books,

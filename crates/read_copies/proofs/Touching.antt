@@ -1,7 +1,7 @@
 -- Changes of the firms that entries touch settle all rows.
 use Rattle.std.specs.Prelude.{option_map, All, Option, Some, None, if◌then◌else◌}
 use Rattle.std.specs.List.{list_any}
-use Rattle.std.proofs.Common.{◌≡◌, ℕ, ◌+◌, ◌<◌, Bool, true, false, ◌||◌, List, [], ◌∷◌, ◌++◌, length, take, drop, get_or, refl, sym, ◌∙◌, ap, subst, inl, inr, ⊎_elim, true≢false}
+use Rattle.std.proofs.Common.{◌≡◌, ℕ, ◌+◌, ◌<◌, Bool, true, false, ◌||◌, List, [], ◌∷◌, ◌++◌, length, take, drop, get_or, refl, sym, ◌∙◌, ap, subst, inr, ⊎_elim, true≢false}
 use Rattle.std.proofs.lemmas.Bool.{or_cases, or_parts}
 use Rattle.std.proofs.lemmas.List.{take_more}
 use Rattle.std.proofs.lemmas.List.Elements.{All-nil, All-cons}
@@ -18,7 +18,7 @@ use Rattle.claim_history.specs.History.{IsLegal}
 use Rattle.claim_history.specs.Touched.{is_debtor_of, is_side_of, touches, Stays, TouchLaw}
 use Rattle.claim_book.specs.Book.{ledger_of, claim_in}
 use Rattle.read_copies.specs.declared.row.Row.{Row}
-use Rattle.read_copies.specs.Rows.{row_in, row_at, HasRows, IsSettled, HasAdded, AreSettled, AreAllSettled}
+use Rattle.read_copies.specs.Rows.{row_in, HasRows, IsSettled, HasAdded, AreSettled, AreAllSettled}
 use Rattle.read_copies.proofs.Beginnings.{prefix_rest}
 
 -- ---- the two firms of a claim
@@ -53,14 +53,6 @@ sides_settled l rows first old new key claim is creditor debtor = record {
       ⊎_elim (λ same. debtor.added.kept firm (creditor.each firm same known)) (λ owes. debtor.each firm (debtor_is l (filing_of l key) claim firm is owes) known)
       (or_cases (same_name firm key.creditor) (is_debtor_of firm (filing_of l key)) side);
 }
-
--- ---- no firm, and all
-
-pub none_settled : (l : Ledger) (rows changes : List Row) → AreSettled l rows (λ firm. false) changes changes
-none_settled l rows changes = record { added = record { each = λ h. h; kept = λ firm h. h }; each = λ firm passes known. absurd (true≢false (sym passes)) }
-
-pub some_settled : (l : Ledger) (rows old new : List Row) (test : List ℕ → Bool) → AreAllSettled l rows old new → AreSettled l rows test old new
-some_settled l rows old new test all = record { added = all.added; each = λ firm passes known. all.each firm refl known }
 
 -- ---- entries, one after the other
 

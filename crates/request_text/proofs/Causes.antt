@@ -1,5 +1,5 @@
 -- A line with a cause asks nothing.
-use Rattle.std.proofs.Common.{◌≡◌, ◌≤◌, ℕ, zero, suc, Bool, true, false, inl, inr, List, [], ◌∷◌, length, drop, get_or, refl, sym, ap, ◌∙◌, subst, decimal, arith, if◌then◌else◌}
+use Rattle.std.proofs.Common.{◌≡◌, ◌≤◌, ℕ, zero, suc, Bool, true, false, inl, inr, List, [], ◌∷◌, drop, get_or, refl, sym, ap, ◌∙◌, subst, decimal, arith, if◌then◌else◌}
 use Rattle.std.specs.Prelude.{◌⊎◌, ◌&&◌, ◌++◌, bytes_eq, codes, Some, None}
 use Rattle.std.specs.List.{sum_by}
 use Rattle.std.proofs.lemmas.Bool.{and_parts}
@@ -258,19 +258,3 @@ lane_cause parts lane after causes.Pool by e h = (lane, (after, (by, e, h)))
 lane_cause parts lane after causes.Verb by e h = (lane, (after, (by, e, h)))
 lane_cause parts lane after causes.Fields by e h = (lane, (after, (by, e, h)))
 lane_cause parts lane after (causes.Field k) by e h = (lane, (after, (by, e, h)))
-
--- ---- the cause is in the fields after a pool, or after a lane alone
-
-pub other_cause : (after : List (List ℕ)) (pool : List ℕ) (others : List (List ℕ)) (cause : LineCause) → IsOtherPool pool → BeginsAt after pool others → HasVerbCause others cause → HasPoolCause after cause
-other_cause after pool others causes.Lane other e h = absurd h.1.1.1
-other_cause after pool others causes.Pool other e h = absurd h.1.1.1
-other_cause after pool others causes.Verb other e h = inr (pool, (others, (other, e, h)))
-other_cause after pool others causes.Fields other e h = inr (pool, (others, (other, e, h)))
-other_cause after pool others (causes.Field k) other e h = inr (pool, (others, (other, e, h)))
-
-pub main_cause : (after : List (List ℕ)) (cause : LineCause) → BeginsElsewhere after → HasVerbCause after cause → HasPoolCause after cause
-main_cause after causes.Lane none h = absurd h.1.1.1
-main_cause after causes.Pool none h = absurd h.1.1.1
-main_cause after causes.Verb none h = inl (none, h)
-main_cause after causes.Fields none h = inl (none, h)
-main_cause after (causes.Field k) none h = inl (none, h)

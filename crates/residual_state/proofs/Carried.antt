@@ -113,9 +113,6 @@ module _ (w v : State) (a d : ℕ) (along : Bool) (step : Step) (few : d < 2 ^ 6
         omega (arith, rise, same);
   }
 
-pub none_worse : (w : State) → IsNoWorse w w
-none_worse w = record { state = λ g is. is; surplus = omega arith }
-
 pub worse_never : (u v w : State) → IsNoWorse u v → IsNoWorse v w → IsNoWorse u w
 worse_never u v w one two = record {
   state = λ g is. two.state g (one.state g is);

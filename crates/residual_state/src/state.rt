@@ -1,8 +1,7 @@
 //! The state of a search for a greatest set-off.
-ghost use Rattle.std.specs.Prelude.{◌≡◌, ◌<◌, ◌≤◌, ℕ, List, length, pos, ◌≤ℤ◌, All, IfOk};
+ghost use Rattle.std.specs.Prelude.{◌≡◌, ◌<◌, ◌≤◌, ℕ, length, pos, ◌≤ℤ◌, All, IfOk};
 ghost use Rattle.setoff_model.specs.declared.limits.TheConstants.{MOST_FIRMS, MOST_CLAIMS, MOST_WINDOW};
-ghost use Rattle.setoff_model.specs.Setoff.{Obligations};
-ghost use Rattle.residual_state.specs.Edges.{IsClaimEdge, obligations_of_edges, rewards};
+ghost use Rattle.residual_state.specs.Edges.{IsClaimEdge};
 ghost use Rattle.residual_state.specs.Excesses.{excess_of};
 ghost use Rattle.residual_state.specs.States.{Weighed, IsState, IsStateOf, IsFound, weighed_edges};
 

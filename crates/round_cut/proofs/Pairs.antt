@@ -17,9 +17,6 @@ pairs_reverse R flip xs pairs = λ i j d lt within.
     let at_j = get_or-reverse xs j d (omega (arith, within, long)) in
     subst₂ R (sym at_i) (sym at_j) (flip (get_or xs (length xs - 1 - j) d) (get_or xs (length xs - 1 - i) d) (pairs (length xs - 1 - j) (length xs - 1 - i) d (omega (arith, lt, within, long)) (omega (arith, lt, within, long))))
 
-pub pairs_weaker : {X : Type 0} (R S : X → X → Type 0) → ((a b : X) → R a b → S a b) → (xs : List X) → AllPairs R xs → AllPairs S xs
-pairs_weaker R S weaker xs pairs = λ i j d lt within. weaker (get_or xs i d) (get_or xs j d) (pairs i j d lt within)
-
 -- two elements that differ are not both of one kind
 pub at_most_one : {X : Type 0} (R : X → X → Type 0) (P : X → Type 0) (none : X) → ((a b : X) → P a → P b → R a b → ⊥) → (xs : List X) → AllPairs R xs → All P xs → length xs ≤ 1
 at_most_one R P none never xs pairs all =

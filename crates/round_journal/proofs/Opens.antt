@@ -5,7 +5,7 @@ use Rattle.std.proofs.lemmas.Bool.{cases_lt}
 use Rattle.fault_count.proofs.Rising.{risen_within}
 use Rattle.disk_model.specs.Calls.{Seen, IsPresent, Passes, Only, Torn, After}
 use Rattle.disk_model.specs.Calls.{Holds as Written}
-use Rattle.disk_model.proofs.Moments.{passes_wide, present_has}
+use Rattle.disk_model.proofs.Moments.{passes_wide}
 use Rattle.round_journal.specs.Bytes.{Header, header_bytes, front, gate_behind, EndsClosed, StandsFor, StandsForNone, HoldsBodies}
 use Rattle.round_journal.specs.Bytes.Header.{second}
 use Rattle.round_journal.specs.Kept.{IsKeptAt}
@@ -59,9 +59,6 @@ pub read_on : (a b d : Seen) → Passes a b (IsPresent a) → Only a.reads (IsPr
 read_on a b d first only then =
     turns a b d (HoldsAs a.reads) first only (λ bodies holds. holds)
     (passes_wide b d (IsPresent b) (HoldsAs a.reads) then (λ c has. λ bodies holds. subst (λ (f : List ℕ). HoldsBodies f bodies) (sym (only c has)) holds))
-
-pub only_on : (b d : Seen) (file : List ℕ) → Only file (IsPresent b) → Passes b d (IsPresent b) → Only file (IsPresent d)
-only_on b d file only then = present_has b d (λ c. c ≡ file) (passes_wide b d (IsPresent b) (λ c. c ≡ file) then only) only
 
 -- at most nine bytes stay so while nine are written at the start
 pub short_torn : (a b : Seen) → length a.reads ≤ 9 → Only a.reads (IsPresent a) → Passes a b (After (Torn 0 9) (IsPresent a)) → Passes a b (λ c. HoldsBodies c [])

@@ -113,11 +113,6 @@ module _ (a b : Seen) (same : b.tells ≡ a.tells) where
         images = λ c now. subst (λ (f : List ℕ). HasStaged (front h bodies) (staged body) f) (sym (only c now)) has;
       }
 
--- with no gate to settle
-pub settled_already : (disk : Seen) (gate : ℕ) (unsettled : Bool) (h : Header) (bodies : List (List ℕ)) (last : Option (List ℕ)) → unsettled ≡ false → IsKeptAt disk gate unsettled h bodies last → IsKeptAt disk gate unsettled h bodies None
-settled_already disk gate unsettled h bodies None off kept = kept
-settled_already disk gate unsettled h bodies (Some body) off kept = absurd (cc (off, kept.flag))
-
 -- what a crash leaves of what is kept
 pub kept_stands : (disk : Seen) (gate : ℕ) (unsettled : Bool) (h : Header) (bodies : List (List ℕ)) (last : Option (List ℕ)) → IsKeptAt disk gate unsettled h bodies last → (c : List ℕ) → IsPresent disk c → StandsFor c bodies ⊎ ((tried : List ℕ) × (last ≡ Some tried) × StandsFor c (bodies ++ tried ∷ []))
 kept_stands disk gate unsettled h bodies None kept c now = inl (record { short = kept.short; begins = h; ends = kept.images c now })

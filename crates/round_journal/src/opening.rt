@@ -1,5 +1,5 @@
 //! Brings a disk to a journal.
-ghost use Rattle.std.specs.Prelude.{◌≡◌, ◌≤◌, true, false, length, None, IfErr, IfOk, IsTrue};
+ghost use Rattle.std.specs.Prelude.{◌≡◌, ◌≤◌, true, false, None, IfErr, IfOk, IsTrue};
 ghost use Rattle.disk_model.specs.Calls.{Passes};
 ghost use Rattle.round_journal.specs.Bytes.{Header, gate_behind};
 ghost use Rattle.round_journal.specs.Kept.{IsKeptAt};

@@ -1,5 +1,5 @@
 //! Chains that explain outcomes.
-use crate::solvers::{Owed, Window, cut_of, drawn_cut};
+use crate::solvers::{Owed, cut_of, drawn_cut};
 use chain_explain::{Chain, Explainer};
 use level_solver::LevelSolver;
 use price_certificate::certified;

@@ -17,4 +17,4 @@ mod draining;
 mod simplex;
 mod turns;
 
-pub use turns::{Position, Solution, seek_cold, seek_solution};
+pub use turns::{Solution, Start, seek_cold, seek_solution};

@@ -17,7 +17,7 @@ pub struct Solution {
 
 /// Where the search for a solution starts, as a state has it.
 #[derive(Clone, Copy)]
-pub struct Position<'a> {
+pub struct Start<'a> {
     /// The arcs: those of claims, and then one from each party to the ground.
     pub edges: &'a [Edge],
     /// The flow of each arc in cents.
@@ -68,34 +68,34 @@ const COLD: u64 = 400;
 /// set off are in excess. Nothing is proved of it. An error is want of memory.
 pub fn seek_cold(
     alloc: Global,
-    position: &Position,
+    start: &Start,
     halves: &Halves,
 ) -> Result<Option<Solution>, AllocError> {
-    let (many, nodes) = (halves.len() as u64, position.excess.len() as u64);
+    let (many, nodes) = (halves.len() as u64, start.excess.len() as u64);
     if many / 3 <= nodes {
         return Ok(None);
     }
     if many / 6 <= nodes {
-        return tried_cold(alloc, position, halves, FEW_HALVES);
+        return tried_cold(alloc, start, halves, FEW_HALVES);
     }
-    if is_far(position) {
-        tried_cold(alloc, position, halves, MANY_HALVES)
+    if is_far(start) {
+        tried_cold(alloc, start, halves, MANY_HALVES)
     } else {
         Ok(None)
     }
 }
 
 // Whether more than three fifths of what is set off are in excess, and so have to go back.
-fn is_far(position: &Position) -> bool {
+fn is_far(start: &Start) -> bool {
     let mut left = 0u128;
-    for &amount in position.excess {
+    for &amount in start.excess {
         if 0 < amount {
             left = left.saturating_add(amount.unsigned_abs());
         }
     }
     let mut set_off = 0u128;
-    let claims = position.flows.len().saturating_sub(position.windows.len());
-    for &flow in position.flows.iter().take(claims) {
+    let claims = start.flows.len().saturating_sub(start.windows.len());
+    for &flow in start.flows.iter().take(claims) {
         set_off = set_off.saturating_add(u128::from(flow));
     }
     set_off / 5 * 3 < left
@@ -104,14 +104,14 @@ fn is_far(position: &Position) -> bool {
 // A solution from where nothing is set off, if the trial comes to its end.
 fn tried_cold(
     alloc: Global,
-    position: &Position,
+    start: &Start,
     halves: &Halves,
     trial: Trial,
 ) -> Result<Option<Solution>, AllocError> {
-    let mut cold = cold_simplex(alloc, position, halves)?;
+    let mut cold = cold_simplex(alloc, start, halves)?;
     cold.lengthen_runs();
-    if ends_lightly(&mut cold, position.edges, halves, trial)? {
-        answer(alloc, position.edges, &cold)
+    if ends_lightly(&mut cold, start.edges, halves, trial)? {
+        answer(alloc, start.edges, &cold)
     } else {
         Ok(None)
     }
@@ -140,52 +140,52 @@ fn ends_lightly(
 /// Nothing is proved of it. An error is want of memory.
 pub fn seek_solution(
     alloc: Global,
-    position: &Position,
+    start: &Start,
     halves: &Halves,
     turns: u32,
 ) -> Result<Option<Solution>, AllocError> {
     if turns == 0 {
         return Ok(None);
     }
-    let prices = node_prices(alloc, position.prices)?;
-    let mut warm = warm_simplex(alloc, position, halves, &prices)?;
-    if warm.run(position.edges, halves, work_where_sparse(position, halves))? {
-        return answer(alloc, position.edges, &warm);
+    let prices = node_prices(alloc, start.prices)?;
+    let mut warm = warm_simplex(alloc, start, halves, &prices)?;
+    if warm.run(start.edges, halves, work_where_sparse(start, halves))? {
+        return answer(alloc, start.edges, &warm);
     }
-    let mut drain = drain_for(alloc, position, halves, BRIEF)?;
+    let mut drain = drain_for(alloc, start, halves, BRIEF)?;
     if !drain.is_over() {
         drop(drain);
-        if let Some(solution) = whole_at_once(alloc, position, halves)? {
+        if let Some(solution) = whole_at_once(alloc, start, halves)? {
             return Ok(Some(solution));
         }
-        drain = drain_for(alloc, position, halves, DRAIN)?;
+        drain = drain_for(alloc, start, halves, DRAIN)?;
     }
-    let mut drained = drained_simplex(alloc, position, halves, drain, &prices)?;
-    by_turns(alloc, position, halves, &mut drained, &mut warm, turns)
+    let mut drained = drained_simplex(alloc, start, halves, drain, &prices)?;
+    by_turns(alloc, start, halves, &mut drained, &mut warm, turns)
 }
 
 // A solution from where nothing is set off, if one is found in time.
 fn whole_at_once(
     alloc: Global,
-    position: &Position,
+    start: &Start,
     halves: &Halves,
 ) -> Result<Option<Solution>, AllocError> {
-    let nodes = position.excess.len() as u64;
+    let nodes = start.excess.len() as u64;
     let work = (nodes.saturating_mul(nodes) / 4).saturating_add(
         (halves.len() as u64).saturating_mul(COLD),
     );
-    let mut cold = cold_simplex(alloc, position, halves)?;
-    if cold.run(position.edges, halves, work)? {
-        answer(alloc, position.edges, &cold)
+    let mut cold = cold_simplex(alloc, start, halves)?;
+    if cold.run(start.edges, halves, work)? {
+        answer(alloc, start.edges, &cold)
     } else {
         Ok(None)
     }
 }
 
 // The work that the undrained simplex has first: none where there are more than three halves at a node.
-fn work_where_sparse(position: &Position, halves: &Halves) -> u64 {
+fn work_where_sparse(start: &Start, halves: &Halves) -> u64 {
     let many = halves.len() as u64;
-    if many / 3 <= position.excess.len() as u64 {
+    if many / 3 <= start.excess.len() as u64 {
         many.saturating_mul(SPARSE)
     } else {
         0
@@ -195,82 +195,78 @@ fn work_where_sparse(position: &Position, halves: &Halves) -> u64 {
 // Lets the two go on by turns.
 fn by_turns(
     alloc: Global,
-    position: &Position,
+    start: &Start,
     halves: &Halves,
     drained: &mut Simplex,
     warm: &mut Simplex,
     turns: u32,
 ) -> Result<Option<Solution>, AllocError> {
-    let nodes = position.excess.len() as u64;
+    let nodes = start.excess.len() as u64;
     let mut work = nodes.saturating_mul(nodes).saturating_mul(6);
     work = work.saturating_add((halves.len() as u64).saturating_mul(500));
     for _ in 0..turns {
-        if drained.run(position.edges, halves, work)? {
-            return answer(alloc, position.edges, drained);
+        if drained.run(start.edges, halves, work)? {
+            return answer(alloc, start.edges, drained);
         }
-        if warm.run(position.edges, halves, work)? {
-            return answer(alloc, position.edges, warm);
+        if warm.run(start.edges, halves, work)? {
+            return answer(alloc, start.edges, warm);
         }
         work = work.saturating_mul(2);
     }
     Ok(None)
 }
 
-// A simplex that starts from the position.
+// A simplex that begins at the prices of the start.
 fn warm_simplex(
     alloc: Global,
-    position: &Position,
+    start: &Start,
     halves: &Halves,
     prices: &[i32],
 ) -> Result<Simplex, AllocError> {
-    let flows = Vec::from_slice(alloc, position.flows)?;
-    let excess = cents(alloc, position.excess)?;
-    Simplex::new(alloc, position.edges, halves, flows, prices, excess)
+    let flows = Vec::from_slice(alloc, start.flows)?;
+    let excess = cents(alloc, start.excess)?;
+    Simplex::new(alloc, start.edges, halves, flows, prices, excess)
 }
 
 // A simplex that starts where nothing is set off, and no balance changes.
-fn cold_simplex(
-    alloc: Global,
-    position: &Position,
-    halves: &Halves,
-) -> Result<Simplex, AllocError> {
-    let nodes = position.excess.len();
-    let claims = position.flows.len().saturating_sub(position.windows.len());
+fn cold_simplex(alloc: Global, start: &Start, halves: &Halves) -> Result<Simplex, AllocError> {
+    let nodes = start.excess.len();
+    let claims = start.flows.len().saturating_sub(start.windows.len());
     let mut flows = vec![in alloc; 0u64; claims]?;
-    for &flow in position.windows {
+    for &flow in start.windows {
         flows.push(flow)?;
     }
     let prices = vec![in alloc; 0i32; nodes]?;
     let excess = vec![in alloc; 0i64; nodes]?;
-    let mut cold = Simplex::new(alloc, position.edges, halves, flows, &prices, excess)?;
+    let mut cold = Simplex::new(alloc, start.edges, halves, flows, &prices, excess)?;
     cold.stop_looking();
     Ok(cold)
 }
 
-// The position drained of its excess, with so much work for each half.
+// The start drained of its excess, with so much work for each half.
 fn drain_for(
     alloc: Global,
-    position: &Position,
+    start: &Start,
     halves: &Halves,
     work: u64,
 ) -> Result<Drain, AllocError> {
-    let excess = cents(alloc, position.excess)?;
-    let mut drain = Drain::new(alloc, position.flows, excess, position.windows)?;
+    let excess = cents(alloc, start.excess)?;
+    let mut drain = Drain::new(alloc, start.flows, excess, start.windows)?;
     let most = (halves.len() as u64).saturating_mul(work);
     drain.run(alloc, halves, most)?;
     Ok(drain)
 }
 
-// A simplex that starts from the position after the rest of the excess was drained.
+// A simplex that starts from the start after the rest of the excess was drained.
 fn drained_simplex(
     alloc: Global,
-    position: &Position,
+    start: &Start,
     halves: &Halves,
     drain: Drain,
     prices: &[i32],
 ) -> Result<Simplex, AllocError> {
     let (flows, excess) = drain.drained();
-    Simplex::new(alloc, position.edges, halves, flows, prices, excess)
+    Simplex::new(alloc, start.edges, halves, flows, prices, excess)
 }
 
 fn answer(

@@ -16,7 +16,7 @@ use Rattle.statement_text.specs.declared.reading.Step.TheVariants as step
 use Rattle.statement_text.specs.Lines.{line_text, IsInRange, IsLine, IsNoLine}
 use Rattle.statement_text.specs.Statements.{CanBeStated, IsStatement, IsNoStatement, IsFront, IsNoFront, IsBadLine, IsFirstBadLine, OnBadLine, front_of}
 use Rattle.statement_text.specs.Drafts.{Drafted, lines_of, texts_of, begun, IsNoNext}
-use Rattle.statement_text.specs.Steps.{IsNoHead, IsTaken, IsStep}
+use Rattle.statement_text.specs.Steps.{IsTaken, IsStep}
 use Rattle.statement_text.proofs.Lines.{same_line, Begins, begins, statement_in_range, front_in_range}
 use Rattle.statement_text.proofs.Next.{end_last, no_end}
 
@@ -120,16 +120,6 @@ pub refused : (d : Drafted) (text : List ℕ) (l : Line) (number : ℕ) (r : Res
 refused d text l number (Ok s) ds is h = tt
 refused d text l number (Err errors.Memory) ds is h = tt
 refused d text l number (Err (errors.BadLine n cause)) ds is h = (h.0, no_next d text l ds is h.1)
-
-pub first_text : (text : List ℕ) (l : Line) (r : Result Drafted StatementError) → IsLine text l → IfOk r (λ head. lines_of head ≡ l ∷ []) → IfOk r (λ head. (length (lines_of head) ≡ 1) × (texts_of head ≡ text ∷ []))
-first_text text l (Ok head) is h = (ap length h, ap (map line_text) h ∙ ap (λ (t : List ℕ). t ∷ []) (sym is.1))
-first_text text l (Err e) is h = tt
-
-pub first_refused : (text : List ℕ) (l : Line) (r : Result Drafted StatementError) → IsLine text l → IfErr r (OnBadLine (λ n. (n ≡ 1) × IsNoHead l)) → IfErr r (OnBadLine (λ n. (n ≡ 1) × IsNoFront (text ∷ [])))
-first_refused text l (Ok head) is h = tt
-first_refused text l (Err errors.Memory) is h = tt
-first_refused text l (Err (errors.BadLine n cause)) is h =
-    (h.0, no_head text (λ round kind range e. h.1 round kind (same_line l (line.Head round kind) is.0 range (sym is.1 ∙ e))))
 
 pub no_line_first : (text : List ℕ) → IsNoLine text → IsNoFront (text ∷ [])
 no_line_first text bad = no_head text (λ round kind range e. bad (line.Head round kind) range e)

@@ -1,5 +1,5 @@
 //! Writing weighted set-offs.
-ghost use Rattle.std.specs.Prelude.{◌≡◌, ◌+◌, ◌^◌, ◌<◌, ◌≤◌, ◌++◌, length, codes, slice_index_or, vec_len, vec_capacity};
+ghost use Rattle.std.specs.Prelude.{◌≡◌, ◌+◌, ◌<◌, ◌≤◌, ◌++◌, length, codes, slice_index_or, vec_len, vec_capacity};
 ghost use Rattle.text_lines.specs.Fields.{line_of};
 ghost use Rattle.setoff_model.specs.declared.limits.TheConstants.{SUM_LIMIT, LINE_BYTES};
 ghost use Rattle.setoff_model.specs.declared.cut.CutClaim.{CutClaim};

@@ -43,9 +43,6 @@ known text h = λ k d lt. omega (arith, leb-true 33 (slice_index_or text k d) (A
 bytes_above : (text : List ℕ) → list_all is_name_byte text ≡ true → IsVisible text
 bytes_above text h = λ k d lt. omega (arith, leb-true 33 (slice_index_or text k d) (name_byte_above (slice_index_or text k d) (AllPass-from_list_all is_name_byte text h k d lt)))
 
-letter_byte : (c : ℕ) (b : Bool) → is_letter c ≡ true → (is_letter c || b) ≡ true
-letter_byte c b h = ap (λ (x : Bool). x || b) h
-
 name_visible : (text : List ℕ) → is_name text ≡ true → IsVisible text
 name_visible [] h = absurd cc
 name_visible (c ∷ cs) h =

@@ -39,12 +39,6 @@ creditor_below firms seed claim some =
     let place = draw seed (3 * (claim - 1) + 2) % (firms - 1) in
     other_below (nat_le (debtor_place firms seed claim) place) firms place (omega (arith, some))
 
-all_three : (a b c : Bool) → a ≡ true → b ≡ true → c ≡ true → (a && b && c && true) ≡ true
-all_three true true true p q r = refl
-all_three true true false p q r = r
-all_three true false c p q r = q
-all_three false b c p q r = p
-
 claim_asked : (firms seed claim : ℕ) → 2 ≤ firms → firms ≤ MOST_FIRMS → claim ≤ MOST_CLAIMS → All IsAskable (filed_and_confirmed firms seed claim)
 unfolding filed_and_confirmed
 claim_asked firms seed claim some few small =

@@ -10,6 +10,6 @@ unfoldable pub state_after : ℕ → ℕ → ℕ
 state_after seed zero = seed
 state_after seed (suc draws) = next_state (state_after seed draws)
 
--- what the draw of this number gives, from 1: the first 16 bits of the state that it leaves
+-- what the draw of this number gives, from 1: the upper 16 bits of the state that it leaves
 unfoldable pub draw : ℕ → ℕ → ℕ
 draw seed number = state_after seed number / 65536

@@ -28,7 +28,7 @@ impl Draws {
         }
     }
 
-    /// Draws the next number, of 16 bits.
+    /// Draws the next number, the upper 16 bits of the next state.
     #[tactic(auto, using(crate::proofs::Drawn::state_more, crate::proofs::Drawn::draw_more, crate::proofs::Drawn::draw_short))]
     pub fn next(&mut self) -> u32
         requires { self.old.made + 1 < 2 ^ 32 }

@@ -1,6 +1,5 @@
 //! Weights by the days that claims are overdue.
-ghost use Rattle.std.specs.Prelude.{◌≡◌, ◌≤◌, IfOk, map};
-ghost use Rattle.setoff_model.specs.declared.limits.TheConstants.{MOST_WEIGHT};
+ghost use Rattle.std.specs.Prelude.{◌≡◌, IfOk, map};
 ghost use Rattle.round_cut.specs.CutOfFacts.{claims_due};
 ghost use Rattle.weighed_round.specs.Weighed.{weight_at};
 

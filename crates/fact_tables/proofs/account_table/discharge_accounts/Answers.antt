@@ -1,5 +1,5 @@
 use Rattle.std.specs.Prelude.{map, slice_index}
-use Rattle.std.proofs.Common.{List, ◌+◌, ◌*◌, ◌^◌, ◌<◌, ◌≤◌, length, get_or, sym, ◌∙◌, ap, subst, arith}
+use Rattle.std.proofs.Common.{List, ◌+◌, ◌*◌, ◌<◌, ◌≤◌, length, get_or, sym, ◌∙◌, ap, subst, arith}
 use Rattle.std.proofs.lemmas.List.Sums.{get_or-le-sum_by}
 use Rattle.setoff_model.specs.declared.limits.TheConstants.{SUM_LIMIT}
 use Rattle.setoff_model.specs.declared.cut.Party.{Party}

@@ -1,4 +1,4 @@
-use Rattle.std.proofs.Common.{◌≡◌, ◌∙◌, ap}
+use Rattle.std.proofs.Common.{◌∙◌, ap}
 use Rattle.live_intake.specs.Live.{is_fence}
 use Rattle.lane_tests.proofs.live.served.Goals as goal
 

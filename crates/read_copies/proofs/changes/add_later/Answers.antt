@@ -1,4 +1,4 @@
-use Rattle.std.proofs.Common.{◌≡◌, List, subst, arith}
+use Rattle.std.proofs.Common.{List, subst, arith}
 use Rattle.std.proofs.lemmas.List.{take_all}
 use Rattle.claim_history.specs.declared.entry.Entry.{Entry}
 use Rattle.claim_book.specs.Book.{ledger_of}

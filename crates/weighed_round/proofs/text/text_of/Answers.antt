@@ -1,4 +1,4 @@
-use Rattle.std.proofs.Common.{ℕ, ◌<◌, ◌≤◌, ◌^◌, All, subst, sym}
+use Rattle.std.proofs.Common.{ℕ, ◌<◌, ◌≤◌, All, subst, sym}
 use Rattle.setoff_model.specs.declared.limits.TheConstants.{SUM_LIMIT, MOST_AMOUNT}
 use Rattle.setoff_model.proofs.Columns.{lawful_fits}
 use Rattle.printed_text.proofs.Printing.{discharges_fit}

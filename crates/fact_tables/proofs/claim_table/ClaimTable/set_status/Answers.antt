@@ -1,5 +1,5 @@
 use Rattle.std.specs.Prelude.{map, set, sum_by}
-use Rattle.std.proofs.Common.{ℕ, ◌<◌, ◌^◌, List, ◌≡◌, sym, ◌∙◌, ap, subst}
+use Rattle.std.proofs.Common.{ℕ, ◌<◌, ◌^◌, List, sym, ◌∙◌, ap, subst}
 use Rattle.setoff_model.specs.Same.{same_key}
 use Rattle.claim_history.specs.declared.fact.ClaimFact.{ClaimFact}
 use Rattle.fact_tables.specs.Tables.{ClaimsView, restated, with_status}
