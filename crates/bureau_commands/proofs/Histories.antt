@@ -13,7 +13,7 @@ use Rattle.claim_history.specs.States.{OpenRound}
 use Rattle.claim_history.specs.History.{is_accepted, is_no_refusal}
 use Rattle.claim_history.specs.Pools.{IsLegal, accepted_calls, accepted_members, answered, call_of, due_member, due_of_past, due_reply, open_round_in, replay_after, replay_of}
 use Rattle.claim_history.specs.PoolRounds.{ending_of, ending_reply, is_left_open, left_open, opened}
-use Rattle.claim_history.proofs.Accepted.{kept_append, kept_step, replay_append, replayed_past, same_due}
+use Rattle.claim_history.proofs.Kept.{kept_append, kept_step, replay_append, replayed_past, same_due}
 use Rattle.claim_history.proofs.PoolRoom.{due_is}
 use Rattle.claim_history.proofs.Pools.{pool_replay_law}
 use Rattle.act_bodies.specs.Bodies.{body_of, is_keepable}

@@ -37,4 +37,4 @@ pub mod Bounds
 pub mod PoolCuts
 pub mod PoolEnds
 pub mod Touching
-pub mod Accepted
+pub mod Kept

@@ -22,7 +22,7 @@ use Rattle.claim_history.specs.History.{is_accepted, is_no_refusal}
 use Rattle.claim_history.specs.Rounds.{ends_round, has_end, open_cut_of}
 use Rattle.claim_history.specs.Pools.{IsLegal, accepted_members, entries_in}
 use Rattle.claim_history.specs.PoolRounds.{open_cut_in}
-use Rattle.claim_history.proofs.Accepted.{kept_append, kept_reverse, kept_step, replayed_past, same_state}
+use Rattle.claim_history.proofs.Kept.{kept_append, kept_reverse, kept_step, replayed_past, same_state}
 use Rattle.claim_history.proofs.Agreement.{cut_law}
 use Rattle.claim_history.proofs.Greatest.{greatest_law}
 use Rattle.claim_history.proofs.Open.{open_law}

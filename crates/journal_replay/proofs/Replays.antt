@@ -11,7 +11,7 @@ use Rattle.claim_history.specs.Acts.{is_publication, is_close}
 use Rattle.claim_history.specs.History.{is_accepted, is_no_refusal, is_opening, replied}
 use Rattle.claim_history.specs.Pools.{IsLegal, answered, due_member, due_of_past, due_reply, replay_after, state_in, with_due}
 use Rattle.claim_history.specs.PoolNeeds.{IsWithinLimits, is_full}
-use Rattle.claim_history.proofs.Accepted.{replay_append}
+use Rattle.claim_history.proofs.Kept.{replay_append}
 use Rattle.claim_history.proofs.PoolRoom.{due_is, use_law}
 use Rattle.claim_history.proofs.Replies.{opens}
 use Rattle.round_journal.specs.declared.record.Record.{Record}
