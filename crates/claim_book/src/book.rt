@@ -107,14 +107,6 @@ impl Book {
         self.entries.reserve(entries)
     }
 
-    // Takes memory ahead for so many entries. The only error is that memory is missing.
-    pub(crate) fn prepare(&mut self, entries: usize) -> Result<(), AllocError>
-        ensures history { self.new.history ≡ self.old.history }
-        ensures kept { self.old.room ≤ self.new.room }
-    {
-        self.entries.reserve(entries)
-    }
-
     // For how many entries an act needs room.
     pub(crate) fn room_for(&self, act: &Act) -> usize
         ensures { result ≡ room_for (state_of self.now.history) act.now }

@@ -12,7 +12,7 @@ ghost use Rattle.claim_book.specs.Changes.{IsNew};
 ghost use Rattle.claim_book.specs.Pools.{KeepsRooms, is_book, room_in, rooms_of, told_entries};
 
 use crate::book::Book;
-use crate::pool_book::{Place, PoolBook, apply_in, close_in, make_room, prepare_in, publish_in};
+use crate::pool_book::{Place, PoolBook, apply_in, close_in, make_room, publish_in};
 use claim_history::{Act, Entry, Reply, each_pool_has_its_history};
 use name_index::NameIndex;
 use setoff_model::{Cut, Name};
@@ -122,29 +122,6 @@ impl Books {
         let _ = pool;
         let kept = &mut self.books[place];
         make_room(kept, &mut self.places, &mut self.promised, act)
-    }
-
-    /// Takes memory ahead for so many entries of a pool, so that their list need not grow. It lowers no room.
-    ///
-    /// The only error is that memory is missing, and it leaves the history as before.
-    pub fn prepare(&mut self, pool: Name, entries: usize) -> Result<(), AllocError>
-        ensures members { self.new.members ≡ self.old.members }
-        ensures kept { (any : List ℕ) → room_in any self.old.rooms ≤ room_in any self.new.rooms }
-    {
-        let place = self.added_place(pool)?;
-        self.prepare_at(pool, place, entries)
-    }
-
-    // The same for a pool whose book stands at a place.
-    fn prepare_at(&mut self, pool: Name, place: usize, entries: usize) -> Result<(), AllocError>
-        requires { position (λ r. same_name pool r.pool) self.old.rooms ≡ Some place }
-
-        ensures members { self.new.members ≡ self.old.members }
-        ensures kept { (any : List ℕ) → room_in any self.old.rooms ≤ room_in any self.new.rooms }
-    {
-        let _ = pool;
-        let kept = &mut self.books[place];
-        prepare_in(kept, &mut self.places, entries)
     }
 
     /// The book of a pool, which has its entries. It takes no memory.

@@ -72,24 +72,6 @@ pub fn make_room(
     Ok(())
 }
 
-/// Takes memory ahead for so many entries of a book and for their places, and for what room is made for beside them.
-pub fn prepare_in(
-    kept: &mut PoolBook,
-    places: &mut Vec<Place>,
-    entries: usize,
-) -> Result<(), AllocError>
-    requires kept { kept.old.room ≤ kept.old.book.room }
-
-    ensures made { HasRoomMade kept.old kept.new }
-    ensures room { kept.new.room ≡ kept.old.room }
-    ensures spare { vec_capacity places.old - vec_len places.old ≤ vec_capacity places.new - vec_len places.new }
-    ensures places { places.new.items ≡ places.old.items }
-{
-    let all = entries.saturating_add(entries / SHARE_AHEAD + 2);
-    kept.book.prepare(all)?;
-    places.reserve(all)
-}
-
 /// Applies an entry that publishes nothing and opens no round, and gives its place in the book.
 pub fn apply_in(kept: &mut PoolBook, entry: Entry) -> usize
     requires kept { kept.old.room ≤ kept.old.book.room }

@@ -16,7 +16,7 @@ ghost use Rattle.printed_text.specs.Writing.{GoesThrough, Wrote};
 ghost use Rattle.history_text.specs.declared.told.Told.TheVariants as told;
 ghost use Rattle.history_text.specs.Histories.{AreFirst, HasPrinted, HasTold, IsHistoryDue, history_text, told_members, told_text};
 
-use crate::replaying::{books_for, open_cut, replay_to};
+use crate::replaying::{open_cut, replay_to};
 use crate::told::{Told, told_at, told_len};
 use bureau_edge::{Failed, Sink};
 use claim_book::Books;
@@ -186,7 +186,7 @@ fn print_replayed<K: Sink>(
     ensures cause { CountsFaults (K.faults sink.old) (K.faults sink.new) result }
     ensures room { OUTPUT_BYTES ≤ vec_capacity buffer.new }
 {
-    let mut replayed = books_for(alloc, books, pool);
+    let mut replayed = Books::new(alloc);
     let told = print_told(alloc, sink, buffer, books, pool, &mut replayed);
     drop(replayed);
     told

@@ -10,25 +10,10 @@ ghost use Rattle.history_text.specs.Histories.{AreFirst, told_members};
 
 use crate::told::{told_at, told_len};
 use claim_book::Books;
-use claim_history::{Act, Entry, Reply, main_pool_name};
+use claim_history::{Act, Entry, Reply};
 use setoff_model::{Cut, Name};
 use std::alloc::{AllocError, Global};
 use std::slice::from_ref;
-
-/// Books without members, with memory ahead for those that are told of other books. Where there is none, their lists grow.
-pub(crate) fn books_for(alloc: Global, books: &Books, pool: &Option<Name>) -> Books
-    ensures { result.members ≡ [] }
-{
-    let main = main_pool_name();
-    let told = match pool {
-        None => books.book(&main),
-        Some(pool) => books.book(pool),
-    };
-    let entries = told.history().len();
-    let mut replayed = Books::new(alloc);
-    let _ = replayed.prepare(main, entries);
-    replayed
-}
 
 // Puts the entry of a publication at the end.
 fn put_publication(books: &mut Books, pool: Name, entry: Entry) -> Result<(), AllocError>

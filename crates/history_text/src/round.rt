@@ -9,7 +9,7 @@ ghost use Rattle.printed_text.specs.Statuses.{TellsSinkFault};
 ghost use Rattle.printed_text.specs.Writing.{IsWritten, Wrote};
 ghost use Rattle.history_text.specs.Histories.{IsRoundDue, no_round_text, publication_place, publishes_round, was_published};
 
-use crate::replaying::{books_for, open_cut, replay_to};
+use crate::replaying::{open_cut, replay_to};
 use bureau_edge::{Failed, Sink};
 use claim_book::Books;
 use claim_history::{Act, Entry, Reply, main_pool_name};
@@ -128,7 +128,7 @@ fn print_round_at<K: Sink>(
     ensures wrote { Wrote (IsRoundDue round pool books.now.members) (K.held sink.old) (K.held sink.new) result }
     ensures write_fault { TellsSinkFault (K.faults sink.old) (K.faults sink.new) result }
 {
-    let mut replayed = books_for(alloc, books, &Some(pool));
+    let mut replayed = Books::new(alloc);
     let status = print_behind(
         alloc,
         sink,
