@@ -1,5 +1,6 @@
 -- What an intake keeps, and what its next line says.
 use Rattle.std.proofs.Common.{◌≡◌, ◌∙◌, ◌+◌, ◌-◌, ◌≤◌, ℕ, true, false, List, [], ◌∷◌, ◌++◌, length, take, drop, refl, sym, ap, subst, arith, length-append, length-drop}
+use Rattle.setoff_model.specs.declared.limits.TheConstants.{MOST_INPUT_BYTES}
 use Rattle.std.specs.Prelude.{MatchBool}
 use Rattle.std.specs.Str.Lines.{lines}
 use Rattle.std.proofs.lemmas.List.{drop-append-le, take-append-le}
@@ -9,7 +10,7 @@ use Rattle.request_text.specs.declared.request.Request.{Request}
 use Rattle.input_front.specs.declared.line.Line.{Line}
 use Rattle.input_front.specs.declared.line.Line.TheVariants as line
 use Rattle.input_front.specs.Front.{Says}
-use Rattle.input_front.specs.Taken.{HasAsked, HasFenced, HasNoFeed, HasNoLine, IntakeView, IsEnded, IsFirstBad, IsIntake, StaysBad, most_taken}
+use Rattle.input_front.specs.Taken.{HasAsked, HasFenced, HasNoFeed, HasNoLine, IntakeView, IsEnded, IsFirstBad, IsIntake, StaysBad}
 use Rattle.input_front.proofs.Parts.{ended_behind, no_lines, none_left, sought_to, text_alone}
 use Rattle.input_front.proofs.Reading.{found, has_asked, has_fenced, first_bad, keeps_asked, keeps_begun, keeps_fenced, keeps_read, no_line, stays_bad}
 
@@ -118,7 +119,7 @@ module _ (v : IntakeView) (sought : ℕ) (kept : IsIntake v sought) where
       }
 
 -- nothing was taken
-pub kept_none : (limit : ℕ) → limit ≤ most_taken → IsIntake (record { limit = limit; taken = []; read = 0; lines = 0; served = 0; fenced = true }) 0
+pub kept_none : (limit : ℕ) → limit ≤ MOST_INPUT_BYTES → IsIntake (record { limit = limit; taken = []; read = 0; lines = 0; served = 0; fenced = true }) 0
 kept_none limit few = record {
   limited = few;
   behind = omega arith;

@@ -1,5 +1,7 @@
 -- What was taken of an input, and how far it was read.
-use Rattle.std.specs.Prelude.{◌≡◌, ◌+◌, ◌-◌, ◌^◌, ◌<◌, ◌≤◌, ℕ, Bool, true, false, Option, Some, None, List, [], ◌∷◌, ◌++◌, length, take, drop, All, MatchBool}
+use Rattle.std.specs.Prelude.{◌≡◌, ◌+◌, ◌-◌, ◌<◌, ◌≤◌, ℕ, Bool, true, false, Option, Some, None, List, [], ◌∷◌, ◌++◌, length, take, drop, All, MatchBool}
+use Rattle.input_front.specs.declared.intake.TheConstants.{PIECE}
+use Rattle.setoff_model.specs.declared.limits.TheConstants.{MOST_INPUT_BYTES}
 use Rattle.std.specs.Io.KnownBytes.{Consumes, IsAtEnd, Keeps}
 use Rattle.std.specs.Str.Lines.{lines}
 use Rattle.fault_count.specs.Counts.{HasRisen}
@@ -11,14 +13,6 @@ use Rattle.input_front.specs.declared.intake.More.TheVariants as more
 use Rattle.input_front.specs.declared.line.Line.{Line}
 use Rattle.input_front.specs.declared.line.Line.TheVariants as line
 use Rattle.input_front.specs.Front.{IsBatchAt, IsFrontOf, is_feed, whole_lines}
-
--- the largest limit
-abbrev pub most_taken : ℕ
-most_taken = 2 ^ 26
-
--- the most bytes that a source is asked for at once
-abbrev pub most_at_once : ℕ
-most_at_once = 32768
 
 -- the most bytes that are taken, those taken, how many of them and how many lines were read, how many batches have begun, and whether
 -- the last of these ended with a fence
@@ -132,7 +126,7 @@ pub record HasPiece (left_old left_new : Option (List ℕ)) (old new : IntakeVie
   pub same : new ≡ record old { taken = old.taken ++ piece }
   pub consumed : Consumes left_old left_new piece
   pub some : 1 ≤ length piece
-  pub few : length piece ≤ most_at_once
+  pub few : length piece ≤ PIECE
   pub within : length new.taken ≤ old.limit + 1
   pub reads : KeepsRead old new
 
@@ -152,7 +146,7 @@ HasFailed faults source_old source_new answer =
 
 -- What an intake keeps: no line feed stands between what was read and a place, before which none has to be sought again.
 pub record IsIntake (v : IntakeView) (sought : ℕ) : Type 0 where
-  pub limited : v.limit ≤ most_taken
+  pub limited : v.limit ≤ MOST_INPUT_BYTES
   pub behind : v.read ≤ sought
   pub within : sought ≤ length v.taken
   pub held : length v.taken ≤ v.limit + 1

@@ -67,14 +67,15 @@ impl Model for Intake {
 
 impl Intake {
     ghost use Rattle.std.specs.Prelude.{◌≡◌, ◌+◌, ◌-◌, ◌≤◌, [], length, drop, true, false, IfOk, IfNone, IfSome};
+    ghost use Rattle.setoff_model.specs.declared.limits.TheConstants.{MOST_INPUT_BYTES};
     ghost use Rattle.input_front.specs.Taken.{HasBatches, HasCome, HasFailed, HasLast, HasNext, HasNoFeed, HasNoLine};
-    ghost use Rattle.input_front.specs.Taken.{KeepsRead, most_taken};
+    ghost use Rattle.input_front.specs.Taken.{KeepsRead};
 
     /// Nothing was taken, and no batch has begun. It takes at most one byte more than the limit.
     ///
     /// The only error is that memory is missing.
     pub fn new(alloc: Global, limit: u64) -> Result<Intake, AllocError>
-        requires { limit ≤ most_taken }
+        requires { limit ≤ MOST_INPUT_BYTES }
         ensures { IfOk result (λ i. i ≡ record { limit = limit; taken = []; read = 0; lines = 0; served = 0; fenced = true }) }
     {
         let bytes = Vec::with_capacity(alloc, PIECE)?;
@@ -118,7 +119,7 @@ impl Intake {
     /// How many of the bytes that were taken were not read.
     pub fn left(&self) -> usize
         ensures left { result ≡ length self.now.taken - self.now.read }
-        ensures few { result ≤ most_taken + 1 }
+        ensures few { result ≤ MOST_INPUT_BYTES + 1 }
     {
         self.bytes.len() - self.read
     }

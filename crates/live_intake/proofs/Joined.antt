@@ -1,5 +1,6 @@
 -- A lane and its ring, after a segment.
 use Rattle.std.proofs.Common.{◌≡◌, ◌∙◌, ◌+◌, ◌<◌, ◌≤◌, ℕ, List, [], ◌∷◌, ◌++◌, All, length, get_or, map, sym, ap, subst, arith, append_assoc, vec_capacity}
+use Rattle.live_intake.specs.declared.handed.TheConstants.{MOST_HANDED}
 use Rattle.std.proofs.lemmas.List.{append_cancel_left}
 use Rattle.rtrb.specs.declared.producer.Producer.{Producer}
 use Rattle.rtrb.specs.declared.consumer.Consumer.{Consumer}
@@ -16,7 +17,7 @@ use Rattle.lane_seats.proofs.Places.{one_of}
 use Rattle.live_intake.specs.declared.handed.Handed.{Handed}
 use Rattle.live_intake.specs.declared.handed.Handed.TheVariants as handed
 use Rattle.live_intake.specs.declared.lane.LiveLane.{LiveLane}
-use Rattle.live_intake.specs.Handing.{IsMarked, handed_of, lines_since, most_handed, segment_of}
+use Rattle.live_intake.specs.Handing.{IsMarked, handed_of, lines_since, segment_of}
 use Rattle.live_intake.specs.Rings.{IsOpen, Ring}
 use Rattle.live_intake.specs.Meeting.{ArePairs, HasMetLane, HaveMet}
 use Rattle.live_intake.specs.Segments.{HasServedSegment, HaveServed}
@@ -67,7 +68,7 @@ module _ {D : Type 0} (turn : Turn (DeskView D) PoolEntry (DeskBase D)) (request
       marked : IsMarked (sent ring2)
       marked = ap (lines_since 0) (gave ∙ sym (append_assoc (sent ring0) (map handed_of own) (handed.End ∷ []))) ∙ since_mark 0 (sent ring0 ++ map handed_of own)
 
-      places : producer_capacity ring2 ≡ most_handed + 1
+      places : producer_capacity ring2 ≡ MOST_HANDED + 1
       places = met.met.same_ring.1 ∙ told.same.1 ∙ joined.places
 
       pub joined_again : IsJoined k ring2 lane2
@@ -86,7 +87,7 @@ module _ {D : Type 0} (turn : Turn (DeskView D) PoolEntry (DeskBase D)) (request
             (subst (λ e. HasRun lane0.seat lane2.seat served.requests e.items) (sym met.ends_are)
             (subst (λ s. HasRun lane0.seat s served.requests lane1.ends.items) (sym met.seat_is) served.run));
         ready = subst (IsReady turn) (sym met.seat_is) served.ready;
-        spare = subst (λ e. most_handed ≤ vec_capacity e) (sym met.ends_are) served.spare;
+        spare = subst (λ e. MOST_HANDED ≤ vec_capacity e) (sym met.ends_are) served.spare;
       }
 
   -- all lanes

@@ -1,15 +1,16 @@
 -- Rings, one more handed at a time.
 use Rattle.std.proofs.Common.{◌≡◌, ◌+◌, ℕ, false, List, [], ◌∷◌, ◌++◌, nat_eq, ap, arith}
+use Rattle.live_intake.specs.declared.handed.TheConstants.{MOST_HANDED}
 use Rattle.std.proofs.lemmas.Bool.{eqb-false}
 use Rattle.rtrb.specs.Ring.{sent, known_free}
 use Rattle.claim_history.specs.declared.act.Act.{Act}
 use Rattle.live_intake.specs.declared.handed.Handed.TheVariants as handed
-use Rattle.live_intake.specs.Handing.{lines_since, most_handed}
+use Rattle.live_intake.specs.Handing.{lines_since}
 use Rattle.live_intake.specs.Rings.{HasRoom, IsOpen, Ring}
 use Rattle.live_intake.proofs.Handing.{since_line}
 
 module _ (old new : Ring) (line : ℕ) (pool : List ℕ) (a : Act) (open_ : IsOpen old) (sent_is : sent new ≡ sent old ++ handed.Line line pool a ∷ []) (free : known_free old ≡ known_free new + 1) where
-  counted : known_free new + lines_since 0 (sent new) ≡ most_handed + 1
+  counted : known_free new + lines_since 0 (sent new) ≡ MOST_HANDED + 1
   counted = omega (arith, open_.all, free, ap (lines_since 0) sent_is, since_line 0 (sent old) line pool a)
 
   pub room_left : HasRoom new

@@ -1,5 +1,7 @@
 -- Room for the answers of all whole lines that were taken.
 use Rattle.std.specs.Prelude.{Some, Option, Vec}
+use Rattle.live_intake.specs.declared.reading.TheConstants.{MOST_ASKED}
+use Rattle.input_front.specs.declared.intake.TheConstants.{PIECE}
 use Rattle.std.proofs.Common.{◌≡◌, ◌∙◌, ◌+◌, ◌-◌, ◌<◌, ◌≤◌, ℕ, List, [], ◌∷◌, ◌++◌, cond, count_by, length, drop, refl, sym, ap, arith, length-append, length-drop, vec_len, vec_capacity}
 use Rattle.std.proofs.lemmas.List.{take-append-drop}
 use Rattle.std.proofs.lemmas.List.Splits.{length-slice_split, slice_split_none}
@@ -9,9 +11,8 @@ use Rattle.std.specs.declared.alloc.Global.{Global}
 use Rattle.served_lines.specs.declared.answer.Answer.{Answer}
 use Rattle.request_text.specs.declared.request.Request.{Request}
 use Rattle.input_front.specs.Front.{is_feed, whole_lines, whole_of_parts}
-use Rattle.input_front.specs.Taken.{HasAsked, HasBatches, HasNoFeed, HasNoLine, HasPiece, HasRead, IntakeView, most_at_once}
+use Rattle.input_front.specs.Taken.{HasAsked, HasBatches, HasNoFeed, HasNoLine, HasPiece, HasRead, IntakeView}
 use Rattle.live_intake.specs.declared.stop.Stop.{Stop}
-use Rattle.live_intake.specs.Reading.{most_asked}
 use Rattle.live_intake.specs.Sparing.{HasSpare, KeepsSpare}
 
 -- ---- how many whole lines there are
@@ -91,7 +92,7 @@ module _ (v : IntakeView) (batches : HasBatches v) (olds : Vec Answer Global) (n
         moves = λ none. absurd (let is = none in cc);
       }
 
-    pub keeps_piece : (left_old left_new : Option (List ℕ)) (u w : IntakeView) (why : Option Stop) → u ≡ v → HasNoLine v → HasPiece left_old left_new u w → noted ≤ most_asked → vec_len olds + (most_asked + (most_at_once + 1)) ≤ vec_capacity news → KeepsSpare v w olds news noted why
+    pub keeps_piece : (left_old left_new : Option (List ℕ)) (u w : IntakeView) (why : Option Stop) → u ≡ v → HasNoLine v → HasPiece left_old left_new u w → noted ≤ MOST_ASKED → vec_len olds + (MOST_ASKED + (PIECE + 1)) ≤ vec_capacity news → KeepsSpare v w olds news noted why
     keeps_piece left_old left_new u w why same none p few room =
         let taken : w.taken ≡ v.taken ++ p.piece = ap (λ (x : IntakeView). x.taken) p.same ∙ ap (λ (x : IntakeView). x.taken ++ p.piece) same in
         let lines : w.lines ≡ v.lines = ap (λ (x : IntakeView). x.lines) p.same ∙ ap (λ (x : IntakeView). x.lines) same in

@@ -1,5 +1,6 @@
 -- A lane, while it serves what it is handed.
 use Rattle.std.proofs.Common.{◌≡◌, ◌∙◌, ◌+◌, ◌<◌, ◌≤◌, ℕ, List, [], ◌∷◌, ◌++◌, All, map, refl, sym, ap, subst, arith, append_assoc, vec_len, vec_capacity}
+use Rattle.live_intake.specs.declared.handed.TheConstants.{MOST_HANDED}
 use Rattle.std.proofs.lemmas.List.{append-nil, map-append}
 use Rattle.std.proofs.lemmas.List.Elements.{All-append, All-cons, All-nil}
 use Rattle.rtrb.specs.Ring.{received, SameConsumer}
@@ -18,7 +19,7 @@ use Rattle.lane_seats.specs.Lanes.{HasRun}
 use Rattle.lane_runner.proofs.Running.{run_begins, run_more}
 use Rattle.live_intake.specs.declared.handed.Handed.TheVariants as handed
 use Rattle.live_intake.specs.declared.lane.LiveLane.{LiveLane}
-use Rattle.live_intake.specs.Handing.{MayHand, handed_of, lines_since, most_handed}
+use Rattle.live_intake.specs.Handing.{MayHand, handed_of, lines_since}
 use Rattle.live_intake.specs.Segments.{HasServedSegment, IsFit}
 use Rattle.live_intake.proofs.Handing.{since_line}
 
@@ -39,9 +40,9 @@ module _ {D : Type 0} (turn : Turn (DeskView D) PoolEntry (DeskBase D)) (first :
     pub ready : IsReady turn lane.seat
     pub same : SameConsumer first.ring lane.ring
     pub counted : lines_since 0 (received lane.ring) ≡ vec_len lane.ends
-    pub spare : most_handed ≤ vec_capacity lane.ends
+    pub spare : MOST_HANDED ≤ vec_capacity lane.ends
 
-  pub begins : (lane : LiveLane D) → IsFit turn first → lane.seat ≡ first.seat → lane.ring ≡ first.ring → lane.ends.items ≡ [] → vec_len lane.ends ≡ 0 → most_handed ≤ vec_capacity lane.ends → IsTaking lane
+  pub begins : (lane : LiveLane D) → IsFit turn first → lane.seat ≡ first.seat → lane.ring ≡ first.ring → lane.ends.items ≡ [] → vec_len lane.ends ≡ 0 → MOST_HANDED ≤ vec_capacity lane.ends → IsTaking lane
   begins lane fit seat ring none len spare = record {
     requests = [];
     own = λ i r lt. absurd (omega (arith, lt));
@@ -87,5 +88,5 @@ module _ {D : Type 0} (turn : Turn (DeskView D) PoolEntry (DeskBase D)) (first :
     run = subst (λ e. HasRun first.seat new.seat taking.requests e.items) (sym ends) (subst (λ s. HasRun first.seat s taking.requests old.ends.items) (sym seat) taking.run);
     ready = subst (IsReady turn) (sym seat) taking.ready;
     same = same_twice first.ring old.ring new.ring taking.same same;
-    spare = subst (λ e. most_handed ≤ vec_capacity e) (sym ends) taking.spare;
+    spare = subst (λ e. MOST_HANDED ≤ vec_capacity e) (sym ends) taking.spare;
   }

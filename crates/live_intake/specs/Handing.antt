@@ -1,13 +1,10 @@
 -- What a lane is handed: the lines of a segment, and a mark at its end.
 use Rattle.std.specs.Prelude.{◌≡◌, ◌+◌, ◌<◌, ℕ, true, List, [], ◌∷◌, ◌++◌, map}
+use Rattle.live_intake.specs.declared.handed.TheConstants.{MOST_HANDED}
 use Rattle.claim_history.specs.Acts.{is_request}
 use Rattle.request_text.specs.declared.request.Request.{Request}
 use Rattle.live_intake.specs.declared.handed.Handed.{Handed}
 use Rattle.live_intake.specs.declared.handed.Handed.TheVariants as handed
-
--- how many lines a lane is handed in one segment, at most
-abbrev pub most_handed : ℕ
-most_handed = 63
 
 -- how many lines stand after the last mark, where so many stand before the list
 abbrev pub lines_since : ℕ → List Handed → ℕ
@@ -21,7 +18,7 @@ IsMarked before = lines_since 0 before ≡ 0
 
 -- what may be handed after this
 abbrev pub MayHand : List Handed → Handed → Type 0
-MayHand before (handed.Line line pool act) = (is_request act ≡ true) × (lines_since 0 before < most_handed)
+MayHand before (handed.Line line pool act) = (is_request act ≡ true) × (lines_since 0 before < MOST_HANDED)
 MayHand before handed.End = Unit {0}
 
 -- a request, as its lane is handed it

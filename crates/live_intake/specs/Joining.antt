@@ -1,5 +1,6 @@
 -- Between segments, and what a segment does.
 use Rattle.std.specs.Prelude.{◌≡◌, ◌+◌, ◌<◌, ◌≤◌, ℕ, List, ◌++◌, All, length, slice_index_or, vec_capacity}
+use Rattle.live_intake.specs.declared.handed.TheConstants.{MOST_HANDED}
 use Rattle.rtrb.specs.Ring.{received, sent, known_free, producer_capacity, IsPair, SameProducer}
 use Rattle.claim_history.specs.declared.call.PoolEntry.{PoolEntry}
 use Rattle.turn_lock.specs.declared.turn.Turn.{Turn}
@@ -10,7 +11,7 @@ use Rattle.shared_bureau.specs.Adding.{IsReady}
 use Rattle.request_text.specs.declared.request.Request.{Request}
 use Rattle.lane_seats.specs.Lanes.{HasRun, of_lane}
 use Rattle.live_intake.specs.declared.lane.LiveLane.{LiveLane}
-use Rattle.live_intake.specs.Handing.{IsMarked, most_handed, segment_of}
+use Rattle.live_intake.specs.Handing.{IsMarked, segment_of}
 use Rattle.live_intake.specs.Rings.{IsOpen, Ring}
 
 -- Between segments: all that was sent was received, the mark was the last of it, and the whole ring is known to be free. The lane has
@@ -19,8 +20,8 @@ pub record IsJoined {D : Type 0} (k : ℕ) (ring : Ring) (lane : LiveLane D) : T
   pub pair : IsPair ring lane.ring
   pub all : received lane.ring ≡ sent ring
   pub marked : IsMarked (sent ring)
-  pub places : producer_capacity ring ≡ most_handed + 1
-  pub free : known_free ring ≡ most_handed + 1
+  pub places : producer_capacity ring ≡ MOST_HANDED + 1
+  pub free : known_free ring ≡ MOST_HANDED + 1
   pub number_is : number lane.seat ≡ k + 1
 
 pub record AreJoined {D : Type 0} (rings : List Ring) (lanes : List (LiveLane D)) : Type 0 where
@@ -46,7 +47,7 @@ module _ {D : Type 0} (turn : Turn (DeskView D) PoolEntry (DeskBase D)) where
   pub record HasServedThese (requests : List Request) (old new : LiveLane D) : Type 0 where
     pub run : HasRun old.seat new.seat requests new.ends.items
     pub ready : IsReady turn new.seat
-    pub spare : most_handed ≤ vec_capacity new.ends
+    pub spare : MOST_HANDED ≤ vec_capacity new.ends
 
   -- each lane served just its own
   pub record HaveServedThese (requests : List Request) (old new : List (LiveLane D)) : Type 0 where

@@ -1,5 +1,6 @@
 -- The reader of a segment.
 use Rattle.std.specs.Prelude.{◌≡◌, ◌≤◌, ℕ, false, Option, List, [], All, length, Vec, vec_len, vec_capacity}
+use Rattle.live_intake.specs.declared.reading.TheConstants.{MOST_ASKED}
 use Rattle.std.specs.declared.alloc.Global.{Global}
 use Rattle.setoff_model.specs.declared.limits.TheConstants.{MOST_LANES}
 use Rattle.request_text.specs.declared.request.Request.{Request}
@@ -8,7 +9,7 @@ use Rattle.served_lines.specs.declared.answer.Answer.{Answer}
 use Rattle.input_front.specs.Taken.{IntakeView}
 use Rattle.live_intake.specs.declared.stop.Stop.{Stop}
 use Rattle.live_intake.specs.Joining.{AreOpen, HaveHanded}
-use Rattle.live_intake.specs.Reading.{Ends, HasTaken, most_asked}
+use Rattle.live_intake.specs.Reading.{Ends, HasTaken}
 use Rattle.live_intake.specs.Rings.{Ring}
 use Rattle.live_intake.specs.Sparing.{HasSpare, KeepsSpare}
 
@@ -19,7 +20,7 @@ MayRead intake rings requests answers = (intake.fenced ≡ false)
     × AreOpen rings
     × (requests.items ≡ [])
     × (vec_len requests ≡ 0)
-    × (most_asked ≤ vec_capacity requests)
+    × (MOST_ASKED ≤ vec_capacity requests)
     × HasSpare intake answers (vec_len requests)
 
 -- The lines of the segment were read, and each lane was handed its own of them, and the mark.
@@ -27,8 +28,8 @@ pub record HasReadSegment (left_old left_new : Option (List ℕ)) (faults_old fa
     (requests : Vec Request Global) (answers_old answers_new : Vec Answer Global) (why : Option Stop) : Type 0 where
   pub handed : HaveHanded rings_old rings_new requests.items
   pub own : All (λ r. IsLane r.lane) requests.items
-  pub few : vec_len requests ≤ most_asked
-  pub spare : most_asked ≤ vec_capacity requests
+  pub few : vec_len requests ≤ MOST_ASKED
+  pub spare : MOST_ASKED ≤ vec_capacity requests
   pub taken : HasTaken left_old left_new faults_old faults_new old new
   pub ends : Ends left_new faults_old faults_new old new requests.items why
   pub answers : KeepsSpare old new answers_old answers_new (vec_len requests) why

@@ -1,5 +1,6 @@
 -- What the reader of a segment reads, and hands to the lanes.
-use Rattle.std.specs.Prelude.{◌≡◌, ◌⊎◌, ◌+◌, ◌*◌, ◌<◌, ◌≤◌, ℕ, true, false, Option, Some, None, List, [], ◌∷◌, ◌++◌, All, length, take, drop, map, slice_index_or}
+use Rattle.std.specs.Prelude.{◌≡◌, ◌⊎◌, ◌+◌, ◌<◌, ◌≤◌, ℕ, true, false, Option, Some, None, List, [], ◌∷◌, ◌++◌, All, length, take, drop, map, slice_index_or}
+use Rattle.live_intake.specs.declared.reading.TheConstants.{MOST_ASKED}
 use Rattle.std.specs.Io.KnownBytes.{Consumes, IsAtEnd}
 use Rattle.fault_count.specs.Counts.{HasRisen}
 use Rattle.rtrb.specs.Ring.{sent, SameProducer}
@@ -26,10 +27,6 @@ pub record HasSentAll (old new : Ring) (requests : List Request) : Type 0 where
 pub record HaveSentAll (old new : List Ring) (requests : List Request) : Type 0 where
   pub all : length new ≡ length old
   pub each : (k : ℕ) (ring : Ring) → k < length old → HasSentAll (slice_index_or old k ring) (slice_index_or new k ring) (of_lane (k + 1) requests)
-
--- how many lines a segment has, at most
-abbrev pub most_asked : ℕ
-most_asked = 63 * 16
 
 -- the lines that were read are the old ones and these requests, which are of the last batch
 abbrev pub HasReadThese : IntakeView → IntakeView → List Request → Type 0
@@ -128,6 +125,6 @@ end_of (step.Over why) = Some why
 
 -- where the segment goes on, each lane may be handed more, and so may be noted
 abbrev pub GoesOn : Step → List Ring → ℕ → Type 0
-GoesOn step.On rings noted = All IsOpen rings × (noted < most_asked)
+GoesOn step.On rings noted = All IsOpen rings × (noted < MOST_ASKED)
 GoesOn step.Full rings noted = Unit {0}
 GoesOn (step.Over why) rings noted = Unit {0}

@@ -1,20 +1,20 @@
 -- The memory for a batch.
 use Rattle.std.specs.Prelude.{◌≡◌, ◌+◌, ◌≤◌, [], All, length, vec_len, vec_capacity}
+use Rattle.live_intake.specs.declared.handed.TheConstants.{MOST_HANDED}
+use Rattle.live_intake.specs.declared.reading.TheConstants.{MOST_ASKED}
 use Rattle.setoff_model.specs.declared.limits.TheConstants.{MOST_LANES}
 use Rattle.rtrb.specs.Ring.{received, sent, known_free, producer_capacity, IsPair}
 use Rattle.live_intake.specs.declared.room.LiveRoom.{LiveRoom}
 use Rattle.live_intake.specs.declared.room.Place.{Place}
-use Rattle.live_intake.specs.Handing.{most_handed}
-use Rattle.live_intake.specs.Reading.{most_asked}
 
 -- both ends of a ring through which nothing went, and room for what comes of the lines of a segment
 pub record IsPlace (place : Place) : Type 0 where
   pub pair : IsPair place.ring place.end
   pub none_sent : sent place.ring ≡ []
   pub none_received : received place.end ≡ []
-  pub places : producer_capacity place.ring ≡ most_handed + 1
-  pub free : known_free place.ring ≡ most_handed + 1
-  pub spare : most_handed ≤ vec_capacity place.ends
+  pub places : producer_capacity place.ring ≡ MOST_HANDED + 1
+  pub free : known_free place.ring ≡ MOST_HANDED + 1
+  pub spare : MOST_HANDED ≤ vec_capacity place.ends
 
 -- the room for a batch
 pub record IsRoom {D : Type 0} (room : LiveRoom D) : Type 0 where
@@ -23,7 +23,7 @@ pub record IsRoom {D : Type 0} (room : LiveRoom D) : Type 0 where
   pub no_rings : room.rings.items ≡ []
   pub rings : MOST_LANES ≤ vec_capacity room.rings
   pub no_requests : room.requests.items ≡ []
-  pub requests : most_asked ≤ vec_capacity room.requests
+  pub requests : MOST_ASKED ≤ vec_capacity room.requests
   pub no_answers : (room.answers.items ≡ []) × (vec_len room.answers ≡ 0)
   pub no_lanes : room.lanes.items ≡ []
   pub lanes : MOST_LANES ≤ vec_capacity room.lanes

@@ -1,5 +1,6 @@
 -- What one lane does in a segment.
 use Rattle.std.specs.Prelude.{◌≡◌, ◌<◌, ◌≤◌, ℕ, List, ◌++◌, All, length, slice_index_or, vec_capacity}
+use Rattle.live_intake.specs.declared.handed.TheConstants.{MOST_HANDED}
 use Rattle.rtrb.specs.Ring.{received, SameConsumer}
 use Rattle.claim_history.specs.declared.call.PoolEntry.{PoolEntry}
 use Rattle.turn_lock.specs.declared.turn.Turn.{Turn}
@@ -10,14 +11,14 @@ use Rattle.shared_bureau.specs.Adding.{IsReady}
 use Rattle.request_text.specs.declared.request.Request.{Request}
 use Rattle.lane_seats.specs.Lanes.{HasRun}
 use Rattle.live_intake.specs.declared.lane.LiveLane.{LiveLane}
-use Rattle.live_intake.specs.Handing.{IsMarked, most_handed, segment_of}
+use Rattle.live_intake.specs.Handing.{IsMarked, segment_of}
 
 module _ {D : Type 0} (turn : Turn (DeskView D) PoolEntry (DeskBase D)) where
   -- a lane of this lock at the beginning of a segment, with room for what comes of its lines
   pub record IsFit (lane : LiveLane D) : Type 0 where
     pub ready : IsReady turn lane.seat
     pub marked : IsMarked (received lane.ring)
-    pub spare : most_handed ≤ vec_capacity lane.ends
+    pub spare : MOST_HANDED ≤ vec_capacity lane.ends
 
   -- It took requests of its own from its ring, up to the mark, and served them.
   pub record HasServedSegment (old new : LiveLane D) : Type 0 where
@@ -27,7 +28,7 @@ module _ {D : Type 0} (turn : Turn (DeskView D) PoolEntry (DeskBase D)) where
     pub run : HasRun old.seat new.seat requests new.ends.items
     pub ready : IsReady turn new.seat
     pub same : SameConsumer old.ring new.ring
-    pub spare : most_handed ≤ vec_capacity new.ends
+    pub spare : MOST_HANDED ≤ vec_capacity new.ends
 
   -- each lane did
   abbrev pub HaveServed : List (LiveLane D) → List (LiveLane D) → Type 0

@@ -1,10 +1,11 @@
 //! The reader of a segment.
 ghost use Rattle.std.specs.Prelude.{None, ◌≡◌, ◌+◌, ◌<◌, ◌≤◌, ◌∷◌, ◌++◌, [], drop, length, true, false, All, vec_len, vec_capacity};
+ghost use Rattle.live_intake.specs.declared.reading.TheConstants.{MOST_ASKED};
 ghost use Rattle.setoff_model.specs.declared.limits.TheConstants.{MOST_LANES};
 ghost use Rattle.claim_history.specs.Acts.{is_request};
 ghost use Rattle.request_text.specs.Lanes.{IsLane};
 ghost use Rattle.input_front.specs.Taken.{HasNoFeed};
-ghost use Rattle.live_intake.specs.Reading.{GoesOn, HasGoneOn, HasReadLast, end_of, most_asked};
+ghost use Rattle.live_intake.specs.Reading.{GoesOn, HasGoneOn, HasReadLast, end_of};
 ghost use Rattle.live_intake.specs.Reader.{HasReadSegment, MayRead};
 ghost use Rattle.live_intake.specs.Rings.{HasHanded, HasRoom, IsOpen};
 ghost use Rattle.live_intake.specs.Sparing.{HasSpare, KeepsSpare};
@@ -69,13 +70,13 @@ fn hand_lines<S: Source>(
     requires begun { intake.old.fenced ≡ false }
     requires all { length rings.old ≡ MOST_LANES }
     requires open { All IsOpen rings.old }
-    requires few { (vec_len requests.old < most_asked) × (most_asked ≤ vec_capacity requests.old) }
+    requires few { (vec_len requests.old < MOST_ASKED) × (MOST_ASKED ≤ vec_capacity requests.old) }
     requires answers { HasSpare intake.old answers.old (vec_len requests.old) }
     requires some { 1 ≤ steps }
     ensures gone { HasGoneOn (S.left source.old) (S.left source.new) (S.faults source.old) (S.faults source.new) intake.old intake.new
         rings.old rings.new requests.old.items requests.new.items result }
     ensures room { All HasRoom rings.new }
-    ensures few { (vec_len requests.new ≤ most_asked) × (most_asked ≤ vec_capacity requests.new) }
+    ensures few { (vec_len requests.new ≤ MOST_ASKED) × (MOST_ASKED ≤ vec_capacity requests.new) }
     ensures answers { KeepsSpare intake.old intake.new answers.old answers.new (vec_len requests.new) result }
 {
     for _ in 0..steps {
@@ -100,13 +101,13 @@ fn hand_next<S: Source>(
     requires begun { intake.old.fenced ≡ false }
     requires all { length rings.old ≡ MOST_LANES }
     requires open { All IsOpen rings.old }
-    requires few { (vec_len requests.old < most_asked) × (most_asked ≤ vec_capacity requests.old) }
+    requires few { (vec_len requests.old < MOST_ASKED) × (MOST_ASKED ≤ vec_capacity requests.old) }
     requires answers { HasSpare intake.old answers.old (vec_len requests.old) }
     ensures gone { HasGoneOn (S.left source.old) (S.left source.new) (S.faults source.old) (S.faults source.new) intake.old intake.new
         rings.old rings.new requests.old.items requests.new.items (end_of result) }
     ensures open { GoesOn result rings.new (vec_len requests.new) }
     ensures room { All HasRoom rings.new }
-    ensures few { (vec_len requests.new ≤ most_asked) × (most_asked ≤ vec_capacity requests.new) }
+    ensures few { (vec_len requests.new ≤ MOST_ASKED) × (MOST_ASKED ≤ vec_capacity requests.new) }
     ensures answers { KeepsSpare intake.old intake.new answers.old answers.new (vec_len requests.new) (end_of result) }
 {
     intake.batches();
@@ -140,11 +141,11 @@ fn hand_last(
     requires begun { intake.now.fenced ≡ false }
     requires all { length rings.old ≡ MOST_LANES }
     requires open { All IsOpen rings.old }
-    requires few { (vec_len requests.old < most_asked) × (most_asked ≤ vec_capacity requests.old) }
+    requires few { (vec_len requests.old < MOST_ASKED) × (MOST_ASKED ≤ vec_capacity requests.old) }
     requires none { HasNoFeed (drop intake.now.read intake.now.taken) }
     ensures last { HasReadLast intake.now rings.old rings.new requests.old.items requests.new.items result }
     ensures room { All HasRoom rings.new }
-    ensures few { (vec_len requests.new ≤ most_asked) × (most_asked ≤ vec_capacity requests.new) }
+    ensures few { (vec_len requests.new ≤ MOST_ASKED) × (MOST_ASKED ≤ vec_capacity requests.new) }
     ensures one { vec_len requests.new ≤ vec_len requests.old + 1 }
 {
     match intake.last(alloc) {
@@ -164,13 +165,13 @@ fn hand_one(rings: &mut [Ring], requests: &mut Vec<Request>, request: Request) -
     requires all { length rings.old ≡ MOST_LANES }
     requires valid { is_request request.act ≡ true }
     requires open { All IsOpen rings.old }
-    requires few { (vec_len requests.old < most_asked) × (most_asked ≤ vec_capacity requests.old) }
+    requires few { (vec_len requests.old < MOST_ASKED) × (MOST_ASKED ≤ vec_capacity requests.old) }
     ensures handed { HasHanded rings.old rings.new request }
     ensures noted { requests.new.items ≡ requests.old.items ++ request ∷ [] }
     ensures open { GoesOn result rings.new (vec_len requests.new) }
     ensures on { end_of result ≡ None }
     ensures room { All HasRoom rings.new }
-    ensures few { (vec_len requests.new ≤ most_asked) × (most_asked ≤ vec_capacity requests.new) }
+    ensures few { (vec_len requests.new ≤ MOST_ASKED) × (MOST_ASKED ≤ vec_capacity requests.new) }
     ensures one { vec_len requests.new ≡ vec_len requests.old + 1 }
 {
     let Request {

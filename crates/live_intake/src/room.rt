@@ -1,7 +1,6 @@
 //! The memory for a batch of an input that is still read.
 ghost use Rattle.std.specs.Prelude.{◌≡◌, ◌+◌, ◌<◌, ◌≤◌, [], All, IfOk, length, vec_capacity};
-ghost use Rattle.input_front.specs.Taken.{most_taken};
-ghost use Rattle.setoff_model.specs.declared.limits.TheConstants.{MOST_LANES};
+ghost use Rattle.setoff_model.specs.declared.limits.TheConstants.{MOST_LANES, MOST_INPUT_BYTES};
 ghost use Rattle.live_intake.specs.Rooms.{IsPlace, IsRoom};
 
 use crate::handed::{Handed, InSegments, MOST_HANDED};
@@ -38,7 +37,7 @@ pub struct LiveRoom<D: Disk> {
 impl<D: Disk> LiveRoom<D> {
     /// The room for a batch, before which so many bytes were taken and not read. The only error is that memory is missing.
     pub fn make(alloc: Global, left: usize) -> Result<LiveRoom<D>, AllocError>
-        requires { left ≤ most_taken + 1 }
+        requires { left ≤ MOST_INPUT_BYTES + 1 }
         ensures room { IfOk result IsRoom }
         ensures answers { IfOk result (λ r. left < vec_capacity r.answers) }
     {

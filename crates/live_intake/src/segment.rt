@@ -1,8 +1,9 @@
 //! One segment: lines are handed to their lanes, which serve them meanwhile.
 ghost use Rattle.std.specs.Prelude.{◌≡◌, ◌≤◌, false, [], length, All, vec_len, vec_capacity};
+ghost use Rattle.live_intake.specs.declared.reading.TheConstants.{MOST_ASKED};
 ghost use Rattle.setoff_model.specs.declared.limits.TheConstants.{MOST_LANES};
 ghost use Rattle.request_text.specs.Lanes.{IsLane};
-ghost use Rattle.live_intake.specs.Reading.{Ends, HasTaken, most_asked};
+ghost use Rattle.live_intake.specs.Reading.{Ends, HasTaken};
 ghost use Rattle.live_intake.specs.Reader.{HasReadSegment, MayRead};
 ghost use Rattle.live_intake.specs.Joining.{AreJoined, HaveServedThese};
 ghost use Rattle.live_intake.specs.Segments.{HaveServed, IsFit};
@@ -48,15 +49,15 @@ pub fn run_segment<
 ) -> Option<Stop>
     requires begun { intake.old.fenced ≡ false }
     requires all { length rings.old ≡ MOST_LANES }
-    requires fresh { (requests.old.items ≡ []) × (vec_len requests.old ≡ 0) × (most_asked ≤ vec_capacity requests.old) }
+    requires fresh { (requests.old.items ≡ []) × (vec_len requests.old ≡ 0) × (MOST_ASKED ≤ vec_capacity requests.old) }
     requires answers { HasSpare intake.old answers.old (vec_len requests.old) }
     requires joined { AreJoined rings.old lanes.old }
     requires fit { All (IsFit service.now.shared.now.turn) lanes.old }
     ensures joined { AreJoined rings.new lanes.new }
     ensures served { HaveServedThese service.now.shared.now.turn requests.new.items lanes.old lanes.new }
     ensures own { All (λ r. IsLane r.lane) requests.new.items }
-    ensures few { vec_len requests.new ≤ most_asked }
-    ensures spare { most_asked ≤ vec_capacity requests.new }
+    ensures few { vec_len requests.new ≤ MOST_ASKED }
+    ensures spare { MOST_ASKED ≤ vec_capacity requests.new }
     ensures taken { HasTaken (S.left source.old) (S.left source.new) (S.faults source.old) (S.faults source.new)
         intake.old intake.new }
     ensures ends { Ends (S.left source.new) (S.faults source.old) (S.faults source.new)

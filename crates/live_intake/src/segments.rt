@@ -1,7 +1,8 @@
 //! The segments of a batch, one after another.
 ghost use Rattle.std.specs.Prelude.{◌≡◌, ◌≤◌, false, [], None, Some, vec_capacity};
+ghost use Rattle.live_intake.specs.declared.reading.TheConstants.{MOST_ASKED};
 ghost use Rattle.live_intake.specs.Batching.{AreReady, HasServedBatch, HasServedMore};
-ghost use Rattle.live_intake.specs.Reading.{HasTaken, most_asked};
+ghost use Rattle.live_intake.specs.Reading.{HasTaken};
 ghost use Rattle.live_intake.specs.Sparing.{HasMoved, HasSpare};
 
 use crate::answers::merge;
@@ -39,7 +40,7 @@ pub fn serve_segments<
 ) -> Stop
     requires begun { intake.old.fenced ≡ false }
     requires ready { AreReady service.now.shared.now.turn rings.old lanes.old }
-    requires room { most_asked ≤ vec_capacity requests.old }
+    requires room { MOST_ASKED ≤ vec_capacity requests.old }
     requires none { answers.old.items ≡ [] }
     requires answers { HasSpare intake.old answers.old 0 }
     ensures taken { HasTaken (S.left source.old) (S.left source.new) (S.faults source.old) (S.faults source.new)
@@ -76,11 +77,11 @@ fn serve_next<
 ) -> Option<Stop>
     requires begun { intake.old.fenced ≡ false }
     requires ready { AreReady service.now.shared.now.turn rings.old lanes.old }
-    requires room { most_asked ≤ vec_capacity requests.old }
+    requires room { MOST_ASKED ≤ vec_capacity requests.old }
     requires answers { HasSpare intake.old answers.old 0 }
     ensures answers { result ≡ None → HasSpare intake.new answers.new 0 }
     ensures moves { result ≡ None → HasMoved intake.old intake.new }
-    ensures room { most_asked ≤ vec_capacity requests.new }
+    ensures room { MOST_ASKED ≤ vec_capacity requests.new }
     ensures taken { HasTaken (S.left source.old) (S.left source.new) (S.faults source.old) (S.faults source.new)
         intake.old intake.new }
     ensures served { HasServedMore service.now.shared.now.turn (S.left source.new) (S.faults source.old) (S.faults source.new)

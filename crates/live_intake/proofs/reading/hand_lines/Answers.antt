@@ -1,6 +1,7 @@
 use Rattle.std.specs.Prelude.{None, Some}
+use Rattle.live_intake.specs.declared.reading.TheConstants.{MOST_ASKED}
 use Rattle.std.proofs.Common.{rules, ◌∙◌, ◌<◌, All, arith, refl, vec_len}
-use Rattle.live_intake.specs.Reading.{HasGoneOn, most_asked}
+use Rattle.live_intake.specs.Reading.{HasGoneOn}
 use Rattle.live_intake.specs.Rings.{IsOpen}
 use Rattle.live_intake.specs.Sparing.{KeepsSpare}
 use Rattle.live_intake.proofs.InReading.{gone_nowhere, gone_twice}
@@ -29,7 +30,7 @@ loop-preserved g c =
     let left = g.S.Source.left in
     let faults = g.S.Source.faults in
     let now : HasGoneOn (left c.loop.source) (left c.hand_next.new.source) (faults c.loop.source) (faults c.hand_next.new.source) c.loop.intake c.hand_next.new.intake c.loop.rings c.hand_next.new.rings c.loop.requests.items c.hand_next.new.requests.items None = search rules in
-    let on : All IsOpen c.hand_next.new.rings × (vec_len c.hand_next.new.requests < most_asked) = search rules in
+    let on : All IsOpen c.hand_next.new.rings × (vec_len c.hand_next.new.requests < MOST_ASKED) = search rules in
     let kept : KeepsSpare c.loop.intake c.hand_next.new.intake c.loop.answers c.hand_next.new.answers (vec_len c.hand_next.new.requests) None = search rules in
     record {
       begun = now.ends.0;

@@ -1,4 +1,5 @@
 use Rattle.std.specs.Prelude.{None}
+use Rattle.live_intake.specs.declared.reading.TheConstants.{MOST_ASKED}
 use Rattle.std.proofs.Common.{rules, ◌≡◌, ◌+◌, ◌≤◌, [], ◌∷◌, ◌++◌, arith, vec_capacity, vec_len}
 use Rattle.input_front.specs.declared.line.Line.TheVariants as line
 use Rattle.input_front.specs.declared.intake.More.TheVariants as more
@@ -6,7 +7,6 @@ use Rattle.input_front.specs.Taken.{HasCome, HasNext, HasNoLine, HasPiece}
 use Rattle.live_intake.specs.Rings.{HasHanded}
 use Rattle.live_intake.proofs.InReading.{goes_asked, goes_bad, goes_end, goes_failed, goes_fence, goes_long, goes_memory, goes_no_memory, goes_piece}
 use Rattle.live_intake.specs.declared.stop.Stop.TheVariants as stop
-use Rattle.live_intake.specs.Reading.{most_asked}
 use Rattle.live_intake.proofs.Spared.{keeps_asked, keeps_over, keeps_piece, keeps_reserved}
 use Rattle.live_intake.proofs.reading.hand_next.Goals as goal
 
@@ -99,8 +99,8 @@ pub returns-in-Some-clause-answers : goal.returns-in-Some-clause-answers
 returns-in-Some-clause-answers g c =
     let none : (c.next.new.self ≡ c.args.intake.now) × HasNoLine c.args.intake.now = search rules in
     let p : HasPiece (g.S.Source.left c.args.source.now) (g.S.Source.left c.more.new.source) c.next.new.self c.more.new.self = search rules in
-    let few : vec_len c.args.requests.now ≤ most_asked = omega (arith, c.requires.few.0) in
-    let room : vec_len c.args.answers.now + (most_asked + 32769) ≤ vec_capacity c.reserve.new.self = search rules in
+    let few : vec_len c.args.requests.now ≤ MOST_ASKED = omega (arith, c.requires.few.0) in
+    let room : vec_len c.args.answers.now + (MOST_ASKED + 32769) ≤ vec_capacity c.reserve.new.self = search rules in
     keeps_piece c.args.intake.now c.batches.ensures.batches c.args.answers.now (vec_len c.args.requests.now) c.requires.answers c.reserve.new.self c.reserve.ensures.items c.reserve.ensures.len
     (g.S.Source.left c.args.source.now) (g.S.Source.left c.more.new.source) c.next.new.self c.more.new.self None none.0 none.1 p few room
 
