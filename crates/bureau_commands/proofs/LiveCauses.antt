@@ -1,10 +1,11 @@
 -- What an input comes to that is served while it is read.
 use Rattle.std.specs.Prelude.{IsTrue, Option, Some}
-use Rattle.std.proofs.Common.{◌≡◌, ◌∙◌, ◌⊎◌, ⊎_elim, inl, inr, ℕ, ◌≤◌, false, List, [], ◌∷◌, length, refl, sym, subst, true≢false, arith}
+use Rattle.std.proofs.Common.{◌≡◌, ◌∙◌, ◌⊎◌, ⊎_elim, inl, inr, ℕ, ◌+◌, ◌≤◌, false, List, [], ◌∷◌, length, take, refl, sym, subst, true≢false, arith}
 use Rattle.std.specs.Io.KnownBytes.{Consumes}
 use Rattle.setoff_model.specs.declared.limits.TheConstants.{MOST_INPUT_BYTES}
 use Rattle.disk_model.specs.Calls.{Seen}
-use Rattle.request_text.specs.Grammar.{IsRequestText}
+use Rattle.request_text.specs.Grammar.{AreBatches, IsRequestText}
+use Rattle.input_front.specs.Front.{whole_lines}
 use Rattle.live_intake.specs.declared.stop.Stop.{Stop}
 use Rattle.live_intake.specs.declared.stop.Stop.TheVariants as stop
 use Rattle.live_intake.specs.Live.{is_fence}
@@ -19,8 +20,8 @@ use Rattle.bureau_commands.specs.Completeness.{IsWholeInput}
 use Rattle.bureau_commands.specs.Headline.{IsHeadline}
 use Rattle.bureau_commands.specs.Journals.{HoldsSound}
 use Rattle.bureau_commands.specs.Due.{IsBatchesDue, IsLiveDue, IsLiveHeadline, IsNotBegunDue, all_served, broken_off, not_begun, stop_status, stop_text}
-use Rattle.bureau_commands.specs.Causes.{HasCause, HoldsUnsound, IsOutOfForm, IsTooLong, disk_failed, done, full_line, no_memory, not_opened, out_of_form, source_failed, too_long}
-use Rattle.bureau_commands.proofs.TakenInputs.{all_taken, bad_input, no_shorter}
+use Rattle.bureau_commands.specs.Causes.{HasCause, HoldsUnsound, IsOutOfForm, IsTooLong, StartsOutOfForm, disk_failed, done, full_line, no_memory, not_opened, out_of_form, source_failed, too_long}
+use Rattle.bureau_commands.proofs.TakenInputs.{all_taken, bad_input, first_taken, no_shorter}
 use Rattle.bureau_commands.proofs.Bound.{none_asked}
 use Rattle.bureau_commands.proofs.Completeness.{none_served}
 use Rattle.bureau_commands.proofs.RunCauses.{batches_cases, headline_one, unsound_batches}
@@ -106,13 +107,16 @@ module _ {S D : Type 0} (left : S → Option (List ℕ)) (seen : D → Seen) (Ta
   live_form has input status text (broken_off why t h) = inr (inr (inr (inr (inl refl))))
   live_form has input status text (all_served why due t some h apart at_end) = stopped_form input.input input.told input.within input.holds why due t h apart at_end
 
+  -- one that was taken whole is not too long
+  whole_short : (input : List ℕ) → left source ≡ Some input → (due : ExitStatus) (text : List ℕ) → IsLiveHeadline seen Taken (left source) (left source') old new stop.End due text → length input ≤ MOST_INPUT_BYTES
+  whole_short input told due text h =
+      subst (λ (bytes : List ℕ). length bytes ≤ MOST_INPUT_BYTES) (all_taken input h.taken (left source') (took input h.taken told h.consumed) h.front.0.0) h.front.0.1
+
   -- one that is too long
   stopped_long : (input : List ℕ) → left source ≡ Some input → IsTooLong input → (why : Stop) (due : ExitStatus) (text : List ℕ) (h : IsLiveHeadline seen Taken (left source) (left source') old new why due text)
       → is_fence why ≡ false → IsOneOf (statuses.Limit ∷ statuses.Form ∷ statuses.Source ∷ statuses.Disk ∷ statuses.Memory ∷ statuses.Sink ∷ []) (stop_status why due)
   stopped_long input told many stop.Fence due text h apart = absurd (true≢false apart)
-  stopped_long input told many stop.End due text h apart =
-      let same : h.taken ≡ input = all_taken input h.taken (left source') (took input h.taken told h.consumed) h.front.0.0 in
-      absurd (omega (arith, many, subst (λ (bytes : List ℕ). length bytes ≤ MOST_INPUT_BYTES) same h.front.0.1))
+  stopped_long input told many stop.End due text h apart = absurd (omega (arith, many, whole_short input told due text h))
   stopped_long input told many (stop.BadLine line cause) due text h apart = inr (inl refl)
   stopped_long input told many stop.Failed due text h apart = inr (inr (inl refl))
   stopped_long input told many stop.TooLong due text h apart = inl refl
@@ -123,6 +127,24 @@ module _ {S D : Type 0} (left : S → Option (List ℕ)) (seen : D → Seen) (Ta
   live_long has input told many status text (not_begun same s t some due) = inr (inr (inr (sound_unserved seen Taken old new has s (unserved seen Taken old new s t some due))))
   live_long has input told many status text (broken_off why t h) = inr (inr (inr (inr (inr (inl refl)))))
   live_long has input told many status text (all_served why due t some h apart at_end) = stopped_long input told many why due t h apart
+
+  -- one that is too long, and whose start is not in the grammar
+  stopped_start : (input : List ℕ) → left source ≡ Some input → IsTooLong input → StartsOutOfForm input → (why : Stop) (due : ExitStatus) (text : List ℕ) (h : IsLiveHeadline seen Taken (left source) (left source') old new why due text)
+      → is_fence why ≡ false → IsOneOf (statuses.Form ∷ statuses.Source ∷ statuses.Disk ∷ statuses.Memory ∷ statuses.Sink ∷ []) (stop_status why due)
+  stopped_start input told many none stop.Fence due text h apart = absurd (true≢false apart)
+  stopped_start input told many none stop.End due text h apart = absurd (omega (arith, many, whole_short input told due text h))
+  stopped_start input told many none (stop.BadLine line cause) due text h apart = inl refl
+  stopped_start input told many none stop.Failed due text h apart = inr (inl refl)
+  stopped_start input told many none stop.TooLong due text h apart =
+      let first : h.taken ≡ take (MOST_INPUT_BYTES + 1) input = first_taken input h.taken (left source') (MOST_INPUT_BYTES + 1) (took input h.taken told h.consumed) h.front.1 in
+      absurd (none h.batches (subst (λ (bytes : List ℕ). AreBatches 1 (whole_lines bytes) h.batches) first h.front.0))
+  stopped_start input told many none stop.Memory due text h apart = inr (inr (inr (inl refl)))
+
+  pub live_start : HoldsSound (seen old) → (input : List ℕ) → left source ≡ Some input → IsTooLong input → StartsOutOfForm input → (status : ExitStatus) (text : List ℕ) → IsLiveDue left seen Taken source source' old new status text
+      → IsOneOf (statuses.Form ∷ statuses.Source ∷ statuses.Disk ∷ statuses.Memory ∷ statuses.Sink ∷ []) status
+  live_start has input told many none status text (not_begun same s t some due) = inr (inr (sound_unserved seen Taken old new has s (unserved seen Taken old new s t some due)))
+  live_start has input told many none status text (broken_off why t h) = inr (inr (inr (inr (inl refl))))
+  live_start has input told many none status text (all_served why due t some h apart at_end) = stopped_start input told many none why due t h apart
 
   -- ---- why it ends with a status, unless the sink failed
 

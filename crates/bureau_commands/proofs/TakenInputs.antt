@@ -1,8 +1,9 @@
 -- An input that a source tells, and the bytes that were taken of it.
 use Rattle.std.specs.Prelude.{Option, Some, None}
-use Rattle.std.proofs.Common.{◌≡◌, ℕ, ◌+◌, ◌≤◌, List, [], ◌∷◌, ◌++◌, length, inl, inr, sym, ◌∙◌, ap, subst, arith}
+use Rattle.std.proofs.Common.{◌≡◌, ℕ, ◌+◌, ◌≤◌, List, [], ◌∷◌, ◌++◌, length, take, inl, inr, sym, ◌∙◌, ap, ap₂, subst, arith}
 use Rattle.std.specs.Io.KnownBytes.{Consumes, IsAtEnd}
 use Rattle.std.proofs.lemmas.List.{append-nil, length-append}
+use Rattle.std.proofs.Math.Seq.{take-append_seam}
 use Rattle.request_text.specs.declared.error.LineCause.{LineCause}
 use Rattle.request_text.specs.declared.request.Request.{Request}
 use Rattle.request_text.specs.Causes.{IsBadLine}
@@ -23,6 +24,12 @@ followed input taken (Some rest) h = (rest, h)
 -- it is no shorter
 pub no_shorter : (input taken : List ℕ) (left_new : Option (List ℕ)) → Consumes (Some input) left_new taken → length taken ≤ length input
 no_shorter input taken left_new h = let f = followed input taken left_new h in omega (arith, ap (λ (t : List ℕ). length t) f.1, length-append taken f.0)
+
+-- it is the first of it
+pub first_taken : (input taken : List ℕ) (left_new : Option (List ℕ)) (many : ℕ) → Consumes (Some input) left_new taken → length taken ≡ many → taken ≡ take many input
+first_taken input taken left_new many h is =
+    let f = followed input taken left_new h in
+    sym (take-append_seam taken f.0) ∙ ap₂ (λ (n : ℕ) (t : List ℕ). take n t) is (sym f.1)
 
 -- ---- a bad line
 
