@@ -35,13 +35,6 @@ use Rattle.bureau_commands.specs.Laws.{AreAllAccepted, HistoryLaw, IsTriedMember
 
 -- ---- the text of what batches added
 
--- members that were added one after another
-added_both : (before xs ys : List PoolEntry) → added_text before (xs ++ ys) ≡ added_text before xs ++ added_text (before ++ xs) ys
-added_both before [] ys = ap (λ (h : List PoolEntry). added_text h ys) (sym (append-nil before))
-added_both before (m ∷ xs) ys =
-    ap (λ (t : List ℕ). member_text before m ++ t) (added_both (before ++ m ∷ []) xs ys ∙ ap (λ (h : List PoolEntry). added_text (before ++ m ∷ []) xs ++ added_text h ys) (append_assoc before (m ∷ []) xs))
-    ∙ sym (append_assoc (member_text before m) (added_text (before ++ m ∷ []) xs) (added_text (before ++ (m ∷ xs)) ys))
-
 abbrev Replied : Done → Type 0
 Replied b = ends_text b.answers ≡ []
 

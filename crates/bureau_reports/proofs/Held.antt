@@ -32,7 +32,7 @@ is_made report r is made_one = subst IsMade (sym is) made_one
 -- a history
 history_due : (pool : Option (List ℕ)) (history : List PoolEntry) (due : ExitStatus) (text : List ℕ) → IsHistoryDue pool history due text → IsBookDue (journals.History pool) history due text
 history_due pool history due text all_told = made (history_text pool history) refl
-history_due pool history due text (cut_short printed rest is) = broken_off printed (rest, is)
+history_due pool history due text (cut_short printed ends) = broken_off printed ends
 
 pub wrote_history : (report : JournalReport) (pool : Option (List ℕ)) (history : List PoolEntry) (x y : Option (List ℕ)) (status : ExitStatus) → report ≡ journals.History pool → Wrote (IsHistoryDue pool history) x y status → Wrote (IsBookDue report history) x y status
 wrote_history report pool history x y status is w =

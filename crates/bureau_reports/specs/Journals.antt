@@ -11,7 +11,7 @@ use Rattle.printed_text.specs.declared.exit_status.ExitStatus.{ExitStatus}
 use Rattle.printed_text.specs.declared.exit_status.ExitStatus.TheVariants as statuses
 use Rattle.printed_text.specs.Texts.{memory_text}
 use Rattle.weighed_round.specs.Weighed.{IsWeighedText}
-use Rattle.history_text.specs.Histories.{IsRoundText, history_text, round_status}
+use Rattle.history_text.specs.Histories.{EndsAtPublication, IsRoundText, history_text, round_status, told_members}
 use Rattle.command_words.specs.declared.journal_report.JournalReport.{JournalReport}
 use Rattle.command_words.specs.declared.journal_report.JournalReport.TheVariants as journals
 use Rattle.command_words.specs.Words.{pool_of}
@@ -45,9 +45,9 @@ IsMade (journals.History pool) = ⊥
 IsMade (journals.Statement round pool) = ⊥
 IsMade _ = Unit {0}
 
--- some first bytes of the text of a report that is printed as it is made, which that of a history is alone
+-- what is printed before memory is missing of a report that is printed as it is made, which that of a history is alone
 abbrev pub IsBegun : JournalReport → List PoolEntry → List ℕ → Type 0
-IsBegun (journals.History pool) history printed = (rest : List ℕ) × (history_text pool history ≡ printed ++ rest)
+IsBegun (journals.History pool) history printed = EndsAtPublication (told_members pool history) printed
 IsBegun _ history printed = ⊥
 
 -- this, or there was no memory for it, or for the rest of it

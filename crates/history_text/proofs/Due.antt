@@ -9,7 +9,8 @@ use Rattle.printed_text.specs.declared.exit_status.ExitStatus.{ExitStatus}
 use Rattle.printed_text.specs.declared.exit_status.ExitStatus.TheVariants as statuses
 use Rattle.printed_text.specs.Texts.{memory_text}
 use Rattle.printed_text.specs.Writing.{IsWritten, Wrote, broken, whole}
-use Rattle.history_text.specs.Histories.{IsHistoryDue, IsRoundDue, IsRoundText, all_told, cut_short, history_text, no_round_memory, round_status, round_told}
+use Rattle.history_text.specs.declared.told.Told.TheVariants as told
+use Rattle.history_text.specs.Histories.{HasPrinted, IsHistoryDue, IsRoundDue, IsRoundText, all_told, cut_short, history_text, no_round_memory, round_status, round_told, told_members}
 
 module _ (pool : Option (List ℕ)) (history : List PoolEntry) (x y : Option (List ℕ)) where
   pub history_whole : Appends x y (history_text pool history) → Wrote (IsHistoryDue pool history) x y statuses.Done
@@ -23,12 +24,12 @@ written_behind : (x y z : Option (List ℕ)) (first text : List ℕ) (due status
 written_behind x y z first text due status before (whole taken) = whole (Appends-then x y z first text before taken)
 written_behind x y z first text due status before (broken part) = broken (AppendsPart-after x y z first text before part)
 
-pub history_short : (pool : Option (List ℕ)) (history : List PoolEntry) (x y z : Option (List ℕ)) (status : ExitStatus) → AppendsPart x y (history_text pool history) → IsWritten y z statuses.Memory memory_text status → Wrote (IsHistoryDue pool history) x z status
+pub history_short : (pool : Option (List ℕ)) (history : List PoolEntry) (x y z : Option (List ℕ)) (status : ExitStatus) → HasPrinted told.Short x y (told_members pool history) → IsWritten y z statuses.Memory memory_text status → Wrote (IsHistoryDue pool history) x z status
 history_short pool history x y z status part written = record {
   due = statuses.Memory;
   text = part.0 ++ memory_text;
-  is_due = cut_short part.0 part.1 part.2;
-  is_written = written_behind x y z part.0 memory_text statuses.Memory status part.3 written;
+  is_due = cut_short part.0 part.1;
+  is_written = written_behind x y z part.0 memory_text statuses.Memory status part.2 written;
 }
 
 -- what is told of a round, with its status

@@ -1,9 +1,9 @@
 -- The text of members that are printed one by one.
 use Rattle.std.specs.Prelude.{slice_get, get_or, is_some, Option, Some, None}
-use Rattle.std.proofs.Common.{◌≡◌, ◌∙◌, ℕ, ◌+◌, ◌<◌, List, [], ◌∷◌, ◌++◌, length, take, drop, true, refl, sym, ap, subst, append_assoc, true≢false}
+use Rattle.std.proofs.Common.{◌≡◌, ◌∙◌, ℕ, ◌+◌, ◌<◌, List, [], ◌∷◌, ◌++◌, length, take, drop, true, refl, sym, ap, subst, true≢false, arith}
 use Rattle.std.specs.Io.KnownBytes.{Appends}
-use Rattle.std.proofs.lemmas.List.{append-nil}
-use Rattle.std.proofs.lemmas.Option.{slice_get-get_or}
+use Rattle.std.proofs.lemmas.List.{append-nil, append_cancel_right}
+use Rattle.std.proofs.lemmas.Option.{slice_get-get_or, slice_get_within}
 use Rattle.setoff_model.specs.CutView.{CutView}
 use Rattle.bureau_edge.specs.Streams.{AppendsPart}
 use Rattle.claim_history.specs.declared.call.PoolEntry.{PoolEntry}
@@ -15,10 +15,10 @@ use Rattle.claim_history.specs.PoolRounds.{open_cut_in}
 use Rattle.entry_text.specs.Entries.{entry_line}
 use Rattle.printed_text.specs.Printing.{IsPrintableAt, added_text, member_text, statement_of}
 use Rattle.printed_text.specs.Writing.{GoesThrough}
-use Rattle.printed_text.proofs.Members.{added_from, from_it}
+use Rattle.printed_text.proofs.Members.{added_from, added_parts, from_it}
 use Rattle.printed_text.proofs.Printing.{same_statement}
 use Rattle.printed_text.proofs.Passing.{GoesThroughUpTo, part_left, part_more, part_of_text, pass_then, pass_whole, up_breaks, up_more}
-use Rattle.history_text.specs.Histories.{HasPrinted, HasTold, told_text}
+use Rattle.history_text.specs.Histories.{EndsAtPublication, HasPrinted, HasTold, HasToldOne, told_text}
 use Rattle.history_text.specs.declared.told.Told.{Told}
 use Rattle.history_text.specs.declared.told.Told.TheVariants as told
 
@@ -58,13 +58,8 @@ pub open_shown : (before : List PoolEntry) (m : PoolEntry) (rounds : List CutVie
     → entry_line m ++ statement_of (slice_get rounds 0) m.entry.act m.entry.reply ≡ member_text before m
 open_shown before m rounds is_open one = line_shown before m rounds (λ total published. one_open (open_cut_in before m.pool) rounds is_open one)
 
--- what was told whole was told up to its end
-pub as_short : (done : Told) (x y : Option (List ℕ)) (a b text : List ℕ) → HasTold done x y a b text → HasTold told.Short x y a b text
-as_short told.Whole x y a b text passes = (text, [], sym (append-nil text), passes)
-as_short told.Short x y a b text short = short
-
-module _ (history : List PoolEntry) (i : ℕ) (within : i < length history) (x y z : Option (List ℕ)) (a b c all : List ℕ)
-    (up : GoesThroughUpTo x y a b (added_text (take i history) (drop i history)) all) where
+module _ (history : List PoolEntry) (i : ℕ) (within : i < length history) (x y z : Option (List ℕ)) (a b c : List ℕ)
+    (up : GoesThroughUpTo x y a b (added_text (take i history) (drop i history)) (added_text [] history)) where
   abbrev rest : List ℕ
   rest = added_text (take (i + 1) history) (drop (i + 1) history)
 
@@ -77,21 +72,25 @@ module _ (history : List PoolEntry) (i : ℕ) (within : i < length history) (x y
       let is : slice_get history i ≡ Some m = slice_get-get_or history i any within in
       added_from history i m is ∙ ap (λ (t : List ℕ). t ++ rest) (sym (told_is history i m is))
 
-  up_to : GoesThroughUpTo x y a b (told_text history i ++ rest) all
-  up_to = subst (λ (t : List ℕ). GoesThroughUpTo x y a b t all) parts up
+  up_to : GoesThroughUpTo x y a b (told_text history i ++ rest) (added_text [] history)
+  up_to = subst (λ (t : List ℕ). GoesThroughUpTo x y a b t (added_text [] history)) parts up
 
-  pub told_more : GoesThrough y z b c (told_text history i) → GoesThroughUpTo x z a c rest all
-  told_more passes = up_more x y z a b c (told_text history i) rest all up_to passes
+  pub told_more : GoesThrough y z b c (told_text history i) → GoesThroughUpTo x z a c rest (added_text [] history)
+  told_more passes = up_more x y z a b c (told_text history i) rest (added_text [] history) up_to passes
 
-  pub told_short : HasTold told.Short y z b c (told_text history i) → HasTold told.Short x z a c all
-  told_short short =
-      let whole : all ≡ (up_to.so_far ++ short.0) ++ (short.1 ++ rest) =
-      sym up_to.whole ∙ ap (λ (t : List ℕ). up_to.so_far ++ (t ++ rest)) short.2 ∙ ap (λ (t : List ℕ). up_to.so_far ++ t) (append_assoc short.0 short.1 rest)
-      ∙ sym (append_assoc up_to.so_far short.0 (short.1 ++ rest)) in
-      (up_to.so_far ++ short.0, short.1 ++ rest, whole, pass_then x y z a b c up_to.so_far short.0 up_to.passes short.3)
+  -- up to here the text is that of the members before
+  so_far_is : up.so_far ≡ added_text [] (take i history)
+  so_far_is = append_cancel_right up.so_far (added_text [] (take i history)) (added_text (take i history) (drop i history)) (up.whole ∙ added_parts history i)
 
-  pub told_breaks : AppendsPart y z (b ++ told_text history i) → AppendsPart x z (a ++ all)
-  told_breaks part = up_breaks x y z a b (told_text history i) rest all up_to part
+  pub told_short : HasToldOne told.Short y z b c history i → HasTold told.Short x z a c history
+  told_short (none, publishes) = (
+    up.so_far,
+    record { place = i; publishes = publishes; text_is = so_far_is },
+    subst (GoesThrough x z a c) (append-nil up.so_far) (pass_then x y z a b c up.so_far [] up.passes none),
+  )
+
+  pub told_breaks : AppendsPart y z (b ++ told_text history i) → AppendsPart x z (a ++ added_text [] history)
+  told_breaks part = up_breaks x y z a b (told_text history i) rest (added_text [] history) up_to part
 
 -- ---- the end
 
@@ -100,13 +99,19 @@ taken_whole x y z a b c text none passes out left =
     pass_whole x z c text (subst (λ (w : List ℕ). GoesThrough x z w c text) none (subst (GoesThrough x z a c) (append-nil text) (pass_then x y z a b c text [] passes out))) left
 
 -- what was told, and what was left in the buffer
-pub told_flushed : (done : Told) (x y z : Option (List ℕ)) (a b c text : List ℕ) → a ≡ [] → HasTold done x y a b text → GoesThrough y z b c [] → c ≡ [] → HasPrinted done x z text
-told_flushed told.Whole x y z a b c text none passes out left = taken_whole x y z a b c text none passes out left
-told_flushed told.Short x y z a b c text none short out left = (short.0, short.1, short.2, taken_whole x y z a b c short.0 none short.3 out left)
+pub told_flushed : (done : Told) (x y z : Option (List ℕ)) (a b c : List ℕ) (members : List PoolEntry) → a ≡ [] → HasTold done x y a b members → GoesThrough y z b c [] → c ≡ [] → HasPrinted done x z members
+told_flushed told.Whole x y z a b c members none passes out left = taken_whole x y z a b c (added_text [] members) none passes out left
+told_flushed told.Short x y z a b c members none short out left = (short.0, short.1, taken_whole x y z a b c short.0 none short.2 out left)
 
 -- the sink failed at what was left
-pub told_unflushed : (done : Told) (x y z : Option (List ℕ)) (a b text : List ℕ) → a ≡ [] → HasTold done x y a b text → AppendsPart y z b → AppendsPart x z text
-told_unflushed told.Whole x y z a b text none passes part = part_of_text x z a text none (part_left x y z a b text passes part)
-told_unflushed told.Short x y z a b text none short part =
-    let front = part_of_text x z a short.0 none (part_left x y z a b short.0 short.3 part) in
-    subst (AppendsPart x z) (sym short.2) (part_more x z short.0 short.1 front)
+pub told_unflushed : (done : Told) (x y z : Option (List ℕ)) (a b : List ℕ) (members : List PoolEntry) → a ≡ [] → HasTold done x y a b members → AppendsPart y z b → AppendsPart x z (added_text [] members)
+told_unflushed told.Whole x y z a b members none passes part = part_of_text x z a (added_text [] members) none (part_left x y z a b (added_text [] members) passes part)
+told_unflushed told.Short x y z a b members none short part =
+    let i = short.1.place in
+    let rest = added_text (take i members) (drop i members) in
+    let whole : added_text [] members ≡ short.0 ++ rest = added_parts members i ∙ ap (λ (t : List ℕ). t ++ rest) (sym short.1.text_is) in
+    subst (AppendsPart x z) (sym whole) (part_more x z short.0 rest (part_of_text x z a short.0 none (part_left x y z a b short.0 short.2 part)))
+
+-- a publication is a member
+pub ends_within : (members : List PoolEntry) (text : List ℕ) → EndsAtPublication members text → 0 < length members
+ends_within members text ends = omega (arith, slice_get_within members ends.place ends.publishes.member ends.publishes.stands)

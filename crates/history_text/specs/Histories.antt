@@ -9,7 +9,6 @@ use Rattle.claim_history.specs.declared.entry.Reply.{Reply}
 use Rattle.claim_history.specs.declared.entry.Reply.TheVariants as reply
 use Rattle.claim_history.specs.Pools.{entries_in, main_pool, member_of}
 use Rattle.claim_history.specs.Rounds.{open_cut_of}
-use Rattle.bureau_edge.specs.Streams.{AppendsPart}
 use Rattle.printed_text.specs.declared.exit_status.ExitStatus.{ExitStatus}
 use Rattle.printed_text.specs.declared.exit_status.ExitStatus.TheVariants as statuses
 use Rattle.printed_text.specs.Printing.{added_text, statement_of}
@@ -29,10 +28,23 @@ told_members (Some pool) history = map (member_of main_pool) (entries_in pool hi
 abbrev pub history_text : Option (List ℕ) → List PoolEntry → List ℕ
 history_text pool history = added_text [] (told_members pool history)
 
--- it was printed; or the memory for the next member was missing, and this was told behind what of it was printed
+-- the member at this place publishes a round
+pub record PublishesAt (members : List PoolEntry) (place : ℕ) : Type 0 where
+  pub member : PoolEntry
+  pub total : ℕ
+  pub stands : slice_get members place ≡ Some member
+  pub reply_is : member.entry.reply ≡ reply.Published total
+
+-- the text is that of the members before one that publishes a round
+pub record EndsAtPublication (members : List PoolEntry) (text : List ℕ) : Type 0 where
+  pub place : ℕ
+  pub publishes : PublishesAt members place
+  pub text_is : text ≡ added_text [] (take place members)
+
+-- it was printed; or the memory to replay what is before a publication was missing, and this was told behind the text up to there
 pub data IsHistoryDue (pool : Option (List ℕ)) (history : List PoolEntry) : ExitStatus → List ℕ → Type 0 where
   all_told : IsHistoryDue pool history statuses.Done (history_text pool history)
-  cut_short : (printed rest : List ℕ) → history_text pool history ≡ printed ++ rest
+  cut_short : (printed : List ℕ) → EndsAtPublication (told_members pool history) printed
       → IsHistoryDue pool history statuses.Memory (printed ++ memory_text)
 
 -- ---- the statement of a round
@@ -86,19 +98,25 @@ pub data IsRoundDue (round : ℕ) (pool : List ℕ) (history : List PoolEntry) :
 
 -- ---- text that is printed member by member
 
--- the text went through the buffer, or some first bytes of it where memory was missing
-abbrev pub HasTold : Told → Option (List ℕ) → Option (List ℕ) → List ℕ → List ℕ → List ℕ → Type 0
-HasTold told.Whole held_old held_new old new text = GoesThrough held_old held_new old new text
-HasTold told.Short held_old held_new old new text = (front rest : List ℕ) × (text ≡ front ++ rest) × GoesThrough held_old held_new old new front
+-- the text of these members went through the buffer; or where memory was missing, that of those before a publication
+abbrev pub HasTold : Told → Option (List ℕ) → Option (List ℕ) → List ℕ → List ℕ → List PoolEntry → Type 0
+HasTold told.Whole held_old held_new old new members = GoesThrough held_old held_new old new (added_text [] members)
+HasTold told.Short held_old held_new old new members =
+    (printed : List ℕ) × EndsAtPublication members printed × GoesThrough held_old held_new old new printed
 
--- the sink took the text, or some first bytes of it where memory was missing
-abbrev pub HasPrinted : Told → Option (List ℕ) → Option (List ℕ) → List ℕ → Type 0
-HasPrinted told.Whole held_old held_new text = Appends held_old held_new text
-HasPrinted told.Short held_old held_new text = AppendsPart held_old held_new text
+-- the sink took that text
+abbrev pub HasPrinted : Told → Option (List ℕ) → Option (List ℕ) → List PoolEntry → Type 0
+HasPrinted told.Whole held_old held_new members = Appends held_old held_new (added_text [] members)
+HasPrinted told.Short held_old held_new members = (printed : List ℕ) × EndsAtPublication members printed × Appends held_old held_new printed
 
 -- the text of the member at a place
 abbrev pub told_text : List PoolEntry → ℕ → List ℕ
 told_text history place = added_text (take place history) (take 1 (drop place history))
+
+-- it went through the buffer; or nothing did, and the member publishes a round
+abbrev pub HasToldOne : Told → Option (List ℕ) → Option (List ℕ) → List ℕ → List ℕ → List PoolEntry → ℕ → Type 0
+HasToldOne told.Whole held_old held_new old new members place = GoesThrough held_old held_new old new (told_text members place)
+HasToldOne told.Short held_old held_new old new members place = GoesThrough held_old held_new old new [] × PublishesAt members place
 
 -- they are the first members of a history, at most so many
 pub record AreFirst (most : ℕ) (history members : List PoolEntry) : Type 0 where

@@ -14,7 +14,7 @@ ghost use Rattle.printed_text.specs.Printing.{IsPrintableAt, member_text, statem
 ghost use Rattle.printed_text.specs.Statuses.{TellsSinkFault};
 ghost use Rattle.printed_text.specs.Writing.{GoesThrough, Wrote};
 ghost use Rattle.history_text.specs.declared.told.Told.TheVariants as told;
-ghost use Rattle.history_text.specs.Histories.{AreFirst, HasPrinted, HasTold, IsHistoryDue, history_text, told_members, told_text};
+ghost use Rattle.history_text.specs.Histories.{AreFirst, HasPrinted, HasTold, HasToldOne, IsHistoryDue, history_text, told_members, told_text};
 
 use crate::replaying::{open_cut, replay_to};
 use crate::told::{Told, told_at, told_len};
@@ -95,6 +95,7 @@ fn replay_for(
     ensures first { OnOk result (AreFirst place (told_members pool.now books.now.members) replayed.new.members) }
     ensures all { OnOk result ((total : ℕ) → entry.now.reply ≡ reply.Published total
         → replayed.new.members ≡ take place (told_members pool.now books.now.members)) }
+    ensures publishes { OnErr result ((total : ℕ) × (entry.now.reply ≡ reply.Published total)) }
 {
     let Reply::Published { .. } = entry.reply else {
         return Ok(());
@@ -118,8 +119,8 @@ fn print_next<K: Sink>(
     requires spare { OUTPUT_BYTES ≤ vec_capacity buffer.old }
 
     // The text went through, or the sink failed and took some first bytes of it.
-    ensures ok { IfOk result (λ done. HasTold done (K.held sink.old) (K.held sink.new) buffer.old.items buffer.new.items
-        (told_text (told_members pool.now books.now.members) place)) }
+    ensures ok { IfOk result (λ done. HasToldOne done (K.held sink.old) (K.held sink.new) buffer.old.items buffer.new.items
+        (told_members pool.now books.now.members) place) }
     ensures first { IfOk result (λ done. done ≡ told.Whole
         → AreFirst place (told_members pool.now books.now.members) replayed.new.members) }
     ensures part { OnErr result (AppendsPart (K.held sink.old) (K.held sink.new)
@@ -148,10 +149,9 @@ fn print_told<K: Sink>(
     requires empty { replayed.old.members ≡ [] }
     requires spare { OUTPUT_BYTES ≤ vec_capacity buffer.old }
 
-    // The text went through, or some first part of it; or the sink failed and took some first bytes of it.
+    // The text went through, or that of the members before a publication; or the sink failed and took some first bytes of it.
     ensures ok { IfOk result (λ done. HasTold done (K.held sink.old) (K.held sink.new) buffer.old.items buffer.new.items
-        (history_text pool.now books.now.members)) }
-    ensures short { IfOk result (λ done. done ≡ told.Short → 0 < length (told_members pool.now books.now.members)) }
+        (told_members pool.now books.now.members)) }
     ensures part { OnErr result (AppendsPart (K.held sink.old) (K.held sink.new)
         (buffer.old.items ++ history_text pool.now books.now.members)) }
     ensures cause { CountsFaults (K.faults sink.old) (K.faults sink.new) result }
@@ -160,9 +160,10 @@ fn print_told<K: Sink>(
     let len = told_len(books, pool);
     for place in 0..len {
         let done = print_next(alloc, sink, buffer, books, pool, replayed, place)?;
-        let Told::Whole = done else {
-            return Ok(Told::Short);
-        };
+        match done {
+            Told::Whole => {}
+            Told::Short => return Ok(Told::Short),
+        }
     }
     Ok(Told::Whole)
 }
@@ -177,10 +178,9 @@ fn print_replayed<K: Sink>(
 ) -> Result<Told, Failed>
     requires spare { OUTPUT_BYTES ≤ vec_capacity buffer.old }
 
-    // The text went through, or some first part of it; or the sink failed and took some first bytes of it.
+    // The text went through, or that of the members before a publication; or the sink failed and took some first bytes of it.
     ensures ok { IfOk result (λ done. HasTold done (K.held sink.old) (K.held sink.new) buffer.old.items buffer.new.items
-        (history_text pool.now books.now.members)) }
-    ensures short { IfOk result (λ done. done ≡ told.Short → 0 < length (told_members pool.now books.now.members)) }
+        (told_members pool.now books.now.members)) }
     ensures part { OnErr result (AppendsPart (K.held sink.old) (K.held sink.new)
         (buffer.old.items ++ history_text pool.now books.now.members)) }
     ensures cause { CountsFaults (K.faults sink.old) (K.faults sink.new) result }
@@ -203,9 +203,8 @@ fn print_whole<K: Sink>(
     requires empty { buffer.old.items ≡ [] }
     requires spare { OUTPUT_BYTES ≤ vec_capacity buffer.old }
 
-    // The sink took the text, or some first bytes of it.
-    ensures ok { IfOk result (λ done. HasPrinted done (K.held sink.old) (K.held sink.new) (history_text pool.now books.now.members)) }
-    ensures short { IfOk result (λ done. done ≡ told.Short → 0 < length (told_members pool.now books.now.members)) }
+    // The sink took the text, or that of the members before a publication; or some first bytes of it.
+    ensures ok { IfOk result (λ done. HasPrinted done (K.held sink.old) (K.held sink.new) (told_members pool.now books.now.members)) }
     ensures part { OnErr result (AppendsPart (K.held sink.old) (K.held sink.new) (history_text pool.now books.now.members)) }
     ensures cause { CountsFaults (K.faults sink.old) (K.faults sink.new) result }
 {
@@ -215,7 +214,8 @@ fn print_whole<K: Sink>(
 }
 
 /// Prints the entries of books of all pools, or of one, each publication followed by the statement of its round. Gives the status:
-/// `Done`; `Memory`, told behind what was printed, where there was no memory to replay the next entry; `Sink` where the sink failed.
+/// `Done`; `Memory`, told behind the text of the entries before a publication, where there was no memory to replay these; `Sink` where
+/// the sink failed.
 ///
 /// The buffer is empty, and has room for `OUTPUT_BYTES`.
 pub fn print_history<K: Sink>(

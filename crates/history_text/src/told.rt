@@ -12,7 +12,7 @@ use setoff_model::Name;
 pub enum Told {
     /// All of it.
     Whole,
-    /// Some first bytes, since memory was missing for the rest.
+    /// What is before a publication, since memory was missing for it.
     Short,
 }
 

@@ -31,6 +31,19 @@ use Rattle.entry_text.specs.Entries.{entry_line}
 use Rattle.printed_text.specs.Printing.{IsPrintableAt, added_text, member_text, rounds_in, statement_of}
 use Rattle.printed_text.proofs.Printing.{same_statement}
 
+-- ---- the text of members
+
+-- members that were added one after another
+pub added_both : (before xs ys : List PoolEntry) → added_text before (xs ++ ys) ≡ added_text before xs ++ added_text (before ++ xs) ys
+added_both before [] ys = ap (λ (h : List PoolEntry). added_text h ys) (sym (append-nil before))
+added_both before (m ∷ xs) ys =
+    ap (λ (t : List ℕ). member_text before m ++ t) (added_both (before ++ m ∷ []) xs ys ∙ ap (λ (h : List PoolEntry). added_text (before ++ m ∷ []) xs ++ added_text h ys) (append_assoc before (m ∷ []) xs))
+    ∙ sym (append_assoc (member_text before m) (added_text (before ++ m ∷ []) xs) (added_text (before ++ (m ∷ xs)) ys))
+
+-- that of a history is that of its first members, and that of the others behind them
+pub added_parts : (history : List PoolEntry) (i : ℕ) → added_text [] history ≡ added_text [] (take i history) ++ added_text (take i history) (drop i history)
+added_parts history i = ap (added_text []) (sym (take-append-drop i history)) ∙ added_both [] (take i history) (drop i history)
+
 -- ---- a history at a place
 
 module _ (history : List PoolEntry) (i : ℕ) (m : PoolEntry) (is : slice_get history i ≡ Some m) where

@@ -10,6 +10,7 @@ use Rattle.printed_text.specs.Printing.{IsPrintableAt}
 use Rattle.printed_text.specs.Writing.{GoesThrough}
 use Rattle.printed_text.proofs.Members.{act_valid, reply_in_range}
 use Rattle.history_text.specs.Histories.{told_members}
+use Rattle.printed_text.proofs.Passing.{pass_none}
 use Rattle.history_text.proofs.Printed.{shown_is}
 use Rattle.history_text.proofs.Stated.{stated}
 use Rattle.history_text.proofs.history.print_next.Goals as goal
@@ -43,6 +44,18 @@ returns-in_err-print_shown-clause-part g c =
     let y = g.K.Sink.held c.args.sink.now in
     let z = g.K.Sink.held c.print_shown.new.sink in
     on_err _ _ (subst (λ (t : List ℕ). AppendsPart y z (c.args.buffer.now.items ++ t)) is c.in_err-print_shown.ensures.part)
+
+-- nothing was printed
+pub returns-in_default-clause-ok : goal.returns-in_default-clause-ok
+returns-in_default-clause-ok g c = (
+  pass_none (g.K.Sink.held c.args.sink.now) c.args.buffer.now.items,
+  record {
+    member = member_of c.told_at-shown.result.0 c.told_at-shown.result.1.now;
+    total = c.in_default.ensures.publishes.0;
+    stands = c.told_at-shown.ensures;
+    reply_is = c.in_default.ensures.publishes.1;
+  },
+)
 
 pub returns-clause-ok : goal.returns-clause-ok
 returns-clause-ok g c =
