@@ -6,10 +6,10 @@ use Rattle.fault_count.proofs.Rising.{risen_within}
 use Rattle.disk_model.specs.Calls.{Seen, IsPresent, Passes, Only, Torn, After}
 use Rattle.disk_model.specs.Calls.{Holds as Written}
 use Rattle.disk_model.proofs.Moments.{passes_wide}
-use Rattle.round_journal.specs.Bytes.{Header, header_bytes, front, gate_behind, EndsClosed, StandsFor, StandsForNone, HoldsBodies}
+use Rattle.round_journal.specs.Bytes.{Header, new_journal, front, gate_behind, EndsClosed, StandsFor, StandsForNone, HoldsBodies}
 use Rattle.round_journal.specs.Bytes.Header.{second}
 use Rattle.round_journal.specs.Kept.{IsKeptAt}
-use Rattle.round_journal.specs.Opened.{AreFound, HoldsAs, IsHeaderOf, Turns, HasTurned, IsSynced}
+use Rattle.round_journal.specs.Opened.{AreFound, HoldsAs, IsHeaderOf, IsKeptOrMade, IsSpared, Turns, HasTurned, IsSynced}
 use Rattle.round_journal.specs.Reading.{IsReading}
 use Rattle.round_journal.specs.Reading.Reading.{bodies_are, no_header, short_at, bad_at}
 use Rattle.round_journal.specs.Records.{HasRecords, IsBody, bodies_of}
@@ -20,9 +20,6 @@ use Rattle.round_journal.specs.declared.stop.Stop.{Stop}
 use Rattle.round_journal.specs.declared.stop.Stop.TheVariants.{Memory, Failed, BadHeader, BadRecord}
 use Rattle.round_journal.proofs.Unique.{header_of}
 use Rattle.round_journal.proofs.Short.{holds_short, held_short, place_of}
-
-abbrev empty_journal : List ℕ
-empty_journal = header_bytes second ++ 0 ∷ []
 
 -- a sync that succeeded, and what comes after it
 pub turns : (a b d : Seen) (Q : List ℕ → Type 0) → Passes a b (IsPresent a) → Only a.reads (IsPresent b) → Q a.reads → Passes b d Q → Turns a b.moment d (IsPresent a) Q
@@ -72,10 +69,10 @@ made_as a b bytes short goes =
     passes_wide a b (λ c. HoldsBodies c []) (HoldsAs bytes) goes
     (λ c none. λ bodies holds. subst (λ (bs : List (List ℕ)). HoldsBodies c bs) (sym (held_short bytes bodies short holds)) none)
 
-created_is : (old new : List ℕ) → length old ≤ 9 → Written old 0 empty_journal new → new ≡ empty_journal
-created_is old new short holds = holds ∙ ap (λ (l : List ℕ). empty_journal ++ l) (drop_all 9 old (omega (arith, short)))
+pub created_is : (old new : List ℕ) → length old ≤ 9 → Written old 0 new_journal new → new ≡ new_journal
+created_is old new short holds = holds ∙ ap (λ (l : List ℕ). new_journal ++ l) (drop_all 9 old (omega (arith, short)))
 
-pub created : (a b : Seen) → IsTrue b.tells → length a.reads ≤ 9 → Written a.reads 0 empty_journal b.reads → Only b.reads (IsPresent b) → IsKeptAt b 8 false second [] None
+pub created : (a b : Seen) → IsTrue b.tells → length a.reads ≤ 9 → Written a.reads 0 new_journal b.reads → Only b.reads (IsPresent b) → IsKeptAt b 8 false second [] None
 created a b told short holds only = record {
   tells = told;
   short = λ k d lt. absurd (omega (arith, lt));
@@ -84,6 +81,10 @@ created a b told short holds only = record {
   flag = refl;
   images = λ c now. record { gate = 0; rest = []; closed = omega arith; spelled = only c now ∙ created_is a.reads b.reads short holds };
 }
+
+-- bytes that are kept, or made a new journal, are spared
+pub made_spared : (old new : List ℕ) → IsKeptOrMade old new → IsSpared old new
+made_spared old new is = ⊎_elim (λ same. inl same) (λ made. inr (made.0, made.1)) is
 
 -- a disk that is synced and stands for bodies is kept as it is
 pub found_kept : (disk : Seen) (bytes : List ℕ) (bodies : List (List ℕ)) (gate : ℕ) → IsSynced disk bytes → StandsFor bytes bodies → gate ≡ gate_behind bodies → (h : Header) × IsHeaderOf bytes h × IsKeptAt disk gate false h bodies None

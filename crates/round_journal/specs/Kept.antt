@@ -1,6 +1,6 @@
 -- What an open journal keeps of its disk.
 use Rattle.std.specs.Prelude.{◌≡◌, ◌⊎◌, ◌<◌, ◌^◌, ℕ, Bool, true, false, List, [], ◌∷◌, ◌++◌, length, Option, Some, None, is_some, IfSome, IsTrue}
-use Rattle.disk_model.specs.Calls.{Seen, IsPresent, Passes}
+use Rattle.disk_model.specs.Calls.{Seen, IsPresent, Holds, Passes}
 use Rattle.round_journal.specs.Bytes.{Header, measured, front, gate_behind, AreShort, StandsFor, EndsClosed}
 
 -- What contracts see of a journal: its disk, the place of the gate for the next record, whether an append that failed may
@@ -66,12 +66,18 @@ pub record HasFailedOpening {D : Type 0} (seen : D → Seen) (old new : D) (gate
   pub crash : Passes (seen begun) (seen new) (HasStaged (front h bodies) (staged body))
   pub kept : IsKeptAt (seen new) gate unsettled h bodies (Some body)
 
+-- a gate that was unsettled is closed, and no other byte is changed
+abbrev pub IsSettled : Bool → ℕ → List ℕ → List ℕ → Type 0
+IsSettled false gate old new = new ≡ old
+IsSettled true gate old new = Holds old gate (0 ∷ []) new
+
 -- How an append failed: while it closed a gate that an earlier one had left unsettled, which is so still; or once it had none to
 -- settle, in one of those two ways.
 abbrev pub HasFailedIn : {D : Type 0} → (D → Seen) → D → D → ℕ → Bool → Header → List (List ℕ) → Option (List ℕ) → List ℕ → Type 0
 HasFailedIn {D} seen old new gate unsettled h bodies last body =
     ((is_some last ≡ true) × IsKeptAt (seen new) gate unsettled h bodies last × Passes (seen old) (seen new) (HasBodies h bodies last))
     ⊎ ((begun : D) × Passes (seen old) (seen begun) (HasBodies h bodies last) × IsKeptAt (seen begun) gate false h bodies None
+    × IsSettled (is_some last) gate (seen old).reads (seen begun).reads
     × (HasFailedShut (seen begun) (seen new) gate unsettled h bodies ⊎ HasFailedOpening seen begun new gate unsettled h bodies body))
 
 -- what an append that failed may leave as the last one tried: what was, nothing, or its own

@@ -2,7 +2,7 @@
 ghost use Rattle.std.specs.Prelude.{◌≡◌, ◌≤◌, [], length, false, None, IsTrue, OnOk};
 ghost use Rattle.disk_model.specs.Calls.{Only, IsPresent, Passes};
 ghost use Rattle.fault_count.specs.Counts.{IsCounted};
-ghost use Rattle.round_journal.specs.Bytes.{HoldsBodies};
+ghost use Rattle.round_journal.specs.Bytes.{new_journal, HoldsBodies};
 ghost use Rattle.round_journal.specs.Bytes.Header.{second};
 ghost use Rattle.round_journal.specs.Kept.{IsKeptAt};
 
@@ -13,6 +13,8 @@ use disk_model::{Disk, DiskFailed};
 pub(crate) fn create<D: Disk>(disk: &mut D) -> Result<(), DiskFailed>
     ensures done { OnOk result (IsTrue (D.seen disk.old).tells → length (D.seen disk.old).reads ≤ 9
         → IsKeptAt (D.seen disk.new) 8 false second [] None) }
+    ensures bytes { OnOk result (IsTrue (D.seen disk.old).tells → length (D.seen disk.old).reads ≤ 9
+        → (D.seen disk.new).reads ≡ new_journal) }
     ensures crash { length (D.seen disk.old).reads ≤ 9 → Only (D.seen disk.old).reads (IsPresent (D.seen disk.old))
         → Passes (D.seen disk.old) (D.seen disk.new) (λ bytes. HoldsBodies bytes []) }
     ensures tells { (D.seen disk.new).tells ≡ (D.seen disk.old).tells }

@@ -1,11 +1,11 @@
 //! The bytes of a journal on its disk, and the writes of an append.
 ghost use Rattle.std.specs.Prelude.{◌≡◌, ◌+◌, ◌<◌, ◌≤◌, ℕ, true, false, List, [], ◌∷◌, ◌++◌, length, Option, Some, None, IsTrue, OnOk, OnErr, vec_capacity};
-ghost use Rattle.disk_model.specs.Calls.{Passes};
+ghost use Rattle.disk_model.specs.Calls.{Holds, Torn, Passes};
 ghost use Rattle.setoff_model.specs.declared.limits.TheConstants.{MOST_BODY, MOST_JOURNAL_BYTES};
 ghost use Rattle.claim_history.specs.declared.record_bytes.TheConstants.{POOL_BYTES, RECORD_HEAD};
 ghost use Rattle.fault_count.specs.Counts.{IsCounted};
-ghost use Rattle.round_journal.specs.Bytes.{Header, front};
-ghost use Rattle.round_journal.specs.Kept.{staged, HasBodies, HasFailedIn, HasStaged, IsKeptAt, IsStaged, IsLast, HoldsOne};
+ghost use Rattle.round_journal.specs.Bytes.{Header, record_bytes, front};
+ghost use Rattle.round_journal.specs.Kept.{staged, HasBodies, HasFailedIn, HasStaged, IsKeptAt, IsStaged, IsSettled, IsLast, HoldsOne};
 
 use crate::written::write_and_sync;
 use claim_history::record_bytes::RECORD_HEAD;
@@ -41,6 +41,10 @@ impl<D: Disk> Log<D> {
         ensures crash { (h : Header) (bodies : List (List ℕ)) (last : Option (List ℕ))
             → IsKeptAt (D.seen self.old.disk) self.old.gate self.old.unsettled h bodies last
             → Passes (D.seen self.old.disk) (D.seen self.new.disk) (HoldsOne bodies last body.now) }
+        ensures bytes { OnOk result (IsTrue (D.seen self.old.disk).tells
+            → Holds (D.seen self.old.disk).reads self.old.gate (record_bytes body.now ++ 0 ∷ []) (D.seen self.new.disk).reads) }
+        ensures torn { OnErr result (IsTrue (D.seen self.old.disk).tells
+            → Torn self.old.gate (1 + RECORD_HEAD + length body.now) (D.seen self.old.disk).reads (D.seen self.new.disk).reads) }
         ensures gate { OnOk result (self.new.gate ≡ self.old.gate + RECORD_HEAD + length body.now) }
         ensures gate_err { OnErr result (self.new.gate ≡ self.old.gate) }
         ensures tells { (D.seen self.new.disk).tells ≡ (D.seen self.old.disk).tells }
@@ -64,6 +68,10 @@ impl<D: Disk> Log<D> {
         ensures crash { (h : Header) (bodies : List (List ℕ)) (last : Option (List ℕ))
             → IsKeptAt (D.seen self.old.disk) self.old.gate self.old.unsettled h bodies last
             → Passes (D.seen self.old.disk) (D.seen self.new.disk) (HasBodies h bodies last) }
+        ensures bytes { OnOk result (IsTrue (D.seen self.old.disk).tells
+            → IsSettled self.old.unsettled self.old.gate (D.seen self.old.disk).reads (D.seen self.new.disk).reads) }
+        ensures torn { IsTrue (D.seen self.old.disk).tells
+            → Torn self.old.gate 1 (D.seen self.old.disk).reads (D.seen self.new.disk).reads }
         ensures settled { OnOk result (self.new.unsettled ≡ false) }
         ensures due { OnErr result (self.old.unsettled ≡ true) }
         ensures gate { self.new.gate ≡ self.old.gate }
@@ -89,6 +97,10 @@ impl<D: Disk> Log<D> {
             → IsKeptAt (D.seen self.new.disk) self.new.gate false h bodies None) }
         ensures crash { (h : Header) (bodies : List (List ℕ)) → IsKeptAt (D.seen self.old.disk) self.old.gate false h bodies None
             → Passes (D.seen self.old.disk) (D.seen self.new.disk) (HasBodies h bodies None) }
+        ensures bytes { OnOk result (IsTrue (D.seen self.old.disk).tells
+            → Holds (D.seen self.old.disk).reads (self.old.gate + 1) (staged body.now) (D.seen self.new.disk).reads) }
+        ensures torn { IsTrue (D.seen self.old.disk).tells
+            → Torn (self.old.gate + 1) (RECORD_HEAD + length body.now) (D.seen self.old.disk).reads (D.seen self.new.disk).reads }
         ensures long { OnOk result (IsTrue (D.seen self.new.disk).tells
             → self.old.gate + RECORD_HEAD + length body.now < length (D.seen self.new.disk).reads) }
         ensures settled { self.new.unsettled ≡ false }
@@ -114,6 +126,10 @@ impl<D: Disk> Log<D> {
         ensures crash { (h : Header) (bodies : List (List ℕ)) (body : List ℕ) → length body ≡ len
             → IsStaged (D.seen self.old.disk) self.old.gate h bodies body
             → Passes (D.seen self.old.disk) (D.seen self.new.disk) (HasStaged (front h bodies) (staged body)) }
+        ensures bytes { OnOk result (IsTrue (D.seen self.old.disk).tells
+            → Holds (D.seen self.old.disk).reads self.old.gate (1 ∷ []) (D.seen self.new.disk).reads) }
+        ensures torn { IsTrue (D.seen self.old.disk).tells
+            → Torn self.old.gate 1 (D.seen self.old.disk).reads (D.seen self.new.disk).reads }
         ensures gate { OnOk result (self.new.gate ≡ self.old.gate + RECORD_HEAD + len) }
         ensures gate_err { OnErr result (self.new.gate ≡ self.old.gate) }
         ensures tells { (D.seen self.new.disk).tells ≡ (D.seen self.old.disk).tells }

@@ -3,7 +3,7 @@ ghost use Rattle.std.specs.Prelude.{◌≡◌, ◌≤◌, true, false, None, IfE
 ghost use Rattle.disk_model.specs.Calls.{Passes};
 ghost use Rattle.round_journal.specs.Bytes.{Header, gate_behind};
 ghost use Rattle.round_journal.specs.Kept.{IsKeptAt};
-ghost use Rattle.round_journal.specs.Opened.{AreFound, HasOpened, HasTurned, HoldsAs, IsHeaderOf, IsSpared, IsSynced, Leaves};
+ghost use Rattle.round_journal.specs.Opened.{AreFound, HasOpened, HasTurned, HoldsAs, IsHeaderOf, IsKeptOrMade, IsSynced, Leaves};
 ghost use Rattle.round_journal.specs.Records.{bodies_of};
 ghost use Rattle.round_journal.specs.Stops.{cause_of, HasStop, IsHalt};
 
@@ -32,7 +32,7 @@ pub(crate) fn open_disk<D: Disk>(alloc: Global, disk: &mut D) -> Result<Opening<
     ensures turned { IfOk result (λ o. IsTrue (D.seen disk.old).tells
         → HasTurned (D.seen disk.old) (D.seen o.opened.value).moment (D.seen disk.new)) }
     ensures opened { IfErr result (λ _. IsTrue (D.seen disk.old).tells → HasOpened (D.seen disk.old) (D.seen disk.new)) }
-    ensures spared { IfOk result (λ _. IsTrue (D.seen disk.old).tells → IsSpared (D.seen disk.old).reads (D.seen disk.new).reads) }
+    ensures bytes { IfOk result (λ _. IsTrue (D.seen disk.old).tells → IsKeptOrMade (D.seen disk.old).reads (D.seen disk.new).reads) }
     ensures left { IfErr result (λ stop. IsTrue (D.seen disk.old).tells
         → Leaves (D.seen disk.old).reads (D.seen disk.new).reads (cause_of stop 0 0)) }
     ensures tells { (D.seen disk.new).tells ≡ (D.seen disk.old).tells }
@@ -69,7 +69,7 @@ fn found_or_made<D: Disk>(alloc: Global, disk: &mut D, bytes: &[u8]) -> Result<S
     ensures kept { IfOk result (λ s. IsSynced (D.seen disk.old) bytes.now → (h : Header) × IsHeaderOf bytes.now h
         × IsKeptAt (D.seen disk.new) s.gate false h (bodies_of s.records.items) None) }
     ensures crash { IsSynced (D.seen disk.old) bytes.now → Passes (D.seen disk.old) (D.seen disk.new) (HoldsAs bytes.now) }
-    ensures spared { IfOk result (λ _. IsSynced (D.seen disk.old) bytes.now → IsSpared bytes.now (D.seen disk.new).reads) }
+    ensures bytes { IfOk result (λ _. IsSynced (D.seen disk.old) bytes.now → IsKeptOrMade bytes.now (D.seen disk.new).reads) }
     ensures left { IfErr result (λ stop. IsSynced (D.seen disk.old) bytes.now
         → Leaves bytes.now (D.seen disk.new).reads (cause_of stop 0 0)) }
     ensures tells { (D.seen disk.new).tells ≡ (D.seen disk.old).tells }

@@ -1,4 +1,4 @@
-use Rattle.std.proofs.Common.{◌≤◌, ℕ, List, length, None, false, inr, refl, sym, subst}
+use Rattle.std.proofs.Common.{◌≤◌, ℕ, List, length, None, false, inl, inr, refl, sym, subst}
 use Rattle.round_journal.specs.Bytes.Header.{second}
 use Rattle.round_journal.specs.Kept.{IsKeptAt}
 use Rattle.round_journal.specs.Records.{bodies_of}
@@ -37,3 +37,11 @@ pub returns-in-Some-clause-kept : goal.returns-in-Some-clause-kept
 returns-in-Some-clause-kept g c synced =
     let has = rw c.in-Some.is at c.in_ok-scan.ensures in
     found_kept _ _ _ _ synced has.stands has.place
+
+pub returns-clause-bytes : goal.returns-clause-bytes
+returns-clause-bytes g c synced =
+    let none = rw c.in_default.is at c.in_ok-scan.ensures in
+    inr (none.0, none.1, c.in_ok-create.ensures.bytes synced.tells (subst (λ (f : List ℕ). length f ≤ 9) synced.read none.0))
+
+pub returns-in-Some-clause-bytes : goal.returns-in-Some-clause-bytes
+returns-in-Some-clause-bytes g c synced = inl (sym synced.read)
