@@ -26,6 +26,7 @@ use Rattle.recorded_book.specs.Acting.{IsOpenedHistory}
 use Rattle.recorded_book.specs.Calls.{CanBeKept, LeftBy, StandsForLeft, bodies_of_calls}
 use Rattle.bureau_desk.specs.Opening.{HasViewed}
 use Rattle.printed_text.specs.Printing.{added_text, ends_text, member_text}
+use Rattle.printed_text.proofs.Members.{added_both}
 use Rattle.history_text.specs.Histories.{IsRoundText, history_text}
 use Rattle.history_text.specs.Accepted.{accepted_text}
 use Rattle.history_text.proofs.Accepted.{publication_accepted, replayed_law, retold_law, same_text, statement_law}
