@@ -20,8 +20,8 @@ use Rattle.bureau_commands.specs.Completeness.{IsWholeInput}
 use Rattle.bureau_commands.specs.Headline.{IsHeadline}
 use Rattle.bureau_commands.specs.Journals.{HoldsSound}
 use Rattle.bureau_commands.specs.Due.{IsBatchesDue, IsLiveDue, IsLiveHeadline, IsNotBegunDue, all_served, broken_off, not_begun, stop_status, stop_text}
-use Rattle.bureau_commands.specs.Causes.{HasCause, HoldsUnsound, IsOutOfForm, IsTooLong, StartsOutOfForm, disk_failed, done, full_line, no_memory, not_opened, out_of_form, source_failed, too_long}
-use Rattle.bureau_commands.proofs.TakenInputs.{all_taken, bad_input, first_taken, no_shorter}
+use Rattle.bureau_commands.specs.Causes.{HasCause, HoldsUnsound, IsOutOfForm, IsTooLong, StartsInForm, StartsOutOfForm, disk_failed, done, full_line, no_memory, not_opened, out_of_form, source_failed, too_long}
+use Rattle.bureau_commands.proofs.TakenInputs.{all_taken, bad_input, bad_start, first_taken, no_shorter}
 use Rattle.bureau_commands.proofs.Bound.{none_asked}
 use Rattle.bureau_commands.proofs.Completeness.{none_served}
 use Rattle.bureau_commands.proofs.RunCauses.{batches_cases, headline_one, unsound_batches}
@@ -145,6 +145,23 @@ module _ {S D : Type 0} (left : S → Option (List ℕ)) (seen : D → Seen) (Ta
   live_start has input told many none status text (not_begun same s t some due) = inr (inr (sound_unserved seen Taken old new has s (unserved seen Taken old new s t some due)))
   live_start has input told many none status text (broken_off why t h) = inr (inr (inr (inr (inl refl))))
   live_start has input told many none status text (all_served why due t some h apart at_end) = stopped_start input told many none why due t h apart
+
+  -- one that is too long, and whose start is in the grammar
+  stopped_limit : (input : List ℕ) → left source ≡ Some input → IsTooLong input → StartsInForm input → (why : Stop) (due : ExitStatus) (text : List ℕ) (h : IsLiveHeadline seen Taken (left source) (left source') old new why due text)
+      → is_fence why ≡ false → IsOneOf (statuses.Limit ∷ statuses.Source ∷ statuses.Disk ∷ statuses.Memory ∷ statuses.Sink ∷ []) (stop_status why due)
+  stopped_limit input told many starts stop.Fence due text h apart = absurd (true≢false apart)
+  stopped_limit input told many starts stop.End due text h apart = absurd (omega (arith, many, whole_short input told due text h))
+  stopped_limit input told many starts (stop.BadLine line cause) due text h apart =
+      absurd (bad_start input h.taken (left source') line cause many (took input h.taken told h.consumed) h.front.1 starts.0 starts.1)
+  stopped_limit input told many starts stop.Failed due text h apart = inr (inl refl)
+  stopped_limit input told many starts stop.TooLong due text h apart = inl refl
+  stopped_limit input told many starts stop.Memory due text h apart = inr (inr (inr (inl refl)))
+
+  pub live_limit : HoldsSound (seen old) → (input : List ℕ) → left source ≡ Some input → IsTooLong input → StartsInForm input → (status : ExitStatus) (text : List ℕ) → IsLiveDue left seen Taken source source' old new status text
+      → IsOneOf (statuses.Limit ∷ statuses.Source ∷ statuses.Disk ∷ statuses.Memory ∷ statuses.Sink ∷ []) status
+  live_limit has input told many starts status text (not_begun same s t some due) = inr (inr (sound_unserved seen Taken old new has s (unserved seen Taken old new s t some due)))
+  live_limit has input told many starts status text (broken_off why t h) = inr (inr (inr (inr (inl refl))))
+  live_limit has input told many starts status text (all_served why due t some h apart at_end) = stopped_limit input told many starts why due t h apart
 
   -- ---- why it ends with a status, unless the sink failed
 

@@ -1,14 +1,16 @@
 -- An input that a source tells, and the bytes that were taken of it.
 use Rattle.std.specs.Prelude.{Option, Some, None}
-use Rattle.std.proofs.Common.{◌≡◌, ℕ, ◌+◌, ◌≤◌, List, [], ◌∷◌, ◌++◌, length, take, inl, inr, sym, ◌∙◌, ap, ap₂, subst, arith}
+use Rattle.std.proofs.Common.{◌≡◌, ℕ, ◌+◌, ◌-◌, ◌<◌, ◌≤◌, List, [], ◌∷◌, ◌++◌, length, take, inl, inr, sym, ◌∙◌, ap, ap₂, subst, arith}
 use Rattle.std.specs.Io.KnownBytes.{Consumes, IsAtEnd}
 use Rattle.std.proofs.lemmas.List.{append-nil, length-append}
-use Rattle.std.proofs.Math.Seq.{take-append_seam}
+use Rattle.std.proofs.Math.Seq.{take-append-add, take-append_seam}
+use Rattle.setoff_model.specs.declared.limits.TheConstants.{MOST_INPUT_BYTES}
 use Rattle.request_text.specs.declared.error.LineCause.{LineCause}
 use Rattle.request_text.specs.declared.request.Request.{Request}
 use Rattle.request_text.specs.Causes.{IsBadLine}
 use Rattle.request_text.specs.Grammar.{AreBatches, IsFirstBadLine, IsNoRequestText}
 use Rattle.request_text.proofs.Causes.{asks_nothing}
+use Rattle.input_front.specs.Front.{whole_lines}
 use Rattle.live_runs.specs.Fronts.{IsBadLineOf}
 
 -- at its end all was taken
@@ -49,4 +51,17 @@ bad_input input taken left_new number cause h (first, inl whole) =
     no_text input number cause (subst (λ (bytes : List ℕ). IsFirstBadLine bytes number cause) (all_taken input taken left_new h whole.0) first)
 bad_input input taken left_new number cause h (first, inr stays) =
     let f = followed input taken left_new h in
-    no_text input number cause (subst (λ (bytes : List ℕ). IsFirstBadLine bytes number cause) (sym f.1) (stays f.0))
+    no_text input number cause (subst (λ (bytes : List ℕ). IsFirstBadLine bytes number cause) (sym f.1) (stays.1 f.0).first)
+
+-- whose first whole lines are not, either, where it goes on behind what was taken
+pub bad_start : (input taken : List ℕ) (left_new : Option (List ℕ)) (number : ℕ) (cause : LineCause) → MOST_INPUT_BYTES < length input → Consumes (Some input) left_new taken → IsBadLineOf left_new taken number cause
+    → (batches : List (List Request)) → AreBatches 1 (whole_lines (take (MOST_INPUT_BYTES + 1) input)) batches → ⊥
+bad_start input taken left_new number cause many h (first, inl whole) batches spelled =
+    absurd (omega (arith, many, subst (λ (bytes : List ℕ). length bytes ≤ MOST_INPUT_BYTES) (all_taken input taken left_new h whole.0) whole.1))
+bad_start input taken left_new number cause many h (first, inr stays) batches spelled =
+    let f = followed input taken left_new h in
+    let n : ℕ = MOST_INPUT_BYTES + 1 - length taken in
+    let sum : MOST_INPUT_BYTES + 1 ≡ length taken + n = omega (arith, stays.0) in
+    let start : take (MOST_INPUT_BYTES + 1) input ≡ taken ++ take n f.0 = ap₂ (λ (k : ℕ) (t : List ℕ). take k t) sum f.1 ∙ take-append-add taken f.0 n in
+    let b = stays.1 (take n f.0) in
+    none_with 1 b.first.before b.first.line b.later cause batches b.first.bad (subst (λ (ls : List (List ℕ)). AreBatches 1 ls batches) (ap whole_lines start ∙ b.whole) spelled)

@@ -91,6 +91,15 @@ module _ (bytes : List ℕ) (read n : ℕ) (ended : IsEnded (drop read bytes) n)
       ∙ ap (λ l. before ++ lines l) (append_assoc text rest more)
       ∙ ap (λ l. before ++ l) (text_whole.as_lines (rest ++ more))
 
+  -- the same of the whole lines
+  pub whole_still : (before : List (List ℕ)) → IsWhole (take read bytes) before → (more : List ℕ) → whole_lines (bytes ++ more) ≡ before ++ found ∷ whole_lines (rest ++ more)
+  whole_still before h more =
+      ap (λ l. whole_lines (l ++ more)) all
+      ∙ ap whole_lines (append_assoc (take read bytes) (text ++ rest) more)
+      ∙ h.as_whole ((text ++ rest) ++ more)
+      ∙ ap (λ l. before ++ whole_lines l) (append_assoc text rest more)
+      ∙ ap (λ l. before ++ l) (text_whole.as_whole (rest ++ more))
+
 -- ---- where the first line feed stands
 
 no_feed : (bytes : List ℕ) (n : ℕ) → n ≤ length bytes → ((k : ℕ) → k < n → get_or bytes k 0 ≡ 10 → ⊥) → HasNoFeed (take n bytes)

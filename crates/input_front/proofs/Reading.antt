@@ -14,7 +14,7 @@ use Rattle.input_front.specs.declared.line.Line.TheVariants as line
 use Rattle.input_front.specs.Front.{AsksNothing, IsBatchAt, Says, whole_lines}
 use Rattle.input_front.specs.Taken.{HasAsked, HasFenced, HasLast, HasNoFeed, HasNoLine, HasRead, IntakeView, IsAsked, IsEnded, IsFirstBad, IsFrontRead, IsIntake, IsWhole, KeepsRead, OfRead, StaysBad}
 use mathlib.Core.Bool.{true≢false}
-use Rattle.input_front.proofs.Parts.{comes_next, comes_still, goes_on, last_whole, none_there, none_whole}
+use Rattle.input_front.proofs.Parts.{comes_next, comes_still, goes_on, last_whole, none_there, none_whole, whole_still}
 use Rattle.input_front.proofs.Spelled.{no_fence, with_fence, with_request}
 
 -- what a request asks can be asked
@@ -75,14 +75,18 @@ module _ (v : IntakeView) (n : ℕ) (e : IsEnded (drop v.read v.taken) n) where
   -- and is so whatever follows
   pub stays_bad : (number : ℕ) (cause : LineCause) → number ≡ v.lines + 1 → IsBadLine found cause → StaysBad v number cause
   stays_bad number cause number_is bad = λ more ended batch h. record {
-    before = h.before;
-    line = found;
-    after = lines (drop n (drop v.read v.taken) ++ more);
-    cut = comes_still v.taken v.read n e h.before h.whole more;
-    number_is = omega (arith, number_is, h.counted);
-    batches = ended ++ batch ∷ [];
-    spelled = h.spelled;
-    bad = bad;
+    first = record {
+      before = h.before;
+      line = found;
+      after = lines (drop n (drop v.read v.taken) ++ more);
+      cut = comes_still v.taken v.read n e h.before h.whole more;
+      number_is = omega (arith, number_is, h.counted);
+      batches = ended ++ batch ∷ [];
+      spelled = h.spelled;
+      bad = bad;
+    };
+    later = whole_lines (drop n (drop v.read v.taken) ++ more);
+    whole = whole_still v.taken v.read n e h.before h.whole more;
   }
 
   more_read : v.read < v.read + n

@@ -85,9 +85,15 @@ pub record IsAsked (number : ℕ) (request : Request) : Type 0 where
 abbrev pub IsFirstBad : IntakeView → ℕ → LineCause → Type 0
 IsFirstBad v number cause = OfRead v (λ ended batch. IsFirstBadLine v.taken number cause) × IsFrontTaken v
 
--- that stays so, whatever follows the bytes that were taken
+-- the first line of the bytes that is not in the grammar has its line feed
+pub record IsFirstWholeBad (bytes : List ℕ) (number : ℕ) (cause : LineCause) : Type 0 where
+  pub first : IsFirstBadLine bytes number cause
+  pub later : List (List ℕ)
+  pub whole : whole_lines bytes ≡ first.before ++ first.line ∷ later
+
+-- that line has its line feed, and stays the first bad one, whatever follows the bytes that were taken
 abbrev pub StaysBad : IntakeView → ℕ → LineCause → Type 0
-StaysBad v number cause = (rest : List ℕ) → OfRead v (λ ended batch. IsFirstBadLine (v.taken ++ rest) number cause)
+StaysBad v number cause = (rest : List ℕ) → OfRead v (λ ended batch. IsFirstWholeBad (v.taken ++ rest) number cause)
 
 -- a line was read which asks this of the batch
 pub record HasAsked (old new : IntakeView) (request : Request) : Type 0 where

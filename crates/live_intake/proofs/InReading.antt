@@ -125,7 +125,7 @@ module _ (first old : IntakeView) (requests : List Request) (so_far : HasReadThe
 
   pub bad_for_good : (left : Option (List ℕ)) (v : IntakeView) (number : ℕ) (cause : LineCause) → IsBadForGood left old v number cause → IsBadForGood left first v number cause
   bad_for_good left v number cause (inl ended) = inl ended
-  bad_for_good left v number cause (inr stays) = inr (λ rest. through (λ ended batch. IsFirstBadLine (v.taken ++ rest) number cause) (stays rest))
+  bad_for_good left v number cause (inr stays) = inr (λ rest. through (λ ended batch. IsFirstWholeBad (v.taken ++ rest) number cause) (stays rest))
 
   -- an end behind what was read before
   pub ends_more : (left : Option (List ℕ)) (n0 n1 n2 : ℕ) (new : IntakeView) (more : List Request) (why : Option Stop) → n0 ≤ n1 → Ends left n1 n2 old new more why → Ends left n0 n2 first new (requests ++ more) why

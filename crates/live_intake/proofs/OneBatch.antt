@@ -48,7 +48,7 @@ module _ (old begun new : IntakeView) (batch : List Request) (left : Option (Lis
 
   -- a bad line of the input
   bad_so : (line : ℕ) (cause : LineCause) → IsBadForGood left begun new line cause
-      → (IsAtEnd left × (length new.taken ≤ new.limit)) ⊎ ((rest : List ℕ) → IsFirstBadLine (new.taken ++ rest) line cause)
+      → (IsAtEnd left × (length new.taken ≤ new.limit)) ⊎ ((rest : List ℕ) → IsFirstWholeBad (new.taken ++ rest) line cause)
   bad_so line cause (inl ended) = inl ended
   bad_so line cause (inr stays) = inr (λ rest. stays rest b.earlier [] (keeps b.earlier [] b.read))
 

@@ -13,7 +13,7 @@ use Rattle.lane_seats.specs.Seating.{HasServedAll}
 use Rattle.served_lines.specs.declared.answer.Answer.{Answer}
 use Rattle.lane_runner.specs.Batches.{HasRunBatch}
 use Rattle.input_front.specs.Front.{IsBatchAt, IsFrontOf}
-use Rattle.input_front.specs.Taken.{HasNoFeed, HasRead, IntakeView}
+use Rattle.input_front.specs.Taken.{HasNoFeed, HasRead, IntakeView, IsFirstWholeBad}
 use Rattle.live_intake.specs.Reading.{AreNumbered, Ends, fence_lines}
 use Rattle.live_intake.specs.declared.stop.Stop.{Stop}
 use Rattle.live_intake.specs.declared.stop.Stop.TheVariants as stop
@@ -51,7 +51,7 @@ module _ (left_new : Option (List ℕ)) (faults_old faults_new : ℕ) (old new :
       IsRequestText new.taken (earlier ++ batch ∷ []) ⊎ IsRequestText new.taken ((earlier ++ batch ∷ []) ++ [] ∷ []))
       × HasNoFeed (drop new.read new.taken)
   IsStop (stop.BadLine line cause) = IsLast new.taken × IsFirstBadLine new.taken line cause
-      × ((IsAtEnd left_new × (length new.taken ≤ new.limit)) ⊎ ((rest : List ℕ) → IsFirstBadLine (new.taken ++ rest) line cause))
+      × ((IsAtEnd left_new × (length new.taken ≤ new.limit)) ⊎ ((rest : List ℕ) → IsFirstWholeBad (new.taken ++ rest) line cause))
   IsStop stop.Failed =
       IsLast new.taken × HasNoFeed (drop new.read new.taken) × HasRisen faults_old faults_new × (length new.taken ≤ new.limit)
   IsStop stop.TooLong = IsLast new.taken × HasNoFeed (drop new.read new.taken) × (new.limit < length new.taken)

@@ -10,7 +10,7 @@ use Rattle.request_text.specs.Grammar.{IsFirstBadLine, IsRequestText}
 use Rattle.request_text.specs.Lanes.{IsLane}
 use Rattle.lane_seats.specs.Lanes.{of_lane}
 use Rattle.input_front.specs.Front.{IsBatchAt, IsFrontOf}
-use Rattle.input_front.specs.Taken.{HasNoFeed, HasRead, IntakeView, OfRead}
+use Rattle.input_front.specs.Taken.{HasNoFeed, HasRead, IntakeView, IsFirstWholeBad, OfRead}
 use Rattle.live_intake.specs.declared.reading.Step.{Step}
 use Rattle.live_intake.specs.declared.reading.Step.TheVariants as step
 use Rattle.live_intake.specs.declared.stop.Stop.{Stop}
@@ -45,10 +45,10 @@ pub record HasTaken (left_old left_new : Option (List ℕ)) (faults_old faults_n
 abbrev pub HasFront : IntakeView → List ℕ → List Request → Type 0
 HasFront old bytes requests = OfRead old (λ ended batch. IsFrontOf bytes false (ended ++ (batch ++ requests) ∷ []))
 
--- A bad line is the first one of the input: since the input has ended, or whatever follows what was taken.
+-- A bad line is the first one of the input: since the input has ended; or it has its line feed, whatever follows what was taken.
 abbrev pub IsBadForGood : Option (List ℕ) → IntakeView → IntakeView → ℕ → LineCause → Type 0
 IsBadForGood left_new old new line cause = (IsAtEnd left_new × (length new.taken ≤ new.limit))
-    ⊎ ((rest : List ℕ) → OfRead old (λ ended batch. IsFirstBadLine (new.taken ++ rest) line cause))
+    ⊎ ((rest : List ℕ) → OfRead old (λ ended batch. IsFirstWholeBad (new.taken ++ rest) line cause))
 
 -- requests on the lines from this number on, one on each
 abbrev pub AreNumbered : ℕ → List Request → Type 0

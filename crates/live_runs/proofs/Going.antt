@@ -105,7 +105,7 @@ module _ {D : Type 0} (seen : D → Seen) (left_first : Option (List ℕ)) (faul
     front_of stop.End i = ((i.0, subst (λ (n : ℕ). length w.taken ≤ n) limit_now i.1), i.2 so.batches so.read)
     front_of (stop.BadLine line cause) i = (
       i.0 so.batches so.read,
-      (i.1, ⊎_elim (λ h. inl (h.0, subst (λ (n : ℕ). length w.taken ≤ n) limit_now h.1)) (λ h. inr h) i.2),
+      (i.1, ⊎_elim (λ h. inl (h.0, subst (λ (n : ℕ). length w.taken ≤ n) limit_now h.1)) (λ h. inr (omega (arith, limit_now, t.held), h)) i.2),
     )
     front_of stop.Failed i = (all_whole w t.batches i.1 served (i.0 so.batches so.read), subst (λ (n : ℕ). length w.taken ≤ n) limit_now i.3)
     front_of stop.TooLong i = (all_whole w t.batches i.1 served (i.0 so.batches so.read), omega (arith, limit_now, i.2, t.held))

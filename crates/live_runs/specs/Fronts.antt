@@ -6,7 +6,7 @@ use Rattle.request_text.specs.declared.error.LineCause.{LineCause}
 use Rattle.request_text.specs.declared.request.Request.{Request}
 use Rattle.request_text.specs.Grammar.{AreBatches, IsFirstBadLine, IsRequestText}
 use Rattle.input_front.specs.Front.{IsFrontOf, whole_lines}
-use Rattle.input_front.specs.Taken.{IsWhole}
+use Rattle.input_front.specs.Taken.{IsFirstWholeBad, IsWhole}
 use Rattle.live_intake.specs.declared.stop.Stop.{Stop}
 use Rattle.live_intake.specs.declared.stop.Stop.TheVariants as stop
 
@@ -21,10 +21,12 @@ pub record BeginsWith (bytes : List ℕ) (batches : List (List Request)) : Type 
 abbrev pub IsTakenWhole : Option (List ℕ) → List ℕ → Type 0
 IsTakenWhole left taken = IsAtEnd left × (length taken ≤ MOST_INPUT_BYTES)
 
--- that line is the first one of the input that is not in the grammar: whatever follows what was taken, or since the input has ended
+-- that line is the first one of the input that is not in the grammar: since the input has ended; or it has its line feed, whatever
+-- follows what was taken, which is at most one byte more than the limit
 abbrev pub IsBadLineOf : Option (List ℕ) → List ℕ → ℕ → LineCause → Type 0
 IsBadLineOf left taken line cause = IsFirstBadLine taken line cause
-    × (IsTakenWhole left taken ⊎ ((rest : List ℕ) → IsFirstBadLine (taken ++ rest) line cause))
+    × (IsTakenWhole left taken
+    ⊎ ((length taken ≤ MOST_INPUT_BYTES + 1) × ((rest : List ℕ) → IsFirstWholeBad (taken ++ rest) line cause)))
 
 -- These batches were served of the bytes that were taken. At the end of the input they are all, or all but an empty one behind a
 -- FENCE without a line feed. Where the source failed, and where it had a byte more than may be taken, each whole line that was taken
