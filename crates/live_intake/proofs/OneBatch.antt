@@ -5,7 +5,6 @@ use Rattle.std.specs.Io.KnownBytes.{IsAtEnd}
 use Rattle.disk_model.specs.Calls.{Seen}
 use Rattle.request_text.specs.declared.error.LineCause.{LineCause}
 use Rattle.request_text.specs.declared.request.Request.{Request}
-use Rattle.request_text.specs.Grammar.{IsFirstBadLine}
 use Rattle.bureau_desk.specs.Desks.{DeskView}
 use Rattle.served_lines.specs.declared.answer.Answer.{Answer}
 use Rattle.lane_runner.specs.Batches.{HasRunBatch}
