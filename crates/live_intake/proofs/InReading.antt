@@ -19,7 +19,7 @@ use Rattle.lane_seats.proofs.OfLanes.{other_more, own_more}
 use Rattle.input_front.specs.declared.line.Line.TheVariants as line
 use Rattle.input_front.specs.Front.{IsBatchAt, IsFrontOf}
 use Rattle.input_front.specs.declared.intake.More.TheVariants as more
-use Rattle.input_front.specs.Taken.{HasCome, HasLast, HasNext, HasNoFeed, HasNoLine, HasPiece, HasRead, IntakeView, IsFirstBad, KeepsRead, OfRead}
+use Rattle.input_front.specs.Taken.{HasCome, HasLast, HasNext, HasNoFeed, HasNoLine, HasPiece, HasRead, IntakeView, IsFirstBad, IsFirstWholeBad, KeepsRead, OfRead}
 use Rattle.input_front.proofs.Fronts.{front_law}
 use Rattle.input_front.proofs.Reading.{front_read, no_line}
 use Rattle.live_intake.specs.declared.handed.Handed.TheVariants as handed

@@ -9,7 +9,7 @@ use Rattle.bureau_desk.specs.Desks.{DeskView}
 use Rattle.served_lines.specs.declared.answer.Answer.{Answer}
 use Rattle.lane_runner.specs.Batches.{HasRunBatch}
 use Rattle.input_front.specs.Front.{IsBatchAt, IsFrontOf}
-use Rattle.input_front.specs.Taken.{HasBatches, HasRead, IntakeView, KeepsRead}
+use Rattle.input_front.specs.Taken.{HasBatches, HasRead, IntakeView, IsFirstWholeBad, KeepsRead}
 use Rattle.input_front.proofs.Fronts.{front_law}
 use Rattle.live_intake.specs.declared.stop.Stop.{Stop}
 use Rattle.live_intake.specs.declared.stop.Stop.TheVariants as stop
