@@ -33,6 +33,7 @@ mod stop;
 mod whole;
 mod written;
 
+pub use act_bodies::encode;
 pub use cause::{JournalCause, RecordWhy};
 pub use device::Device;
 pub use journal::Journal;
