@@ -33,6 +33,8 @@ look() {
 }
 
 anew=(--anew)
+# (a kit whose rt ci has no such word proves from nothing each time, and takes no names)
+rt help 2>&1 | grep -q -e --anew || anew=()
 [ "${1:-}" = --kept ] && { anew=(); shift; }
 
 # So many checks side by side, as rt reads it; without it, rt gives a check more than one where others wait for it.

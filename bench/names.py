@@ -14,6 +14,7 @@ from pathlib import Path
 HOME = Path(__file__).resolve().parent.parent
 CRATES = HOME / "crates"
 DOCS = HOME / "docs"
+GIVEN_ON = re.compile(r"\bRattle\.\w+\.specs\.(?=\w+\.(?:specs|proofs)\.)")
 WORD = r"(?:abbrev |unfoldable )?pub (?:(record|data) )?([^\s:({]+)"
 INDEX_HEAD = """# Index
 
@@ -50,13 +51,18 @@ def spec_modules(crate):
     return found
 
 
+def text_of(file):
+    """The text of a file, in which a crate that another one gives on stands under its own name alone."""
+    return GIVEN_ON.sub("Rattle.", file.read_text())
+
+
 def lent_lemmas():
     """Of each crate, the modules of its proofs/ that other crates import."""
     found = {}
     for file in CRATES.glob("*/*/**/*.antt"):
         crate = file.relative_to(CRATES).parts[0]
         if "out" not in file.relative_to(CRATES).parts:
-            for below, module in re.findall(r"Rattle\.(\w+)\.proofs\.([A-Z]\w*)", file.read_text()):
+            for below, module in re.findall(r"Rattle\.(\w+)\.proofs\.([A-Z]\w*)", text_of(file)):
                 if below != crate:
                     found.setdefault(below, set()).add(module)
     return found
@@ -96,10 +102,10 @@ def definitions(text):
 def reached():
     """The files of specs/ that the clauses of `bureau` and the definitions of these reach, as `crate Module`."""
     files = [f for f in CRATES.glob("*/specs/*.antt") if f.stem != "Lib"]
-    texts = {(f.parent.parent.name, f.stem): f.read_text() for f in files}
+    texts = {(f.parent.parent.name, f.stem): text_of(f) for f in files}
     known = {place: definitions(text) for place, text in texts.items()}
     lent = {place: re.findall(r"^use Rattle\.(\w+)\.specs\.(\w+)\.\{([^}]*)\}", text, re.M) for place, text in texts.items()}
-    top = (CRATES / "bureau_commands" / "src" / "top.rt").read_text()
+    top = text_of(CRATES / "bureau_commands" / "src" / "top.rt")
     asked = set(re.findall(r"[\w']+", re.search(r"pub fn bureau<.*?^\{", top, re.M | re.S)[0]))
     imports = re.findall(r"use Rattle\.(\w+)\.specs\.(\w+)\.\{([^}]*)\}", top)
     to_do = [((crate, module), name) for crate, module, names in imports for name in asked & set(names.split(", ")) if name[0].isupper()]

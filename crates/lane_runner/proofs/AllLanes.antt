@@ -18,13 +18,13 @@ use Rattle.shared_bureau.specs.Adding.{IsReady}
 use Rattle.shared_bureau.specs.Finishing.{HasFinished}
 use Rattle.served_lines.specs.declared.answer.Answer.{Answer}
 use Rattle.served_lines.specs.Served.{lane_lines}
-use Rattle.lane_seats.specs.declared.lane.Lane.{Lane}
-use Rattle.lane_seats.specs.Lanes.{HasServedLines, ended, of_lane}
-use Rattle.lane_seats.specs.Merging.{HasMerged, HaveEnds}
-use Rattle.lane_seats.specs.Seating.{HasServedAll, IsNewLane, IsNewSeatAt}
-use Rattle.lane_seats.proofs.Batched.{served_all}
-use Rattle.lane_seats.proofs.Places.{one_of}
-use Rattle.lane_runner.specs.Lanes.{HaveServed}
+use Rattle.lane_runner.specs.declared.lane.Lane.{Lane}
+use Rattle.lane_runner.specs.Lanes.{HasServedLines, ended, of_lane}
+use Rattle.lane_runner.specs.Merging.{HasMerged, HaveEnds}
+use Rattle.lane_runner.specs.Seating.{HasServedAll, IsNewLane, IsNewSeatAt}
+use Rattle.lane_runner.proofs.Batched.{served_all}
+use Rattle.lane_runner.proofs.Places.{one_of}
+use Rattle.lane_runner.specs.LanesServed.{HaveServed}
 
 -- what stands behind a borrow of a whole list is the list that was left there
 pub left_whole : {X : Type 0} (n : ℕ) (xs ys : List X) → length ys ≡ length xs → length xs ≤ n → take n (ys ++ drop (length ys) xs) ≡ ys

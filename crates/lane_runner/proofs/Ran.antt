@@ -14,7 +14,7 @@ use Rattle.bureau_desk.specs.Desks.{DeskView, KeepsDesk, base_cleared, base_of}
 use Rattle.served_lines.specs.declared.answer.Answer.{Answer}
 use Rattle.served_lines.specs.Served.{IsServed}
 use Rattle.lane_runner.specs.Batches.{HasRunBatch}
-use Rattle.lane_seats.specs.Seating.{HasServedAll}
+use Rattle.lane_runner.specs.Seating.{HasServedAll}
 
 -- the desk whose rounds were cleared
 pub record IsCleared {D : Type 0} (old start : DeskView D) : Type 0 where

@@ -10,7 +10,7 @@ use Rattle.turn_lock.specs.Seats.{seen, own, opened}
 use Rattle.served_lines.specs.declared.answer.Answer.{Answer}
 use Rattle.served_lines.specs.Served.{Line, LinesAdd, lane_lines, lines_of}
 use Rattle.served_lines.proofs.Longer.{lines_longer}
-use Rattle.lane_seats.specs.Lanes.{HasServedLines}
+use Rattle.lane_runner.specs.Lanes.{HasServedLines}
 
 -- lines and those behind them
 pub lines_append : (whole : List PoolEntry) (opened : ℕ) (done : List PoolEntry) (lines later : List Line) (entries more : List PoolEntry)

@@ -4,7 +4,7 @@ use Rattle.std.proofs.Common.{◌≡◌, ◌∙◌, ◌==◌, ◌+◌, ℕ, Bool
 use Rattle.std.proofs.lemmas.List.Elements.{All-cons, All-head, All-nil, All-tail}
 use Rattle.claim_history.specs.declared.act.Act.{Act}
 use Rattle.request_text.specs.declared.request.Request.{Request}
-use Rattle.lane_seats.specs.Lanes.{of_lane}
+use Rattle.lane_runner.specs.Lanes.{of_lane}
 use Rattle.live_intake.specs.declared.handed.Handed.{Handed}
 use Rattle.live_intake.specs.declared.handed.Handed.TheVariants as handed
 use Rattle.live_intake.specs.Handing.{handed_of, lines_since, segment_of}

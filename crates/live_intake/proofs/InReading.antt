@@ -14,8 +14,8 @@ use Rattle.request_text.specs.declared.error.LineCause.{LineCause}
 use Rattle.request_text.specs.declared.request.Request.{Request}
 use Rattle.request_text.specs.Grammar.{IsFirstBadLine, IsRequestText}
 use Rattle.request_text.specs.Lanes.{IsLane}
-use Rattle.lane_seats.specs.Lanes.{of_lane}
-use Rattle.lane_seats.proofs.OfLanes.{other_more, own_more}
+use Rattle.lane_runner.specs.Lanes.{of_lane}
+use Rattle.lane_runner.proofs.OfLanes.{other_more, own_more}
 use Rattle.input_front.specs.declared.line.Line.TheVariants as line
 use Rattle.input_front.specs.Front.{IsBatchAt, IsFrontOf}
 use Rattle.input_front.specs.declared.intake.More.TheVariants as more

@@ -12,8 +12,8 @@ use Rattle.turn_lock.specs.Seats.{number}
 use Rattle.bureau_desk.specs.declared.base.DeskBase.{DeskBase}
 use Rattle.bureau_desk.specs.Desks.{DeskView}
 use Rattle.shared_bureau.specs.Adding.{IsReady}
-use Rattle.lane_seats.specs.Lanes.{HasRun, of_lane}
-use Rattle.lane_seats.proofs.Places.{one_of}
+use Rattle.lane_runner.specs.Lanes.{HasRun, of_lane}
+use Rattle.lane_runner.proofs.Places.{one_of}
 use Rattle.live_intake.specs.declared.handed.Handed.{Handed}
 use Rattle.live_intake.specs.declared.handed.Handed.TheVariants as handed
 use Rattle.live_intake.specs.declared.lane.LiveLane.{LiveLane}

@@ -8,9 +8,9 @@ use Rattle.turn_lock.specs.Turns.{EachOf}
 use Rattle.request_text.specs.declared.request.Request.{Request}
 use Rattle.served_lines.specs.declared.answer.Answer.{Answer}
 use Rattle.served_lines.specs.declared.line_end.LineEnd.{LineEnd}
-use Rattle.lane_seats.specs.Lanes.{of_lane}
-use Rattle.lane_seats.proofs.Merged.{Agree, agree_more, answered_more, answer_of, next_more}
-use Rattle.lane_seats.proofs.OfLanes.{fewer_before, one_more}
+use Rattle.lane_runner.specs.Lanes.{of_lane}
+use Rattle.lane_runner.proofs.Merged.{Agree, agree_more, answered_more, answer_of, next_more}
+use Rattle.lane_runner.proofs.OfLanes.{fewer_before, one_more}
 use Rattle.live_intake.specs.declared.lane.LiveLane.{LiveLane}
 use Rattle.live_intake.specs.Batching.{HasMergedMore, HaveEnds}
 

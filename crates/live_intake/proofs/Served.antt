@@ -19,10 +19,10 @@ use Rattle.request_text.specs.declared.request.Request.{Request}
 use Rattle.request_text.specs.Lanes.{IsLane}
 use Rattle.served_lines.specs.declared.answer.Answer.{Answer}
 use Rattle.served_lines.specs.Served.{lane_lines}
-use Rattle.lane_seats.specs.Lanes.{HasServedLines}
-use Rattle.lane_seats.specs.Seating.{HasServedAll, IsNewSeatAt}
-use Rattle.lane_seats.proofs.Batched.{served_all}
-use Rattle.lane_seats.proofs.Places.{one_of}
+use Rattle.lane_runner.specs.Lanes.{HasServedLines}
+use Rattle.lane_runner.specs.Seating.{HasServedAll, IsNewSeatAt}
+use Rattle.lane_runner.proofs.Batched.{served_all}
+use Rattle.lane_runner.proofs.Places.{one_of}
 use Rattle.input_front.specs.Taken.{IntakeView}
 use Rattle.live_intake.specs.declared.lane.LiveLane.{LiveLane}
 use Rattle.live_intake.specs.declared.stop.Stop.{Stop}

@@ -15,7 +15,7 @@ use Rattle.bureau_desk.specs.Desks.{DeskView}
 use Rattle.shared_bureau.specs.Adding.{IsReady}
 use Rattle.served_lines.specs.declared.line_end.LineEnd.{LineEnd}
 use Rattle.lane_runner.specs.Serving.{HasServed}
-use Rattle.lane_seats.specs.Lanes.{HasRun}
+use Rattle.lane_runner.specs.Lanes.{HasRun}
 use Rattle.lane_runner.proofs.Running.{run_begins, run_more}
 use Rattle.live_intake.specs.declared.handed.Handed.TheVariants as handed
 use Rattle.live_intake.specs.declared.lane.LiveLane.{LiveLane}

@@ -10,8 +10,8 @@ use Rattle.request_text.specs.declared.request.Request.{Request}
 use Rattle.request_text.specs.Lanes.{IsLane}
 use Rattle.served_lines.specs.declared.answer.Answer.{Answer}
 use Rattle.served_lines.specs.Served.{lane_lines}
-use Rattle.lane_seats.specs.Lanes.{HasServedLines, ended, of_lane}
-use Rattle.lane_seats.specs.Seating.{IsNewSeatAt}
+use Rattle.lane_runner.specs.Lanes.{HasServedLines, ended, of_lane}
+use Rattle.lane_runner.specs.Seating.{IsNewSeatAt}
 use Rattle.live_intake.specs.declared.lane.LiveLane.{LiveLane}
 use Rattle.live_intake.specs.declared.stop.Stop.{Stop}
 use Rattle.input_front.specs.Taken.{IntakeView}

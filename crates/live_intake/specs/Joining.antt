@@ -9,7 +9,7 @@ use Rattle.bureau_desk.specs.declared.base.DeskBase.{DeskBase}
 use Rattle.bureau_desk.specs.Desks.{DeskView}
 use Rattle.shared_bureau.specs.Adding.{IsReady}
 use Rattle.request_text.specs.declared.request.Request.{Request}
-use Rattle.lane_seats.specs.Lanes.{HasRun, of_lane}
+use Rattle.lane_runner.specs.Lanes.{HasRun, of_lane}
 use Rattle.live_intake.specs.declared.lane.LiveLane.{LiveLane}
 use Rattle.live_intake.specs.Handing.{IsMarked, segment_of}
 use Rattle.live_intake.specs.Rings.{IsOpen, Ring}

@@ -9,7 +9,7 @@ use Rattle.claim_history.specs.declared.call.PoolEntry.{PoolEntry}
 use Rattle.turn_lock.specs.declared.view.View.{View}
 use Rattle.bureau_desk.specs.declared.base.DeskBase.{DeskBase}
 use Rattle.bureau_desk.specs.Desks.{DeskView}
-use Rattle.lane_seats.specs.Seating.{HasServedAll}
+use Rattle.lane_runner.specs.Seating.{HasServedAll}
 use Rattle.served_lines.specs.declared.answer.Answer.{Answer}
 use Rattle.lane_runner.specs.Batches.{HasRunBatch}
 use Rattle.input_front.specs.Front.{IsBatchAt, IsFrontOf}

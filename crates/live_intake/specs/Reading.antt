@@ -8,7 +8,7 @@ use Rattle.request_text.specs.declared.error.LineCause.{LineCause}
 use Rattle.request_text.specs.declared.request.Request.{Request}
 use Rattle.request_text.specs.Grammar.{IsFirstBadLine, IsRequestText}
 use Rattle.request_text.specs.Lanes.{IsLane}
-use Rattle.lane_seats.specs.Lanes.{of_lane}
+use Rattle.lane_runner.specs.Lanes.{of_lane}
 use Rattle.input_front.specs.Front.{IsBatchAt, IsFrontOf}
 use Rattle.input_front.specs.Taken.{HasNoFeed, HasRead, IntakeView, IsFirstWholeBad, OfRead}
 use Rattle.live_intake.specs.declared.reading.Step.{Step}

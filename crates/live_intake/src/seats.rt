@@ -3,7 +3,7 @@ ghost use Rattle.std.specs.Prelude.{◌≡◌, ◌≤◌, [], All, length, map, 
 ghost use Rattle.setoff_model.specs.declared.limits.TheConstants.{MOST_LANES};
 ghost use Rattle.turn_lock.specs.Seats.{lock_of, made, registrar_view, registry};
 ghost use Rattle.turn_lock.specs.Turns.{EachOf};
-ghost use Rattle.lane_seats.specs.Seating.{HasMade};
+ghost use Rattle.lane_runner.specs.Seating.{HasMade};
 ghost use Rattle.live_intake.specs.Batching.{AreReady, IsNewLane};
 ghost use Rattle.live_intake.specs.Rooms.{IsPlace};
 

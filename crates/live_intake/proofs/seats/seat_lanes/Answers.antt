@@ -5,7 +5,7 @@ use Rattle.turn_lock.specs.Turns.{EachOf}
 use Rattle.turn_lock.specs.Seats.{number, registrar_view}
 use Rattle.turn_lock.proofs.Views.{each_pushed}
 use Rattle.bureau_desk.specs.declared.base.DeskBase.{DeskBase}
-use Rattle.lane_seats.proofs.Places.{each_front, each_last}
+use Rattle.lane_runner.proofs.Places.{each_front, each_last}
 use Rattle.live_intake.specs.declared.lane.LiveLane.{LiveLane}
 use Rattle.live_intake.specs.declared.room.Place.{Place}
 use Rattle.live_intake.specs.Batching.{IsNewLane}

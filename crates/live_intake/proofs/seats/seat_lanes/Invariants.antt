@@ -2,7 +2,7 @@ use Rattle.std.proofs.Common.{◌≡◌, ◌+◌, ◌≤◌, All, length, vec_ca
 use Rattle.setoff_model.specs.declared.limits.TheConstants.{MOST_LANES}
 use Rattle.turn_lock.specs.Turns.{EachOf}
 use Rattle.turn_lock.specs.Seats.{registrar_view}
-use Rattle.lane_seats.specs.Seating.{HasMade}
+use Rattle.lane_runner.specs.Seating.{HasMade}
 use Rattle.live_intake.specs.Batching.{IsNewLane}
 use Rattle.live_intake.specs.Joining.{AreJoined}
 use Rattle.live_intake.specs.Rooms.{IsPlace}

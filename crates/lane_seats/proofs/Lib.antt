@@ -1,4 +1,0 @@
-pub mod Batched
-pub mod Merged
-pub mod OfLanes
-pub mod Places

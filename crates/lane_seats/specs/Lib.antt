@@ -1,4 +1,0 @@
-pub mod Lanes
-pub mod Merging
-pub mod Rooms
-pub mod Seating
