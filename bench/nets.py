@@ -182,6 +182,11 @@ def grid(draw, size):
     return side * side, claims
 
 
+def star(_, size):
+    firms = scaled(FIRMS, size)
+    return firms, [ends for _ in range(8) for a in range(1, firms) for ends in ((a, 0, 100), (0, a, 100))]
+
+
 FAMILIES = {
     "drawn-2": (drawn(2, 2), "2 claims between 2 firms, by the generator of bench/drawn.sh, to 655.36"),
     "drawn-60": (drawn(60, 400), "400 claims between 60 firms, by the same"),
@@ -204,6 +209,7 @@ FAMILIES = {
     "thin": (thin, "a ring of 1,024 layers of 16 firms, complete between neighbours, log-uniform"),
     "thin-mixed": (thin_mixed, "the same, with a tenth of the claims one layer back and a tenth two on"),
     "grid": (grid, "a torus of 128 by 128 firms, log-uniform"),
+    "star": (star, "one firm owes each other eight claims of 1.00, and is owed as many"),
 }
 
 
