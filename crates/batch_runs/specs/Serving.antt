@@ -3,16 +3,16 @@ use Rattle.std.specs.Prelude.{◌≡◌, ◌&&◌, ◌||◌, ℕ, Bool, List, []
 use Rattle.std.specs.Io.KnownBytes.{Appends}
 use Rattle.std.specs.List.{list_any}
 use Rattle.disk_model.specs.Calls.{Seen}
-use Rattle.claim_history.specs.declared.call.PoolEntry.{PoolEntry}
+use Rattle.lane_runner.specs.claim_history.specs.declared.call.PoolEntry.{PoolEntry}
 use Rattle.bureau_edge.specs.Streams.{AppendsPart}
-use Rattle.claim_history.specs.Needs.{is_of_device}
-use Rattle.request_text.specs.declared.request.Request.{Request}
-use Rattle.bureau_desk.specs.Desks.{DeskView}
+use Rattle.lane_runner.specs.claim_history.specs.Needs.{is_of_device}
+use Rattle.lane_runner.specs.request_text.specs.declared.request.Request.{Request}
+use Rattle.lane_runner.specs.bureau_desk.specs.Desks.{DeskView}
 use Rattle.lane_runner.specs.Batches.{HasRunBatch}
-use Rattle.served_lines.specs.declared.answer.Answer.{Answer}
-use Rattle.served_lines.specs.declared.line_end.LineEnd.{LineEnd}
-use Rattle.served_lines.specs.declared.line_end.LineEnd.TheVariants as ends
-use Rattle.served_lines.specs.Ends.{is_memory_end, is_full_end, has_line_end}
+use Rattle.lane_runner.specs.served_lines.specs.declared.answer.Answer.{Answer}
+use Rattle.lane_runner.specs.served_lines.specs.declared.line_end.LineEnd.{LineEnd}
+use Rattle.lane_runner.specs.served_lines.specs.declared.line_end.LineEnd.TheVariants as ends
+use Rattle.lane_runner.specs.served_lines.specs.Ends.{is_memory_end, is_full_end, has_line_end}
 use Rattle.printed_text.specs.declared.exit_status.ExitStatus.{ExitStatus}
 use Rattle.printed_text.specs.Printing.{printed_of, unanswered, unanswered_lines}
 use Rattle.printed_text.specs.Writing.{IsWritten}

@@ -16,21 +16,21 @@ use Rattle.claim_history.specs.PoolRounds.{ending_of, ending_reply, is_left_open
 use Rattle.claim_history.proofs.Kept.{kept_append, kept_step, replay_append, replayed_past, same_due}
 use Rattle.claim_history.proofs.PoolRoom.{due_is}
 use Rattle.claim_history.proofs.Pools.{pool_replay_law}
-use Rattle.act_bodies.specs.Bodies.{body_of, is_keepable}
-use Rattle.act_bodies.proofs.Calls.{one_call_law}
-use Rattle.round_journal.specs.Records.{AreKeepable, bodies_of, recorded_call}
-use Rattle.round_journal.specs.declared.record.Record.{Record}
-use Rattle.round_journal.proofs.OneReading.{one_list}
-use Rattle.journal_replay.specs.Replays.{AreSound, history_of}
-use Rattle.recorded_book.specs.Acting.{IsOpenedHistory}
-use Rattle.recorded_book.specs.Calls.{CanBeKept, LeftBy, StandsForLeft, bodies_of_calls}
-use Rattle.bureau_desk.specs.Opening.{HasViewed}
-use Rattle.printed_text.specs.Printing.{added_text, ends_text, member_text}
-use Rattle.printed_text.proofs.Members.{added_both}
-use Rattle.history_text.specs.Histories.{IsRoundText, history_text}
-use Rattle.history_text.specs.Accepted.{accepted_text}
-use Rattle.history_text.proofs.Accepted.{publication_accepted, replayed_law, retold_law, same_text, statement_law}
-use Rattle.batch_runs.specs.Runs.{Done, all_added, text_of}
+use Rattle.live_runs.specs.act_bodies.specs.Bodies.{body_of, is_keepable}
+use Rattle.live_runs.specs.act_bodies.proofs.Calls.{one_call_law}
+use Rattle.live_runs.specs.round_journal.specs.Records.{AreKeepable, bodies_of, recorded_call}
+use Rattle.live_runs.specs.round_journal.specs.declared.record.Record.{Record}
+use Rattle.live_runs.specs.round_journal.proofs.OneReading.{one_list}
+use Rattle.live_runs.specs.journal_replay.specs.Replays.{AreSound, history_of}
+use Rattle.live_runs.specs.recorded_book.specs.Acting.{IsOpenedHistory}
+use Rattle.live_runs.specs.recorded_book.specs.Calls.{CanBeKept, LeftBy, StandsForLeft, bodies_of_calls}
+use Rattle.live_runs.specs.bureau_desk.specs.Opening.{HasViewed}
+use Rattle.live_runs.specs.printed_text.specs.Printing.{added_text, ends_text, member_text}
+use Rattle.live_runs.specs.printed_text.proofs.Members.{added_both}
+use Rattle.bureau_reports.specs.history_text.specs.Histories.{IsRoundText, history_text}
+use Rattle.bureau_reports.specs.history_text.specs.Accepted.{accepted_text}
+use Rattle.bureau_reports.specs.history_text.proofs.Accepted.{publication_accepted, replayed_law, retold_law, same_text, statement_law}
+use Rattle.live_runs.specs.batch_runs.specs.Runs.{Done, all_added, text_of}
 use Rattle.bureau_commands.specs.Headline.{run_text}
 use Rattle.bureau_commands.specs.Laws.{AreAllAccepted, HistoryLaw, IsTriedMember, kept_text}
 

@@ -4,6 +4,7 @@ pub mod Reading
 pub mod Commands
 pub mod Served
 pub mod Bound
+mod Statuses
 pub mod Completeness
 pub mod Inputs
 pub mod InputCauses

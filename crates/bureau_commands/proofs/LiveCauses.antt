@@ -4,17 +4,17 @@ use Rattle.std.proofs.Common.{◌≡◌, ◌∙◌, ◌⊎◌, ⊎_elim, inl, in
 use Rattle.std.specs.Io.KnownBytes.{Consumes}
 use Rattle.setoff_model.specs.declared.limits.TheConstants.{MOST_INPUT_BYTES}
 use Rattle.disk_model.specs.Calls.{Seen}
-use Rattle.request_text.specs.Grammar.{AreBatches, IsRequestText}
-use Rattle.input_front.specs.Front.{whole_lines}
-use Rattle.live_intake.specs.declared.stop.Stop.{Stop}
-use Rattle.live_intake.specs.declared.stop.Stop.TheVariants as stop
-use Rattle.live_intake.specs.Live.{is_fence}
-use Rattle.command_words.specs.declared.command.Command.TheVariants as commands
-use Rattle.printed_text.specs.declared.exit_status.ExitStatus.{ExitStatus}
-use Rattle.printed_text.specs.declared.exit_status.ExitStatus.TheVariants as statuses
-use Rattle.printed_text.specs.Statuses.{IsOneOf}
-use Rattle.printed_text.specs.Writing.{IsWritten, Wrote}
-use Rattle.printed_text.proofs.Statuses.{in_front, other_than}
+use Rattle.live_runs.specs.request_text.specs.Grammar.{AreBatches, IsRequestText}
+use Rattle.live_runs.specs.input_front.specs.Front.{whole_lines}
+use Rattle.live_runs.specs.live_reading.specs.declared.stop.Stop.{Stop}
+use Rattle.live_runs.specs.live_reading.specs.declared.stop.Stop.TheVariants as stop
+use Rattle.live_runs.specs.live_reading.specs.Fronts.{is_fence}
+use Rattle.bureau_reports.specs.command_words.specs.declared.command.Command.TheVariants as commands
+use Rattle.live_runs.specs.printed_text.specs.declared.exit_status.ExitStatus.{ExitStatus}
+use Rattle.live_runs.specs.printed_text.specs.declared.exit_status.ExitStatus.TheVariants as statuses
+use Rattle.live_runs.specs.printed_text.specs.Statuses.{IsOneOf}
+use Rattle.live_runs.specs.printed_text.specs.Writing.{IsWritten, Wrote}
+use Rattle.live_runs.specs.printed_text.proofs.Statuses.{in_front, other_than}
 use Rattle.bureau_reports.proofs.Written.{told_status}
 use Rattle.bureau_commands.specs.Completeness.{IsWholeInput}
 use Rattle.bureau_commands.specs.Headline.{IsHeadline}

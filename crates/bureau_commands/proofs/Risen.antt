@@ -5,27 +5,27 @@ use Rattle.fault_count.specs.Counts.{HasRisen}
 use Rattle.fault_count.proofs.Rising.{risen_within}
 use Rattle.disk_model.specs.Calls.{Seen}
 use Rattle.claim_history.specs.Pools.{IsLegal}
-use Rattle.request_text.specs.declared.request.Request.{Request}
-use Rattle.recorded_book.specs.Devices.{AreBetween}
-use Rattle.bureau_desk.specs.declared.desk_refused.DeskCause.{DeskCause}
-use Rattle.bureau_desk.specs.declared.desk_refused.DeskCause.TheVariants.{Memory, Device, BadHeader, BadRecord, BadAct, Overfull}
-use Rattle.bureau_desk.specs.Opening.{HasDeskCause}
-use Rattle.served_lines.specs.Ends.{is_memory_end, is_full_end}
-use Rattle.printed_text.specs.declared.exit_status.ExitStatus.{ExitStatus}
-use Rattle.printed_text.specs.declared.exit_status.ExitStatus.TheVariants as statuses
-use Rattle.printed_text.proofs.Statuses.{other_than}
-use Rattle.command_words.specs.declared.command.Command.{Command}
-use Rattle.command_words.specs.declared.command.Command.TheVariants as commands
+use Rattle.live_runs.specs.request_text.specs.declared.request.Request.{Request}
+use Rattle.live_runs.specs.recorded_book.specs.Devices.{AreBetween}
+use Rattle.live_runs.specs.bureau_desk.specs.declared.desk_refused.DeskCause.{DeskCause}
+use Rattle.live_runs.specs.bureau_desk.specs.declared.desk_refused.DeskCause.TheVariants.{Memory, Device, BadHeader, BadRecord, BadAct, Overfull}
+use Rattle.live_runs.specs.bureau_desk.specs.Opening.{HasDeskCause}
+use Rattle.live_runs.specs.served_lines.specs.Ends.{is_memory_end, is_full_end}
+use Rattle.live_runs.specs.printed_text.specs.declared.exit_status.ExitStatus.{ExitStatus}
+use Rattle.live_runs.specs.printed_text.specs.declared.exit_status.ExitStatus.TheVariants as statuses
+use Rattle.live_runs.specs.printed_text.proofs.Statuses.{other_than}
+use Rattle.bureau_reports.specs.command_words.specs.declared.command.Command.{Command}
+use Rattle.bureau_reports.specs.command_words.specs.declared.command.Command.TheVariants as commands
 use Rattle.bureau_reports.specs.DiskTexts.{opening_status}
 use Rattle.bureau_reports.specs.Inputs.{IsInputDue}
 use Rattle.bureau_reports.proofs.Verdicts.{input_one}
 use Rattle.bureau_reports.proofs.Viewed.{due_rose}
 use Rattle.bureau_reports.proofs.Written.{told_status}
-use Rattle.live_intake.specs.declared.stop.Stop.{Stop}
-use Rattle.live_intake.specs.declared.stop.Stop.TheVariants as stop
-use Rattle.batch_runs.specs.Runs.{HasTaken, all_added, some_device, some_end}
-use Rattle.batch_runs.proofs.Printed.{device_by}
-use Rattle.batch_runs.proofs.Rising.{device_rose}
+use Rattle.live_runs.specs.live_reading.specs.declared.stop.Stop.{Stop}
+use Rattle.live_runs.specs.live_reading.specs.declared.stop.Stop.TheVariants as stop
+use Rattle.live_runs.specs.batch_runs.specs.Runs.{HasTaken, all_added, some_device, some_end}
+use Rattle.live_runs.specs.batch_runs.proofs.Printed.{device_by}
+use Rattle.live_runs.specs.batch_runs.proofs.Rising.{device_rose}
 use Rattle.bureau_commands.specs.Headline.{IsHeadline}
 use Rattle.bureau_commands.specs.Due.{IsBatchesDue, IsCommandDue, IsDue, IsLiveDue, IsLiveHeadline, IsReadDue, IsRunDue, IsTrialDue, Ran, all_served, asked, bad_line, bad_words, batches_read, broken_off, input_read, no_input_memory, no_line_memory, no_output_memory, no_request_memory, no_trial_memory, no_words_memory, not_begun, not_opened, not_read, read_fault, served, stop_status, too_long, tried}
 

@@ -26,29 +26,29 @@ use Rattle.claim_history.proofs.PoolEnds.{opens_so}
 use Rattle.claim_history.proofs.Pools.{in_append, legal_in, past_own}
 use Rattle.setoff_model.proofs.SameNames.{name_same}
 use Rattle.setoff_model.proofs.Lists.{All-first}
-use Rattle.act_bodies.specs.Bodies.{is_keepable}
-use Rattle.request_text.specs.declared.request.Request.{Request}
-use Rattle.journal_replay.specs.Replays.{history_of}
-use Rattle.recorded_book.specs.Acting.{IsOpenedHistory}
-use Rattle.recorded_book.specs.Calls.{CanBeKept}
-use Rattle.recorded_book.specs.Devices.{AreBetween, IsBetween}
-use Rattle.recorded_book.specs.Moments.{HasMoments}
-use Rattle.bureau_desk.specs.Desks.{DeskView, KeepsDesk}
-use Rattle.bureau_desk.specs.Opening.{IsDeskOpen}
-use Rattle.bureau_desk.proofs.Left.{left_law}
-use Rattle.round_journal.specs.Opened.{AreFound}
-use Rattle.served_lines.specs.Bound.{AreRequests}
+use Rattle.live_runs.specs.act_bodies.specs.Bodies.{is_keepable}
+use Rattle.live_runs.specs.request_text.specs.declared.request.Request.{Request}
+use Rattle.live_runs.specs.journal_replay.specs.Replays.{history_of}
+use Rattle.live_runs.specs.recorded_book.specs.Acting.{IsOpenedHistory}
+use Rattle.live_runs.specs.recorded_book.specs.Calls.{CanBeKept}
+use Rattle.live_runs.specs.recorded_book.specs.Devices.{AreBetween, IsBetween}
+use Rattle.live_runs.specs.recorded_book.specs.Moments.{HasMoments}
+use Rattle.live_runs.specs.bureau_desk.specs.Desks.{DeskView, KeepsDesk}
+use Rattle.live_runs.specs.bureau_desk.specs.Opening.{IsDeskOpen}
+use Rattle.live_runs.specs.bureau_desk.proofs.Left.{left_law}
+use Rattle.live_runs.specs.round_journal.specs.Opened.{AreFound}
+use Rattle.live_runs.specs.served_lines.specs.Bound.{AreRequests}
 use Rattle.bureau_commands.proofs.Bound.{front_asked, none_full_of}
-use Rattle.live_intake.specs.declared.stop.Stop.{Stop}
+use Rattle.live_runs.specs.live_reading.specs.declared.stop.Stop.{Stop}
 use Rattle.live_runs.specs.Serving.{HasServedInput}
-use Rattle.printed_text.specs.declared.exit_status.ExitStatus.{ExitStatus}
-use Rattle.printed_text.specs.declared.exit_status.ExitStatus.TheVariants as statuses
-use Rattle.printed_text.specs.Printing.{added_text, printed_of}
-use Rattle.printed_text.specs.Writing.{IsWritten, broken, whole}
-use Rattle.batch_runs.specs.Runs.{Done, AreOf, AreServed, HasTaken, all_added, but_last, requests_of, text_of}
+use Rattle.live_runs.specs.printed_text.specs.declared.exit_status.ExitStatus.{ExitStatus}
+use Rattle.live_runs.specs.printed_text.specs.declared.exit_status.ExitStatus.TheVariants as statuses
+use Rattle.live_runs.specs.printed_text.specs.Printing.{added_text, printed_of}
+use Rattle.live_runs.specs.printed_text.specs.Writing.{IsWritten, broken, whole}
+use Rattle.live_runs.specs.batch_runs.specs.Runs.{Done, AreOf, AreServed, HasTaken, all_added, but_last, requests_of, text_of}
 use Rattle.bureau_commands.specs.Journals.{HoldsSound}
 use Rattle.bureau_commands.specs.Headline.{IsHeadline, LeavesDisk, SurvivesCrashes, run_text, sure_text}
-use Rattle.batch_runs.specs.Serving.{HasRunBatches, HasSameOpening}
+use Rattle.live_runs.specs.batch_runs.specs.Serving.{HasRunBatches, HasSameOpening}
 use Rattle.bureau_commands.specs.Due.{IsBatchesDue, IsLiveDue, IsLiveHeadline, IsNotBegunDue, WroteTaking, all_served, broken_off, stop_status, stop_text}
 use Rattle.bureau_commands.specs.Due.{served as served_due}
 use Rattle.bureau_reports.proofs.Written.{written_after, wrote_line}

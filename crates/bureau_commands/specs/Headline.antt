@@ -6,19 +6,19 @@ use Rattle.claim_history.specs.declared.entry.Reply.TheVariants as reply
 use Rattle.claim_history.specs.Pools.{AreValid, IsLegal, accepted_calls, entries_in}
 use Rattle.claim_history.specs.Laws.{IsGreatestPublication}
 use Rattle.claim_history.specs.PoolNeeds.{IsWithinLimits}
-use Rattle.request_text.specs.declared.request.Request.{Request}
-use Rattle.round_journal.specs.declared.record.Record.{Record}
-use Rattle.round_journal.specs.Opened.{AreFound}
-use Rattle.journal_replay.specs.Replays.{history_of, AreSound}
-use Rattle.recorded_book.specs.Acting.{IsOpenedHistory}
-use Rattle.recorded_book.specs.Calls.{CanBeKept, HoldsFirst, StandsForLeft}
-use Rattle.bureau_desk.specs.Opening.{HasDeskOpened, HasDeskTurned, SparesUnsound}
-use Rattle.recorded_book.specs.Devices.{AreBetween}
-use Rattle.recorded_book.specs.Moments.{HasMoments}
-use Rattle.printed_text.specs.declared.exit_status.ExitStatus.{ExitStatus}
-use Rattle.printed_text.specs.Printing.{added_text}
-use Rattle.served_lines.specs.Ends.{is_full_end}
-use Rattle.batch_runs.specs.Runs.{Done, AreOf, AreServed, all_added, but_last, requests_of, some_end, text_of}
+use Rattle.live_runs.specs.request_text.specs.declared.request.Request.{Request}
+use Rattle.live_runs.specs.round_journal.specs.declared.record.Record.{Record}
+use Rattle.live_runs.specs.round_journal.specs.Opened.{AreFound}
+use Rattle.live_runs.specs.journal_replay.specs.Replays.{history_of, AreSound}
+use Rattle.live_runs.specs.recorded_book.specs.Acting.{IsOpenedHistory}
+use Rattle.live_runs.specs.recorded_book.specs.Calls.{CanBeKept, HoldsFirst, StandsForLeft}
+use Rattle.live_runs.specs.bureau_desk.specs.Opening.{HasDeskOpened, HasDeskTurned, SparesUnsound}
+use Rattle.live_runs.specs.recorded_book.specs.Devices.{AreBetween}
+use Rattle.live_runs.specs.recorded_book.specs.Moments.{HasMoments}
+use Rattle.live_runs.specs.printed_text.specs.declared.exit_status.ExitStatus.{ExitStatus}
+use Rattle.live_runs.specs.printed_text.specs.Printing.{added_text}
+use Rattle.live_runs.specs.served_lines.specs.Ends.{is_full_end}
+use Rattle.live_runs.specs.batch_runs.specs.Runs.{Done, AreOf, AreServed, all_added, but_last, requests_of, some_end, text_of}
 use Rattle.bureau_commands.specs.Journals.{HasRoomForAll, HoldsSound}
 
 -- The history: that of the records that the disk held, with one abandonment for each round that they leave open, and then what the

@@ -6,14 +6,14 @@ use Rattle.disk_model.specs.Calls.{Seen}
 use Rattle.claim_history.specs.Acts.{is_filing, is_registration}
 use Rattle.claim_history.specs.PoolNeeds.{call_bytes}
 use Rattle.claim_history.specs.PoolRounds.{left_open}
-use Rattle.request_text.specs.declared.request.Request.{Request}
-use Rattle.round_journal.specs.declared.record.Record.{Record}
-use Rattle.round_journal.specs.Opened.{AreFound}
-use Rattle.journal_replay.specs.Replays.{AreSound, history_of, recorded_call}
-use Rattle.printed_text.specs.declared.exit_status.ExitStatus.{ExitStatus}
-use Rattle.served_lines.specs.Bound.{closes, most_endings}
-use Rattle.bureau_desk.specs.declared.desk_refused.DeskCause.{DeskCause}
-use Rattle.bureau_desk.specs.Laws.{IsFault}
+use Rattle.live_runs.specs.request_text.specs.declared.request.Request.{Request}
+use Rattle.live_runs.specs.round_journal.specs.declared.record.Record.{Record}
+use Rattle.live_runs.specs.round_journal.specs.Opened.{AreFound}
+use Rattle.live_runs.specs.journal_replay.specs.Replays.{AreSound, history_of, recorded_call}
+use Rattle.live_runs.specs.printed_text.specs.declared.exit_status.ExitStatus.{ExitStatus}
+use Rattle.live_runs.specs.served_lines.specs.Bound.{closes, most_endings}
+use Rattle.live_runs.specs.bureau_desk.specs.declared.desk_refused.DeskCause.{DeskCause}
+use Rattle.live_runs.specs.bureau_desk.specs.Laws.{IsFault}
 use Rattle.bureau_reports.specs.DiskTexts.{unsound_status}
 
 -- the disk tells its bytes, and they stand for sound records

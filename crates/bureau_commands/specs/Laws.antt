@@ -6,14 +6,14 @@ use Rattle.claim_history.specs.declared.call.PoolEntry.{PoolEntry}
 use Rattle.claim_history.specs.History.{is_accepted}
 use Rattle.claim_history.specs.Pools.{accepted_members, answered, due_reply}
 use Rattle.claim_history.specs.PoolRounds.{open_cut_in}
-use Rattle.request_text.specs.declared.request.Request.{Request}
-use Rattle.printed_text.specs.declared.exit_status.ExitStatus.{ExitStatus}
-use Rattle.printed_text.specs.Printing.{added_text, ends_text, statement_of}
-use Rattle.history_text.specs.Histories.{IsRoundText, history_text, publishes_round}
-use Rattle.history_text.specs.Accepted.{accepted_text}
-use Rattle.recorded_book.specs.Calls.{TriedLast}
-use Rattle.batch_runs.specs.Runs.{Done, HasTaken, all_added}
-use Rattle.bureau_desk.specs.Opening.{HasViewed, HoldsOpened}
+use Rattle.live_runs.specs.request_text.specs.declared.request.Request.{Request}
+use Rattle.live_runs.specs.printed_text.specs.declared.exit_status.ExitStatus.{ExitStatus}
+use Rattle.live_runs.specs.printed_text.specs.Printing.{added_text, ends_text, statement_of}
+use Rattle.bureau_reports.specs.history_text.specs.Histories.{IsRoundText, history_text, publishes_round}
+use Rattle.bureau_reports.specs.history_text.specs.Accepted.{accepted_text}
+use Rattle.live_runs.specs.recorded_book.specs.Calls.{TriedLast}
+use Rattle.live_runs.specs.batch_runs.specs.Runs.{Done, HasTaken, all_added}
+use Rattle.live_runs.specs.bureau_desk.specs.Opening.{HasViewed, HoldsOpened}
 use Rattle.bureau_commands.specs.Journals.{HasAuditFault, HoldsSound}
 use Rattle.bureau_commands.specs.Headline.{IsHeadline, SurvivesCrashes, run_text}
 use Rattle.bureau_commands.specs.Causes.{HoldsUnsound}

@@ -2,25 +2,25 @@
 ghost use Rattle.std.specs.Prelude.{◌≡◌, ◌≢◌, ◌≤◌, true, false, [], vec_capacity};
 ghost use Rattle.setoff_model.specs.declared.limits.TheConstants.{OUTPUT_BYTES};
 ghost use Rattle.fault_count.specs.Counts.{HasRisen};
-ghost use Rattle.printed_text.specs.declared.exit_status.ExitStatus.TheVariants as statuses;
-ghost use Rattle.printed_text.specs.Statuses.{TellsSinkFault};
-ghost use Rattle.printed_text.specs.Texts.{bad_line_text};
-ghost use Rattle.printed_text.specs.Writing.{IsWritten};
+ghost use Rattle.live_runs.specs.printed_text.specs.declared.exit_status.ExitStatus.TheVariants as statuses;
+ghost use Rattle.live_runs.specs.printed_text.specs.Statuses.{TellsSinkFault};
+ghost use Rattle.live_runs.specs.printed_text.specs.Texts.{bad_line_text};
+ghost use Rattle.live_runs.specs.printed_text.specs.Writing.{IsWritten};
 ghost use Rattle.bureau_commands.specs.Due.{IsLiveDue, WroteTaking, stop_status, stop_text};
 
 use crate::opening::{Begun, NotBegun, begin};
 use bureau_edge::{Sink, Source};
 use disk_model::Disk;
-use input_front::Intake;
-use lane_runner::Gate;
-use live_intake::Stop;
-use live_runs::serve_input;
-use printed_text::{
+use live_runs::input_front::Intake;
+use live_runs::lane_runner::Gate;
+use live_runs::live_intake::Stop;
+use live_runs::printed_text::{
     ExitStatus, end_with, tell_no_memory, tell_read_fault, tell_too_long, write_bad_line,
 };
-use request_text::LineCause;
+use live_runs::request_text::LineCause;
+use live_runs::serve_input;
+use live_runs::shared_bureau::Pause;
 use setoff_model::limits::MOST_INPUT_BYTES;
-use shared_bureau::Pause;
 use std::alloc::Global;
 use std::sync::Wait;
 use std::thread::Threads;

@@ -1,15 +1,15 @@
 //! What stands before the batches of a run: a desk, and the lines of the abandonments.
 ghost use Rattle.std.specs.Prelude.{◌≡◌, ◌≤◌, [], IfErr, IfOk, vec_capacity};
 ghost use Rattle.setoff_model.specs.declared.limits.TheConstants.{OUTPUT_BYTES};
-ghost use Rattle.printed_text.specs.Statuses.{TellsSinkFault};
+ghost use Rattle.live_runs.specs.printed_text.specs.Statuses.{TellsSinkFault};
 ghost use Rattle.bureau_commands.specs.Due.{HasBegun, IsNotBegunDue, WroteTaking};
 
-use batch_runs::print_added;
-use bureau_desk::{Desk, DeskRefused};
 use bureau_edge::Sink;
 use bureau_reports::tell_refused;
 use disk_model::Disk;
-use printed_text::{ExitStatus, output_buffer, tell_no_memory};
+use live_runs::batch_runs::print_added;
+use live_runs::bureau_desk::{Desk, DeskRefused};
+use live_runs::printed_text::{ExitStatus, output_buffer, tell_no_memory};
 use std::alloc::Global;
 
 /// A desk on which no batch was served yet, and the buffer of the output.

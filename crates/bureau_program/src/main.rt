@@ -5,18 +5,20 @@
 //! journal, and nothing else. Where the words are no command's, it tells the commands on the error stream.
 #![tactic(auto)]
 
+use bureau_commands::lane_runner::Unhindered;
+use bureau_commands::printed_text::ExitStatus;
 use bureau_commands::{bureau, without_words};
 use bureau_edge::{StandardIn, StandardOut};
 use command_words::USAGE;
 use disk_model::FileDisk;
-use lane_runner::Unhindered;
-use printed_text::ExitStatus;
 use std::alloc::AllocError;
 use std::env;
 use std::fs::File;
 use std::io::{self, ErrorKind};
 use std::path::Path;
 use std::process::ExitCode;
+use std::sync::Wait;
+use std::thread::Threads;
 
 // The words after the program's name. Where one of them is no text, there are none, and no list of the program's words is that.
 // The only error is that memory is missing.
@@ -50,27 +52,40 @@ fn stand_ins(rt: &HostRuntime) -> [io::Result<File>; 3] {
     ]
 }
 
+// What the top call answers to these words, over the standard streams and the journal at this path, with lanes in threads.
+fn status_of<R: Threads + Wait + Sync>(
+    rt: &HostRuntime,
+    lanes: &R,
+    words: Vec<String>,
+    path: String,
+) -> u8 {
+    let disk = FileDisk::new(rt, path);
+    let source = StandardIn::new(rt);
+    let sink = StandardOut::new(rt);
+    bureau(
+        lanes,
+        rt.alloc(),
+        words,
+        source,
+        sink,
+        disk,
+        Unhindered,
+        Unhindered,
+    )
+    .status
+}
+
+// The status of the program, where the places of closed streams are held.
+fn status<R: Threads + Wait + Sync>(rt: &HostRuntime, lanes: &R) -> u8 {
+    match (words(rt), journal(rt)) {
+        (Ok(words), Ok(path)) => status_of(rt, lanes, words, path),
+        _ => without_words(StandardIn::new(rt), StandardOut::new(rt)).status,
+    }
+}
+
 fn main(rt: HostRuntime) -> ExitCode {
     let _held = stand_ins(&rt);
-    let source = StandardIn::new(&rt);
-    let sink = StandardOut::new(&rt);
-    let status = match (words(&rt), journal(&rt)) {
-        (Ok(words), Ok(path)) => {
-            let disk = FileDisk::new(&rt, path);
-            bureau(
-                &rt,
-                rt.alloc(),
-                words,
-                source,
-                sink,
-                disk,
-                Unhindered,
-                Unhindered,
-            )
-            .status
-        }
-        _ => without_words(source, sink).status,
-    };
+    let status = status(&rt, &rt);
     if status == ExitStatus::Words.number() {
         let _told = eprint!(rt; "{USAGE}");
     }

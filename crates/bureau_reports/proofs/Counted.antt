@@ -5,7 +5,7 @@ use Rattle.std.proofs.Common.{◌≡◌, ◌∙◌, ℕ, ◌+◌, Bool, List, []
 use Rattle.std.proofs.lemmas.List.{take_more}
 use Rattle.std.proofs.lemmas.List.Sums.{sum_by-append, sum_by-cons}
 use Rattle.std.proofs.lemmas.Option.{get_or_from_slice_get, slice_get_within}
-use Rattle.claim_history.specs.declared.call.PoolEntry.{PoolEntry}
+use Rattle.weighed_round.specs.claim_history.specs.declared.call.PoolEntry.{PoolEntry}
 
 -- one more member is counted where it passes the test
 pub counted_more : (p : PoolEntry → Bool) (xs : List PoolEntry) (i : ℕ) (m : PoolEntry) → slice_get xs i ≡ Some m → count_by p (take (i + 1) xs) ≡ count_by p (take i xs) + cond (p m) 1 0

@@ -3,10 +3,10 @@ use Rattle.std.proofs.Common.{inr, ℕ, List, ap, refl, subst}
 use Rattle.std.specs.Str.Lines.{lines}
 use Rattle.setoff_model.specs.CutView.{CutView, OutcomeView, obligations}
 use Rattle.setoff_model.specs.Setoff.{Proves}
-use Rattle.statement_text.specs.Statements.{IsStatement}
-use Rattle.chain_explain.specs.Chains.{ChainView}
-use Rattle.chain_explain.specs.Explained.{ChainsLaw, ExplainerView, Gives, IsDone, IsStart}
-use Rattle.printed_text.specs.declared.exit_status.ExitStatus.TheVariants as statuses
+use Rattle.weighed_round.specs.statement_text.specs.Statements.{IsStatement}
+use Rattle.chain_text.specs.chain_explain.specs.Chains.{ChainView}
+use Rattle.chain_text.specs.chain_explain.specs.Explained.{ChainsLaw, ExplainerView, Gives, IsDone, IsStart}
+use Rattle.weighed_round.specs.printed_text.specs.declared.exit_status.ExitStatus.TheVariants as statuses
 use Rattle.chain_text.specs.Texts.{chains_text}
 use Rattle.command_words.specs.declared.input_report.InputReport.TheVariants as inputs
 use Rattle.bureau_reports.specs.Inputs.{IsInputDue, reported}

@@ -1,14 +1,14 @@
 -- What is told of books.
 use Rattle.std.specs.Prelude.{Option}
 use Rattle.std.proofs.Common.{◌≡◌, ◌∙◌, ℕ, List, ap, refl, subst, sym}
-use Rattle.claim_history.specs.declared.call.PoolEntry.{PoolEntry}
+use Rattle.weighed_round.specs.claim_history.specs.declared.call.PoolEntry.{PoolEntry}
 use Rattle.command_words.specs.declared.journal_report.JournalReport.{JournalReport}
 use Rattle.command_words.specs.declared.journal_report.JournalReport.TheVariants as journals
 use Rattle.command_words.specs.Words.{pool_of}
 use Rattle.history_text.specs.Histories.{IsHistoryDue, IsRoundDue, all_told, cut_short, no_round_memory, round_told, history_text}
-use Rattle.printed_text.specs.declared.exit_status.ExitStatus.{ExitStatus}
-use Rattle.printed_text.specs.declared.exit_status.ExitStatus.TheVariants as statuses
-use Rattle.printed_text.specs.Writing.{IsWritten, Wrote}
+use Rattle.weighed_round.specs.printed_text.specs.declared.exit_status.ExitStatus.{ExitStatus}
+use Rattle.weighed_round.specs.printed_text.specs.declared.exit_status.ExitStatus.TheVariants as statuses
+use Rattle.weighed_round.specs.printed_text.specs.Writing.{IsWritten, Wrote}
 use Rattle.bureau_reports.specs.Journals.{IsBookDue, IsMade, IsTextOf, broken_off, made, no_text_memory, report_status}
 use Rattle.bureau_reports.proofs.Written.{wrote_for, wrote_line}
 

@@ -7,12 +7,12 @@ use Rattle.setoff_checker.specs.declared.verdict.Verdict.{Verdict}
 use Rattle.setoff_checker.specs.declared.verdict.Verdict.TheVariants as verdict
 use Rattle.setoff_checker.specs.Verdicts.{FoundGreatest, IsVerdict}
 use Rattle.setoff_checker.proofs.Found.{found_exactly}
-use Rattle.printed_text.specs.declared.exit_status.ExitStatus.{ExitStatus}
-use Rattle.printed_text.specs.declared.exit_status.ExitStatus.TheVariants as statuses
-use Rattle.printed_text.specs.Statuses.{IsOneOf}
-use Rattle.printed_text.specs.Texts.{verdict_status}
-use Rattle.printed_text.specs.Writing.{Wrote}
-use Rattle.printed_text.proofs.Statuses.{in_front}
+use Rattle.weighed_round.specs.printed_text.specs.declared.exit_status.ExitStatus.{ExitStatus}
+use Rattle.weighed_round.specs.printed_text.specs.declared.exit_status.ExitStatus.TheVariants as statuses
+use Rattle.weighed_round.specs.printed_text.specs.Statuses.{IsOneOf}
+use Rattle.weighed_round.specs.printed_text.specs.Texts.{verdict_status}
+use Rattle.weighed_round.specs.printed_text.specs.Writing.{Wrote}
+use Rattle.weighed_round.specs.printed_text.proofs.Statuses.{in_front}
 use Rattle.command_words.specs.declared.input_report.InputReport.{InputReport}
 use Rattle.command_words.specs.declared.input_report.InputReport.TheVariants as inputs
 use Rattle.bureau_reports.specs.Inputs.{IsInputDue, IsTold, input_statuses, no_report_memory, out_of_form, reported}

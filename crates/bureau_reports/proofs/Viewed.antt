@@ -2,25 +2,25 @@
 use Rattle.std.specs.Prelude.{Option, if◌then◌else◌}
 use Rattle.std.proofs.Common.{◌≡◌, ◌∙◌, ◌⊎◌, ⊎_elim, inl, inr, ℕ, ◌≤◌, Bool, true, false, List, [], ◌∷◌, refl, subst, sym, true≢false, arith}
 use Rattle.fault_count.specs.Counts.{HasRisen}
-use Rattle.claim_history.specs.declared.call.PoolEntry.{PoolEntry}
-use Rattle.claim_history.specs.declared.entry.Reply.{Reply}
-use Rattle.claim_history.specs.declared.entry.Reply.TheVariants as reply
-use Rattle.claim_history.specs.History.{is_no_refusal}
-use Rattle.claim_history.specs.Laws.{IsReplyInRange}
+use Rattle.weighed_round.specs.claim_history.specs.declared.call.PoolEntry.{PoolEntry}
+use Rattle.weighed_round.specs.claim_history.specs.declared.entry.Reply.{Reply}
+use Rattle.weighed_round.specs.claim_history.specs.declared.entry.Reply.TheVariants as reply
+use Rattle.weighed_round.specs.claim_history.specs.History.{is_no_refusal}
+use Rattle.weighed_round.specs.claim_history.specs.Laws.{IsReplyInRange}
 use Rattle.bureau_desk.specs.declared.desk_refused.DeskCause.{DeskCause}
 use Rattle.bureau_desk.specs.declared.desk_refused.DeskCause.TheVariants.{Memory, Device, BadHeader, BadRecord, BadAct, Overfull}
 use Rattle.bureau_desk.specs.Opening.{HasDeskCause, HasViewCause, HasViewed}
-use Rattle.printed_text.specs.declared.exit_status.ExitStatus.{ExitStatus}
-use Rattle.printed_text.specs.declared.exit_status.ExitStatus.TheVariants as statuses
-use Rattle.printed_text.specs.Statuses.{IsOneOf}
-use Rattle.printed_text.specs.Writing.{Wrote}
+use Rattle.weighed_round.specs.printed_text.specs.declared.exit_status.ExitStatus.{ExitStatus}
+use Rattle.weighed_round.specs.printed_text.specs.declared.exit_status.ExitStatus.TheVariants as statuses
+use Rattle.weighed_round.specs.printed_text.specs.Statuses.{IsOneOf}
+use Rattle.weighed_round.specs.printed_text.specs.Writing.{Wrote}
 use Rattle.bureau_reports.specs.DiskTexts.{IsTellable, opening_status, unsound_status}
 use Rattle.command_words.specs.declared.journal_report.JournalReport.{JournalReport}
 use Rattle.command_words.specs.declared.journal_report.JournalReport.TheVariants as journals
 use Rattle.bureau_reports.specs.Journals.{IsBookDue, IsJournalDue, begun, broken_off, journal_statuses, made, no_text_memory, no_view_memory, report_status, unviewed_status, unviewed, viewed}
 use Rattle.command_words.specs.Words.{pool_of}
 use Rattle.history_text.specs.Histories.{was_published}
-use Rattle.printed_text.proofs.Statuses.{other_than}
+use Rattle.weighed_round.specs.printed_text.proofs.Statuses.{other_than}
 use Rattle.bureau_reports.proofs.Written.{told_status, wrote_among}
 
 -- a refusal has no amount

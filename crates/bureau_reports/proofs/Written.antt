@@ -3,11 +3,11 @@ use Rattle.std.specs.Prelude.{Option}
 use Rattle.std.proofs.Common.{◌≡◌, ◌⊎◌, ⊎_elim, inl, inr, ℕ, List, ◌∷◌, ◌++◌, refl, sym, subst}
 use Rattle.std.specs.Io.KnownBytes.{Appends}
 use Rattle.bureau_edge.proofs.Known.{Appends-then, AppendsPart-after}
-use Rattle.printed_text.specs.declared.exit_status.ExitStatus.{ExitStatus}
-use Rattle.printed_text.specs.declared.exit_status.ExitStatus.TheVariants as statuses
-use Rattle.printed_text.specs.Statuses.{IsOneOf}
-use Rattle.printed_text.specs.Texts.{memory_text}
-use Rattle.printed_text.specs.Writing.{IsWritten, Wrote, whole, broken}
+use Rattle.weighed_round.specs.printed_text.specs.declared.exit_status.ExitStatus.{ExitStatus}
+use Rattle.weighed_round.specs.printed_text.specs.declared.exit_status.ExitStatus.TheVariants as statuses
+use Rattle.weighed_round.specs.printed_text.specs.Statuses.{IsOneOf}
+use Rattle.weighed_round.specs.printed_text.specs.Texts.{memory_text}
+use Rattle.weighed_round.specs.printed_text.specs.Writing.{IsWritten, Wrote, whole, broken}
 use Rattle.command_words.specs.declared.input_report.InputReport.{InputReport}
 use Rattle.bureau_reports.specs.Inputs.{IsInputDue, no_report_memory}
 

@@ -5,16 +5,16 @@ use Rattle.setoff_model.specs.CutView.{CutView, OutcomeView, obligations}
 use Rattle.setoff_model.specs.Setoff.{Proves}
 use Rattle.setoff_checker.specs.declared.verdict.Verdict.{Verdict}
 use Rattle.setoff_checker.specs.Verdicts.{IsVerdict}
-use Rattle.chain_explain.specs.Chains.{ChainView, Explains}
-use Rattle.claim_history.specs.declared.act.Act.{Act}
-use Rattle.statement_text.specs.declared.error.StatementCause.{StatementCause}
-use Rattle.statement_text.specs.Causes.{HasCause}
-use Rattle.statement_text.specs.Statements.{IsStatement, IsFirstBadLine}
-use Rattle.firm_notices.specs.declared.error.RowCause.{RowCause}
-use Rattle.firm_notices.specs.Invoices.{IsFirstBadRow, IsInvoiceText, import_text}
-use Rattle.printed_text.specs.declared.exit_status.ExitStatus.{ExitStatus}
-use Rattle.printed_text.specs.declared.exit_status.ExitStatus.TheVariants as statuses
-use Rattle.printed_text.specs.Texts.{bad_row_text, bad_statement_text, memory_text, verdict_text, verdict_status}
+use Rattle.chain_text.specs.chain_explain.specs.Chains.{ChainView, Explains}
+use Rattle.weighed_round.specs.claim_history.specs.declared.act.Act.{Act}
+use Rattle.weighed_round.specs.statement_text.specs.declared.error.StatementCause.{StatementCause}
+use Rattle.weighed_round.specs.statement_text.specs.Causes.{HasCause}
+use Rattle.weighed_round.specs.statement_text.specs.Statements.{IsStatement, IsFirstBadLine}
+use Rattle.weighed_round.specs.firm_notices.specs.declared.error.RowCause.{RowCause}
+use Rattle.weighed_round.specs.firm_notices.specs.Invoices.{IsFirstBadRow, IsInvoiceText, import_text}
+use Rattle.weighed_round.specs.printed_text.specs.declared.exit_status.ExitStatus.{ExitStatus}
+use Rattle.weighed_round.specs.printed_text.specs.declared.exit_status.ExitStatus.TheVariants as statuses
+use Rattle.weighed_round.specs.printed_text.specs.Texts.{bad_row_text, bad_statement_text, memory_text, verdict_text, verdict_status}
 use Rattle.chain_text.specs.Texts.{chains_text}
 use Rattle.command_words.specs.declared.input_report.InputReport.{InputReport}
 use Rattle.command_words.specs.declared.input_report.InputReport.TheVariants as inputs

@@ -1,15 +1,15 @@
 -- Which status and which text a report on a journal comes to.
 use Rattle.std.specs.Prelude.{◌≡◌, Bool, ℕ, List, [], ◌∷◌, ◌++◌}
-use Rattle.claim_history.specs.declared.call.PoolEntry.{PoolEntry}
-use Rattle.claim_history.specs.Facts.{Ledger}
-use Rattle.claim_history.specs.Pools.{ledger_in}
+use Rattle.weighed_round.specs.claim_history.specs.declared.call.PoolEntry.{PoolEntry}
+use Rattle.weighed_round.specs.claim_history.specs.Facts.{Ledger}
+use Rattle.weighed_round.specs.claim_history.specs.Pools.{ledger_in}
 use Rattle.bureau_desk.specs.declared.desk_refused.DeskCause.{DeskCause}
 use Rattle.bureau_desk.specs.Opening.{HasViewCause, HasViewed}
-use Rattle.firm_notices.specs.Notices.{notices_text}
-use Rattle.firm_notices.specs.Positions.{positions_text}
-use Rattle.printed_text.specs.declared.exit_status.ExitStatus.{ExitStatus}
-use Rattle.printed_text.specs.declared.exit_status.ExitStatus.TheVariants as statuses
-use Rattle.printed_text.specs.Texts.{memory_text}
+use Rattle.weighed_round.specs.firm_notices.specs.Notices.{notices_text}
+use Rattle.weighed_round.specs.firm_notices.specs.Positions.{positions_text}
+use Rattle.weighed_round.specs.printed_text.specs.declared.exit_status.ExitStatus.{ExitStatus}
+use Rattle.weighed_round.specs.printed_text.specs.declared.exit_status.ExitStatus.TheVariants as statuses
+use Rattle.weighed_round.specs.printed_text.specs.Texts.{memory_text}
 use Rattle.weighed_round.specs.Weighed.{IsWeighedText}
 use Rattle.history_text.specs.Histories.{EndsAtPublication, IsRoundText, history_text, round_status, told_members}
 use Rattle.command_words.specs.declared.journal_report.JournalReport.{JournalReport}

@@ -1,3 +1,5 @@
 pub mod DiskTexts
 pub mod Inputs
 pub mod Journals
+pub use Rattle.command_words as command_words
+pub use Rattle.history_text as history_text

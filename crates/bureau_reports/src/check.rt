@@ -1,19 +1,21 @@
 //! The words `check`: from the bytes of a statement to the line of its verdict.
 ghost use Rattle.std.specs.Str.Lines.{lines};
 ghost use Rattle.command_words.specs.declared.input_report.InputReport.TheVariants as inputs;
-ghost use Rattle.statement_text.specs.Statements.{IsStatement};
-ghost use Rattle.printed_text.specs.Statuses.{TellsSinkFault};
-ghost use Rattle.printed_text.specs.Writing.{Wrote};
+ghost use Rattle.weighed_round.specs.statement_text.specs.Statements.{IsStatement};
+ghost use Rattle.weighed_round.specs.printed_text.specs.Statuses.{TellsSinkFault};
+ghost use Rattle.weighed_round.specs.printed_text.specs.Writing.{Wrote};
 ghost use Rattle.bureau_reports.specs.Inputs.{IsInputDue};
 
 use crate::statement::tell_bad_statement;
 use bureau_edge::Sink;
-use printed_text::{ExitStatus, end_with, status_of_verdict, tell_no_memory, write_verdict};
 use setoff_checker::Checker;
 use setoff_model::limits::LINE_BYTES;
 use setoff_model::{Cut, Outcome};
-use statement_text::{StatementError, read_statement};
 use std::alloc::Global;
+use weighed_round::printed_text::{
+    ExitStatus, end_with, status_of_verdict, tell_no_memory, write_verdict,
+};
+use weighed_round::statement_text::{StatementError, read_statement};
 
 // Judges a statement that was read.
 #[tactic(auto, using(crate::proofs::Written::input_memory))]

@@ -3,22 +3,22 @@ ghost use Rattle.std.specs.Prelude.{◌≡◌, ◌≤◌, [], vec_capacity};
 ghost use Rattle.std.specs.Str.Lines.{lines};
 ghost use Rattle.setoff_model.specs.declared.limits.TheConstants.{OUTPUT_BYTES};
 ghost use Rattle.command_words.specs.declared.input_report.InputReport.TheVariants as inputs;
-ghost use Rattle.statement_text.specs.Statements.{IsStatement};
-ghost use Rattle.printed_text.specs.Statuses.{TellsSinkFault};
-ghost use Rattle.printed_text.specs.Writing.{Wrote};
+ghost use Rattle.weighed_round.specs.statement_text.specs.Statements.{IsStatement};
+ghost use Rattle.weighed_round.specs.printed_text.specs.Statuses.{TellsSinkFault};
+ghost use Rattle.weighed_round.specs.printed_text.specs.Writing.{Wrote};
 ghost use Rattle.bureau_reports.specs.Inputs.{IsInputDue};
 
 use crate::statement::tell_bad_statement;
 use bureau_edge::Sink;
-use chain_explain::{Explainer, chains_explain};
+use chain_text::chain_explain::{Explainer, chains_explain};
 use chain_text::print_chains;
-use printed_text::{
-    ExitStatus, end_with, output_buffer, status_of_verdict, tell_no_memory, write_verdict,
-};
 use setoff_checker::{Checked, Checker, Refusal};
 use setoff_model::{Cut, Outcome};
-use statement_text::{StatementError, read_statement};
 use std::alloc::Global;
+use weighed_round::printed_text::{
+    ExitStatus, end_with, output_buffer, status_of_verdict, tell_no_memory, write_verdict,
+};
+use weighed_round::statement_text::{StatementError, read_statement};
 
 // Prints the chains of an outcome that is proved, through an empty buffer.
 #[tactic(auto, using(crate::proofs::Written::input_memory))]

@@ -5,10 +5,10 @@ ghost use Rattle.bureau_reports.specs.DiskTexts.{offset_of, record_why, fault_of
 ghost use Rattle.bureau_reports.specs.DiskTexts.{told_counts, opening_text, opening_status, IsTellable};
 
 use bureau_desk::DeskCause;
-use entry_text::write_reply;
-use printed_text::ExitStatus;
-use round_journal::RecordWhy;
+use bureau_desk::round_journal::RecordWhy;
 use setoff_model::{put, write_whole};
+use weighed_round::entry_text::write_reply;
+use weighed_round::printed_text::ExitStatus;
 
 fn offset_of(cause: DeskCause) -> u64
     ensures { result ≡ offset_of cause }

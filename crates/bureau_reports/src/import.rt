@@ -1,16 +1,16 @@
 //! Invoices as requests: from the bytes of CSV to the lines that file them.
 ghost use Rattle.command_words.specs.declared.input_report.InputReport.TheVariants as inputs;
-ghost use Rattle.request_text.specs.Lanes.{IsLane};
-ghost use Rattle.firm_notices.specs.Invoices.{IsFirstBadRow};
-ghost use Rattle.printed_text.specs.Statuses.{TellsSinkFault};
-ghost use Rattle.printed_text.specs.Writing.{Wrote};
+ghost use Rattle.weighed_round.specs.request_text.specs.Lanes.{IsLane};
+ghost use Rattle.weighed_round.specs.firm_notices.specs.Invoices.{IsFirstBadRow};
+ghost use Rattle.weighed_round.specs.printed_text.specs.Statuses.{TellsSinkFault};
+ghost use Rattle.weighed_round.specs.printed_text.specs.Writing.{Wrote};
 ghost use Rattle.bureau_reports.specs.Inputs.{IsInputDue};
 
 use bureau_edge::Sink;
-use firm_notices::{ImportError, RowCause, import};
-use printed_text::{ExitStatus, end_with, tell_no_memory, write_bad_row};
 use setoff_model::limits::LINE_BYTES;
 use std::alloc::Global;
+use weighed_round::firm_notices::{ImportError, RowCause, import};
+use weighed_round::printed_text::{ExitStatus, end_with, tell_no_memory, write_bad_row};
 
 // Tells the first row that is not in the grammar of invoices.
 #[tactic(auto, using(crate::proofs::Written::input_memory))]

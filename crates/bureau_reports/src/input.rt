@@ -1,8 +1,8 @@
 //! Reports on an input.
 ghost use Rattle.command_words.specs.declared.command.Command.TheVariants as commands;
 ghost use Rattle.command_words.specs.Words.{IsCommand};
-ghost use Rattle.printed_text.specs.Statuses.{IsOneOf, TellsSinkFault};
-ghost use Rattle.printed_text.specs.Writing.{Wrote};
+ghost use Rattle.weighed_round.specs.printed_text.specs.Statuses.{IsOneOf, TellsSinkFault};
+ghost use Rattle.weighed_round.specs.printed_text.specs.Writing.{Wrote};
 ghost use Rattle.bureau_reports.specs.Inputs.{IsInputDue, input_statuses};
 
 use crate::check::check_input;
@@ -10,8 +10,8 @@ use crate::explain::explain_input;
 use crate::import::import_input;
 use bureau_edge::Sink;
 use command_words::InputReport;
-use printed_text::ExitStatus;
 use std::alloc::Global;
+use weighed_round::printed_text::ExitStatus;
 
 /// Reads an input, and prints the report on it. Gives the status: `Done`; `No` where a statement's prices do not prove its
 /// discharges; `Form` where the input is not in form; `Memory` where there was none; `Sink` where the sink failed.

@@ -1,10 +1,10 @@
 //! Reports on a journal.
 ghost use Rattle.std.specs.Prelude.{◌≡◌, ◌≤◌, [], IfOk, vec_len, vec_capacity};
 ghost use Rattle.fault_count.specs.Counts.{HasRisen};
-ghost use Rattle.round_journal.specs.Opened.{IsQuiet};
-ghost use Rattle.printed_text.specs.declared.exit_status.ExitStatus.TheVariants as statuses;
-ghost use Rattle.printed_text.specs.Statuses.{IsOneOf, TellsSinkFault};
-ghost use Rattle.printed_text.specs.Writing.{Wrote};
+ghost use Rattle.bureau_desk.specs.round_journal.specs.Opened.{IsQuiet};
+ghost use Rattle.weighed_round.specs.printed_text.specs.declared.exit_status.ExitStatus.TheVariants as statuses;
+ghost use Rattle.weighed_round.specs.printed_text.specs.Statuses.{IsOneOf, TellsSinkFault};
+ghost use Rattle.weighed_round.specs.printed_text.specs.Writing.{Wrote};
 ghost use Rattle.setoff_model.specs.declared.limits.TheConstants.{OUTPUT_BYTES};
 ghost use Rattle.bureau_reports.specs.DiskTexts.{IsTellable, sound_text};
 ghost use Rattle.bureau_reports.specs.Journals.{IsBookDue, IsJournalDue, IsMade, IsTextOf, journal_statuses, unviewed_status, unviewed_text};
@@ -13,14 +13,14 @@ use crate::fault_line::{status_of_opening, write_opening_fault};
 use crate::sound_line::{status_of_unsound, write_sound, write_unsound};
 use bureau_desk::{Desk, DeskCause};
 use bureau_edge::Sink;
-use claim_book::Books;
 use command_words::JournalReport;
 use disk_model::Disk;
-use firm_notices::{notices, positions};
 use history_text::{print_history, print_round};
-use printed_text::{ExitStatus, end_with, output_buffer, tell_no_memory};
 use setoff_model::limits::LINE_BYTES;
 use std::alloc::{AllocError, Global};
+use weighed_round::claim_book::Books;
+use weighed_round::firm_notices::{notices, positions};
+use weighed_round::printed_text::{ExitStatus, end_with, output_buffer, tell_no_memory};
 use weighed_round::weigh;
 
 // The line of an audit of a sound journal.

@@ -20,6 +20,8 @@ mod refused;
 mod sound_line;
 mod statement;
 
+pub use command_words;
 pub use input::report_input;
 pub use journal::report_journal;
 pub use refused::tell_refused;
+pub use weighed_round::printed_text;

@@ -1,14 +1,14 @@
 //! What an audit finds.
 ghost use Rattle.std.specs.Prelude.{◌≡◌, ◌+◌, ◌≤◌, ◌++◌, count_by, vec_len, vec_capacity};
 ghost use Rattle.setoff_model.specs.declared.limits.TheConstants.{LINE_BYTES};
-ghost use Rattle.claim_history.specs.Acts.{is_publication};
+ghost use Rattle.weighed_round.specs.claim_history.specs.Acts.{is_publication};
 ghost use Rattle.bureau_reports.specs.DiskTexts.{sound_text, unsound_text, unsound_status, IsTellable};
 
 use crate::fault_line::{status_of_opening, write_opening_fault, write_told};
 use bureau_desk::DeskCause;
-use claim_book::Books;
-use printed_text::ExitStatus;
 use setoff_model::{put, write_whole};
+use weighed_round::claim_book::Books;
+use weighed_round::printed_text::ExitStatus;
 
 // How many acts of all pools publish a round.
 fn rounds_in(books: &Books) -> u64

@@ -1,17 +1,17 @@
 //! A statement that is not in form.
 ghost use Rattle.std.specs.Str.Lines.{lines};
 ghost use Rattle.command_words.specs.declared.input_report.InputReport.TheVariants as inputs;
-ghost use Rattle.statement_text.specs.Causes.{HasCause};
-ghost use Rattle.statement_text.specs.Statements as statements;
-ghost use Rattle.printed_text.specs.Statuses.{TellsSinkFault};
-ghost use Rattle.printed_text.specs.Writing.{Wrote};
+ghost use Rattle.weighed_round.specs.statement_text.specs.Causes.{HasCause};
+ghost use Rattle.weighed_round.specs.statement_text.specs.Statements as statements;
+ghost use Rattle.weighed_round.specs.printed_text.specs.Statuses.{TellsSinkFault};
+ghost use Rattle.weighed_round.specs.printed_text.specs.Writing.{Wrote};
 ghost use Rattle.bureau_reports.specs.Inputs.{IsInputDue};
 
 use bureau_edge::Sink;
-use printed_text::{ExitStatus, end_with, tell_no_memory, write_bad_statement};
 use setoff_model::limits::LINE_BYTES;
-use statement_text::StatementCause;
 use std::alloc::Global;
+use weighed_round::printed_text::{ExitStatus, end_with, tell_no_memory, write_bad_statement};
+use weighed_round::statement_text::StatementCause;
 
 /// Tells the first line that is not in the grammar of statements.
 #[tactic(auto, using(crate::proofs::Written::input_memory))]

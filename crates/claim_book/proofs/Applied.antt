@@ -6,18 +6,19 @@ use Rattle.std.proofs.lemmas.List.Quantifiers.{position-Some}
 use Rattle.setoff_model.specs.Same.{same_name}
 use Rattle.setoff_model.proofs.Lists.{position_none}
 use Rattle.setoff_model.proofs.SameNames.{name_same}
-use Rattle.name_index.proofs.Pushed.{pushed_here}
-use Rattle.name_index.proofs.Rows.{no_row, row_place}
-use Rattle.claim_history.specs.declared.entry.Entry.{Entry}
-use Rattle.claim_history.specs.declared.call.PoolEntry.{PoolEntry}
-use Rattle.claim_history.specs.Acts.{is_valid}
-use Rattle.claim_history.specs.History as one
-use Rattle.claim_history.specs.Pools.{MayFollow, entries_in, member_of}
-use Rattle.claim_history.proofs.Pools.{pools_law}
+use Rattle.round_cut.specs.name_index.proofs.Pushed.{pushed_here}
+use Rattle.round_cut.specs.name_index.proofs.Rows.{no_row, row_place}
+use Rattle.round_cut.specs.claim_history.specs.declared.entry.Entry.{Entry}
+use Rattle.round_cut.specs.claim_history.specs.declared.call.PoolEntry.{PoolEntry}
+use Rattle.round_cut.specs.claim_history.specs.Acts.{is_valid}
+use Rattle.round_cut.specs.claim_history.specs.History as one
+use Rattle.round_cut.specs.claim_history.specs.Pools.{MayFollow, entries_in, member_of}
+use Rattle.round_cut.specs.claim_history.proofs.Pools.{pools_law}
 use Rattle.claim_book.specs.Changes.{HasGrown, HasRoomMade, IsNew}
 use Rattle.claim_book.specs.Pools.{AreBooks, BooksParts, BooksView, KeepsRooms, PoolRoom, is_book, members_at, no_book, room_in, rooms_of}
 use Rattle.claim_book.specs.declared.pool_book.PoolBook.{PoolBook}
 use Rattle.claim_book.specs.declared.pool_book.Place.{Place}
+use Rattle.claim_book.proofs.Kept.{fits_same, one_left}
 use Rattle.claim_book.proofs.Pools.{are_grown, are_pushed, are_roomy, entries_are, found_room, kept_room, members_grow, members_push, members_stay, no_history, no_room, promised_room, room_push, room_made, room_shrinks, rooms_grow, rooms_stay}
 
 abbrev pub view_of : BooksParts → BooksView
@@ -31,6 +32,10 @@ within_get (x ∷ xs) (suc i) d e lt = within_get xs i d e (omega (arith, lt))
 
 pub kept_at : (pool : List ℕ) (books : List PoolBook) (i : ℕ) (kept : PoolBook) → position (is_book pool) books ≡ Some i → kept ≡ get_or books i kept → kept ≡ get_or books i no_book
 kept_at pool books i kept found is = is ∙ within_get books i kept no_book (position-Some (is_book pool) books i no_book found).0
+
+-- the place of a book is one of the list
+pub stands_within : (pool : List ℕ) (books : List PoolBook) (i len : ℕ) → position (is_book pool) books ≡ Some i → length books ≡ len → i < len
+stands_within pool books i len found same = subst (λ (n : ℕ). i < n) same (position-Some (is_book pool) books i no_book found).0
 
 module _ (parts : BooksParts) (are : AreBooks parts) (now : BooksView) (view_is : view_of parts ≡ now) (pool : List ℕ) where
   members_are : members_at parts.books parts.places ≡ now.members
@@ -88,6 +93,13 @@ module _ (parts : BooksParts) (are : AreBooks parts) (now : BooksView) (view_is 
 
     pub room_promised : kept.room ≤ parts.promised
     room_promised = subst (λ (b : PoolBook). b.room ≤ parts.promised) (sym kept_is) (promised_room parts are pool i found kept)
+
+    -- where there is room for one, a place is promised for it, and is there
+    pub promised_one : (need : ℕ) → 1 ≤ need → need ≤ room_in pool now.rooms → 1 ≤ parts.promised
+    promised_one need one fits = one_left kept.room parts.promised (one_left need kept.room one (fits_same need need kept.room _ refl room_is fits)) room_promised
+
+    pub spare_one : (need : ℕ) → 1 ≤ need → need ≤ room_in pool now.rooms → 1 ≤ parts.spare
+    spare_one need one fits = one_left parts.promised parts.spare (promised_one need one fits) are.promised_kept
 
     pub may_follow : (e : Entry) → MayFollow now.members (member_of pool e) → one.MayFollow kept.book.history e
     may_follow e next = subst (λ (es : List Entry). one.MayFollow es e) (sym history_is) (pools_law.next now.members (member_of pool e) next)

@@ -5,22 +5,22 @@ use Rattle.std.proofs.lemmas.List.{map-append, get_or-map}
 use Rattle.std.proofs.lemmas.List.Quantifiers.{position-Some}
 use Rattle.setoff_model.specs.declared.name.Key.{Key}
 use Rattle.setoff_model.specs.Same.{same_name, same_key}
-use Rattle.claim_history.specs.declared.act.Act.{Act}
-use Rattle.claim_history.specs.declared.act.Act.TheVariants as act
-use Rattle.claim_history.specs.declared.entry.Entry.{Entry}
-use Rattle.claim_history.specs.declared.entry.Reply.{Reply}
-use Rattle.claim_history.specs.declared.entry.Reply.TheVariants as reply
-use Rattle.claim_history.specs.declared.fact.ClaimFact.{ClaimFact}
-use Rattle.claim_history.specs.declared.fact.AccountFact.{AccountFact}
-use Rattle.claim_history.specs.declared.fact.Status.TheVariants as status
-use Rattle.claim_history.specs.Acts.{is_publication}
-use Rattle.claim_history.specs.Facts.{is_registered, filing_of, claim_facts, account_facts}
-use Rattle.claim_history.specs.States.{OpenRound, State, state_of, after, is_in_cut, is_held}
-use Rattle.claim_history.specs.History.{answer, is_no_refusal, is_opening, IsReply, IsLegal, firm_refusals, file_refusals}
-use Rattle.claim_history.specs.Laws.{KeepAmounts}
-use Rattle.claim_history.proofs.Greatest.{reply_published}
-use Rattle.claim_history.proofs.Replies.{accepted_due}
-use Rattle.claim_history.proofs.Rows.{name_is, key_is}
+use Rattle.round_cut.specs.claim_history.specs.declared.act.Act.{Act}
+use Rattle.round_cut.specs.claim_history.specs.declared.act.Act.TheVariants as act
+use Rattle.round_cut.specs.claim_history.specs.declared.entry.Entry.{Entry}
+use Rattle.round_cut.specs.claim_history.specs.declared.entry.Reply.{Reply}
+use Rattle.round_cut.specs.claim_history.specs.declared.entry.Reply.TheVariants as reply
+use Rattle.round_cut.specs.claim_history.specs.declared.fact.ClaimFact.{ClaimFact}
+use Rattle.round_cut.specs.claim_history.specs.declared.fact.AccountFact.{AccountFact}
+use Rattle.round_cut.specs.claim_history.specs.declared.fact.Status.TheVariants as status
+use Rattle.round_cut.specs.claim_history.specs.Acts.{is_publication}
+use Rattle.round_cut.specs.claim_history.specs.Facts.{is_registered, filing_of, claim_facts, account_facts}
+use Rattle.round_cut.specs.claim_history.specs.States.{OpenRound, State, state_of, after, is_in_cut, is_held}
+use Rattle.round_cut.specs.claim_history.specs.History.{answer, is_no_refusal, is_opening, IsReply, IsLegal, firm_refusals, file_refusals}
+use Rattle.round_cut.specs.claim_history.specs.Laws.{KeepAmounts}
+use Rattle.round_cut.specs.claim_history.proofs.Greatest.{reply_published}
+use Rattle.round_cut.specs.claim_history.proofs.Replies.{accepted_due}
+use Rattle.round_cut.specs.claim_history.proofs.Rows.{name_is, key_is}
 use Rattle.fact_tables.specs.Marks.{no_marks, claim_marks_after, account_marks_after, mark_at}
 use Rattle.fact_tables.specs.Tables.{restated, with_status, reduced, with_receipt, claims_after, funded, drawn, limited, offered, accounts_after}
 use Rattle.fact_tables.proofs.Keyed.{same_keys, if_same}

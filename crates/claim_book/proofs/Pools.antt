@@ -10,13 +10,13 @@ use Rattle.std.proofs.lemmas.List.Folds.{find-set}
 use Rattle.std.proofs.lemmas.List.Quantifiers.{position-Some}
 use Rattle.std.proofs.lemmas.List.Sums.{get_or-le-sum_by, sum_by-append, sum_by-cons, sum_by-set}
 use Rattle.setoff_model.specs.Same.{same_name}
-use Rattle.name_index.proofs.Rows.{longer}
+use Rattle.round_cut.specs.name_index.proofs.Rows.{longer}
 use Rattle.setoff_model.proofs.SameNames.{name_same, same_name_is}
-use Rattle.claim_history.specs.declared.entry.Entry.{Entry}
-use Rattle.claim_history.specs.declared.call.PoolEntry.{PoolEntry}
-use Rattle.claim_history.specs.Acts.{is_valid}
-use Rattle.claim_history.specs.Pools.{IsLegal, AreValid, MayFollow, entries_in, entries_of, member_of}
-use Rattle.claim_history.proofs.Pools.{in_other, in_own, join_law}
+use Rattle.round_cut.specs.claim_history.specs.declared.entry.Entry.{Entry}
+use Rattle.round_cut.specs.claim_history.specs.declared.call.PoolEntry.{PoolEntry}
+use Rattle.round_cut.specs.claim_history.specs.Acts.{is_valid}
+use Rattle.round_cut.specs.claim_history.specs.Pools.{IsLegal, AreValid, MayFollow, entries_in, entries_of, member_of}
+use Rattle.round_cut.specs.claim_history.proofs.Pools.{in_other, in_own, join_law}
 use Rattle.fact_tables.proofs.Places.{find_no_place, find_place}
 use Rattle.claim_book.specs.Changes.{HasGrown, HasRoomMade, IsNew}
 use Rattle.claim_book.specs.Pools.{AreBooks, BooksParts, IsPlace, KeepsRooms, history_found, history_in, is_book, member_at, members_at, no_book, no_entry, room_in, rooms_of}

@@ -1,11 +1,11 @@
 -- The books of all pools.
 use Rattle.std.specs.Prelude.{◌≡◌, ◌<◌, ◌≤◌, ℕ, Bool, false, List, [], ◌∷◌, All, map, length, get_or, find, sum_by, Option, Some, None, if◌then◌else◌}
 use Rattle.setoff_model.specs.Same.{same_name}
-use Rattle.claim_history.specs.declared.act.Act.TheVariants as act
-use Rattle.claim_history.specs.declared.entry.Entry.{Entry}
-use Rattle.claim_history.specs.declared.call.PoolEntry.{PoolEntry}
-use Rattle.claim_history.specs.declared.entry.Reply.TheVariants as reply
-use Rattle.claim_history.specs.Pools.{IsLegal, AreValid, entries_in, member_of}
+use Rattle.round_cut.specs.claim_history.specs.declared.act.Act.TheVariants as act
+use Rattle.round_cut.specs.claim_history.specs.declared.entry.Entry.{Entry}
+use Rattle.round_cut.specs.claim_history.specs.declared.call.PoolEntry.{PoolEntry}
+use Rattle.round_cut.specs.claim_history.specs.declared.entry.Reply.TheVariants as reply
+use Rattle.round_cut.specs.claim_history.specs.Pools.{IsLegal, AreValid, entries_in, member_of}
 use Rattle.claim_book.specs.Book.{BookView}
 use Rattle.claim_book.specs.declared.pool_book.PoolBook.{PoolBook}
 use Rattle.claim_book.specs.declared.pool_book.Place.{Place}

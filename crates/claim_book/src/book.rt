@@ -4,13 +4,13 @@ ghost use Rattle.std.specs.Option.{option_map};
 ghost use Rattle.setoff_model.specs.declared.limits.TheConstants.{MOST_ROUNDS};
 ghost use Rattle.setoff_model.specs.declared.kind.Kind.{Kind};
 ghost use Rattle.setoff_model.specs.CutView.{WellFormed};
-ghost use Rattle.claim_history.specs.declared.act.Act.TheVariants as act;
-ghost use Rattle.claim_history.specs.Facts.{claim_facts, account_facts};
-ghost use Rattle.claim_history.specs.Cut.{cut_of};
-ghost use Rattle.claim_history.specs.States.{state_of, number_of, is_in_cut, is_held};
-ghost use Rattle.claim_history.specs.History.{answer_of, IsLegal, AreValid, MayFollow, is_opening};
-ghost use Rattle.claim_history.specs.Acts.{is_valid, is_publication};
-ghost use Rattle.claim_history.specs.Laws.{KeepLimits, KeepAmounts, IsWithin, OpenIsFrozen};
+ghost use Rattle.round_cut.specs.claim_history.specs.declared.act.Act.TheVariants as act;
+ghost use Rattle.round_cut.specs.claim_history.specs.Facts.{claim_facts, account_facts};
+ghost use Rattle.round_cut.specs.claim_history.specs.Cut.{cut_of};
+ghost use Rattle.round_cut.specs.claim_history.specs.States.{state_of, number_of, is_in_cut, is_held};
+ghost use Rattle.round_cut.specs.claim_history.specs.History.{answer_of, IsLegal, AreValid, MayFollow, is_opening};
+ghost use Rattle.round_cut.specs.claim_history.specs.Acts.{is_valid, is_publication};
+ghost use Rattle.round_cut.specs.claim_history.specs.Laws.{KeepLimits, KeepAmounts, IsWithin, OpenIsFrozen};
 ghost use Rattle.fact_tables.specs.Marks.{no_marks};
 ghost use Rattle.claim_book.specs.Book.{is_abandoned, ledger_of, claim_in, account_in, position_in, room_for, room_needed, KeepsRoom, open_cut_of, GivesCut};
 
@@ -24,8 +24,10 @@ use crate::round::{
     KeptRound, end_round, horizon_of, is_funded_round, keep_round, outcome_in, take_cut,
 };
 use crate::round_answer::{answer_abandon, answer_close};
-use claim_history::{AccountFact, Act, ClaimFact, Day, Entry, Position, Reply, accepted};
 use fact_tables::{AccountTable, ClaimTable};
+use round_cut::claim_history::{
+    AccountFact, Act, ClaimFact, Day, Entry, Position, Reply, accepted,
+};
 use round_cut::{build_cut, cut_of_a_history_is_of_its_facts};
 use setoff_model::{Cut, Key, Kind, Name};
 use std::alloc::{AllocError, Global};
@@ -404,5 +406,5 @@ fn put_entry(entries: &mut Vec<Entry>, entry: Entry)
     ensures len { vec_len entries.new ≡ vec_len entries.old + 1 }
     ensures capacity { vec_capacity entries.old ≤ vec_capacity entries.new }
 {
-    let _ = entries.push(entry);
+    entries.push_reserved(entry);
 }

@@ -2,10 +2,10 @@
 ghost use Rattle.std.specs.Prelude.{ℕ, ◌≡◌, ◌^◌, ◌<◌, ◌+◌, ◌≤◌, ◌++◌, ◌∷◌, [], List, length, is_some, position, slice_get, map, Some, None, IfOk, IfErr, OnOk, OnErr, vec_len, vec_capacity, true, false};
 ghost use Rattle.std.specs.Option.{option_map};
 ghost use Rattle.setoff_model.specs.declared.limits.TheConstants.{MOST_ROUNDS};
-ghost use Rattle.claim_history.specs.History.{is_opening};
-ghost use Rattle.claim_history.specs.Acts.{is_valid, is_publication};
-ghost use Rattle.claim_history.specs.Pools.{IsLegal, AreValid, MayFollow, call_of, due_reply, entries_in, member_of, open_round_in, state_in};
-ghost use Rattle.claim_history.specs.PoolRounds.{IsCutDue, open_cut_in};
+ghost use Rattle.round_cut.specs.claim_history.specs.History.{is_opening};
+ghost use Rattle.round_cut.specs.claim_history.specs.Acts.{is_valid, is_publication};
+ghost use Rattle.round_cut.specs.claim_history.specs.Pools.{IsLegal, AreValid, MayFollow, call_of, due_reply, entries_in, member_of, open_round_in, state_in};
+ghost use Rattle.round_cut.specs.claim_history.specs.PoolRounds.{IsCutDue, open_cut_in};
 ghost use Rattle.claim_book.specs.Book.{room_for, room_needed, KeepsRoom, GivesCut};
 ghost use Rattle.setoff_model.specs.Same.{same_name};
 ghost use Rattle.claim_book.specs.Changes.{IsNew};
@@ -13,8 +13,8 @@ ghost use Rattle.claim_book.specs.Pools.{KeepsRooms, is_book, room_in, rooms_of,
 
 use crate::book::Book;
 use crate::pool_book::{Place, PoolBook, apply_in, close_in, make_room, publish_in};
-use claim_history::{Act, Entry, Reply, each_pool_has_its_history};
-use name_index::NameIndex;
+use round_cut::claim_history::{Act, Entry, Reply, each_pool_has_its_history};
+use round_cut::name_index::NameIndex;
 use setoff_model::{Cut, Name};
 use std::alloc::{AllocError, Global};
 use std::marker::Model;
@@ -295,7 +295,7 @@ fn put_book(books: &mut Vec<PoolBook>, book: PoolBook)
     requires { vec_len books.old < vec_capacity books.old }
     ensures { books.new.items ≡ books.old.items ++ book ∷ [] }
 {
-    let _ = books.push(book);
+    books.push_reserved(book);
 }
 
 // Puts a place at the end of those that there is room for.
@@ -305,5 +305,5 @@ fn put_place(places: &mut Vec<Place>, place: Place)
     ensures len { vec_len places.new ≡ vec_len places.old + 1 }
     ensures capacity { vec_capacity places.old ≤ vec_capacity places.new }
 {
-    let _ = places.push(place);
+    places.push_reserved(place);
 }

@@ -20,3 +20,5 @@ mod round_answer;
 
 pub use book::Book;
 pub use books::Books;
+pub use round_cut;
+pub use round_cut::claim_history;

@@ -2,16 +2,16 @@
 ghost use Rattle.std.specs.Prelude.{◌≡◌, ◌+◌, ◌-◌, ◌<◌, ◌≤◌, length, vec_len, vec_capacity, true, false, OnOk, OnErr, ℕ};
 ghost use Rattle.setoff_model.specs.declared.limits.TheConstants.{MOST_ROUNDS};
 ghost use Rattle.setoff_model.specs.declared.kind.Kind.{Kind};
-ghost use Rattle.claim_history.specs.declared.act.Act.TheVariants as acts;
-ghost use Rattle.claim_history.specs.Cut.{cut_of};
-ghost use Rattle.claim_history.specs.States.{state_of};
-ghost use Rattle.claim_history.specs.History.{MayFollow, is_opening};
-ghost use Rattle.claim_history.specs.Acts.{is_valid, is_publication};
+ghost use Rattle.round_cut.specs.claim_history.specs.declared.act.Act.TheVariants as acts;
+ghost use Rattle.round_cut.specs.claim_history.specs.Cut.{cut_of};
+ghost use Rattle.round_cut.specs.claim_history.specs.States.{state_of};
+ghost use Rattle.round_cut.specs.claim_history.specs.History.{MayFollow, is_opening};
+ghost use Rattle.round_cut.specs.claim_history.specs.Acts.{is_valid, is_publication};
 ghost use Rattle.claim_book.specs.Book.{ledger_of, room_for, room_needed, GivesCut};
 ghost use Rattle.claim_book.specs.Changes.{HasGrown, HasRoomMade};
 
 use crate::book::Book;
-use claim_history::{Act, Entry};
+use round_cut::claim_history::{Act, Entry};
 use setoff_model::{Cut, Name};
 use std::alloc::AllocError;
 

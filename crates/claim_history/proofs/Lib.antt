@@ -20,16 +20,12 @@ pub mod Sizes
 pub mod Formulas
 pub mod Shapes
 pub mod Ranges
-pub mod Worked
 pub mod Register
 pub mod Calls
 pub mod Published
 pub mod OneCut
 pub mod Open
 pub mod Valid
-mod WorkedRounds
-mod WorkedNeeds
-mod WorkedPools
 pub mod Room
 pub mod Pools
 pub mod PoolRoom

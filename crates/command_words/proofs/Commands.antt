@@ -10,7 +10,7 @@ use Rattle.setoff_model.specs.declared.kind.Kind.{Kind}
 use Rattle.setoff_model.specs.declared.kind.Kind.TheVariants.{Plain, Funded}
 use Rattle.setoff_model.specs.Names.{is_letter, is_name}
 use Rattle.setoff_model.specs.Texts.{kind_text}
-use Rattle.claim_history.specs.Days.{DayTextsLaw, day_text}
+use Rattle.request_text.specs.claim_history.specs.Days.{DayTextsLaw, day_text}
 use Rattle.command_words.specs.declared.command.Command.{Command}
 use Rattle.command_words.specs.declared.command.Command.TheVariants as commands
 use Rattle.command_words.specs.declared.input_report.InputReport.TheVariants as inputs

@@ -1,3 +1,4 @@
 pub mod Commands
 pub mod Found
 pub mod Walks
+pub mod Chains

@@ -3,7 +3,7 @@ use Rattle.std.specs.Prelude.{◌≡◌, ◌==◌, ℕ, Bool, false, List, [], �
 use Rattle.std.specs.Option.{IsSomeAnd}
 use Rattle.clap.specs.Walk.{Row, first_of}
 use Rattle.setoff_model.specs.Texts.{kind_text}
-use Rattle.claim_history.specs.Days.{day_text}
+use Rattle.request_text.specs.claim_history.specs.Days.{day_text}
 use Rattle.command_words.specs.declared.command.Command.{Command}
 use Rattle.command_words.specs.declared.command.Command.TheVariants as commands
 use Rattle.command_words.specs.declared.input_report.InputReport.TheVariants as inputs

@@ -3,8 +3,8 @@ use Rattle.std.specs.Prelude.{◌≡◌, ◌≤◌, ◌<◌, ◌^◌, ℕ, List,
 use Rattle.setoff_model.specs.declared.limits.TheConstants.{LAST_DAY, MOST_FIRMS, MOST_CLAIMS}
 use Rattle.setoff_model.specs.Names.{is_name}
 use Rattle.setoff_model.specs.Texts.{kind_text}
-use Rattle.claim_history.specs.Days.{day_text}
-use Rattle.claim_history.specs.Pools.{main_pool}
+use Rattle.request_text.specs.claim_history.specs.Days.{day_text}
+use Rattle.request_text.specs.claim_history.specs.Pools.{main_pool}
 use Rattle.request_text.specs.Lanes.{IsLane}
 use Rattle.command_words.specs.declared.command.Command.{Command}
 use Rattle.command_words.specs.declared.command.Command.TheVariants as commands

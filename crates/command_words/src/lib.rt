@@ -21,12 +21,12 @@ mod program;
 mod reading;
 mod usage;
 
-use claim_history::days_are_civil_dates;
 pub use command::Command;
 pub use error::WordsError;
 pub use input_report::InputReport;
 pub use journal_report::JournalReport;
 pub use reading::command_of;
+use request_text::claim_history::days_are_civil_dates;
 pub use usage::USAGE;
 
 /// Two commands with the same words are one. A law, which does nothing when it is called.

@@ -1,130 +1,103 @@
 //! The program as `clap` sees it: one level of subcommands with positional words.
-ghost use Rattle.std.specs.Prelude.{◌≡◌, ◌∷◌, [], IfOk, codes, false};
-ghost use Rattle.clap.specs.Words.{app_of, with_rule};
+ghost use Rattle.std.specs.Prelude.{◌≡◌, ◌<◌, ◌+◌, ◌++◌, ◌∷◌, [], All, IfOk, OnOk, map, false, vec_len, vec_capacity};
+ghost use Rattle.clap.specs.Words.{app_of, rule_of};
+ghost use Rattle.clap.specs.Words.{shape_of as made};
 ghost use Rattle.clap.specs.declared.builder.command.Command.TheViews.{out-Command};
-ghost use Rattle.command_words.specs.Program.{knowing, plain, program as whole, shape_of, trial_values, value, value_of};
+ghost use Rattle.command_words.specs.Program.{program as whole, shape_of, value_of};
 
 use clap::{Arg, Command};
 use std::alloc::{AllocError, Global};
 
-// The command with one more value, which it asks for, or which may be left out.
-fn taking<'a>(
-    alloc: Global,
-    command: Command<'a>,
-    id: &'a str,
-    asked: bool,
-) -> Result<Command<'a>, AllocError>
-    ensures shape { IfOk result (λ c. app_of c ≡ with_rule (app_of command.entry) (value_of id.entry.now asked)) }
-    ensures globals { (out-Command command.entry).has_globals ≡ false → IfOk result (λ c. (out-Command c).has_globals ≡ false) }
-{
-    command.arg(Arg::new(alloc, id).required(asked))
-}
+// The commands, each with its values in order: the name of a value, and whether the command asks for it.
+static COMMANDS: [(&str, &[(&str, bool)]); 12] = [
+    ("run", &[]),
+    ("live", &[]),
+    ("check", &[]),
+    ("explain", &[]),
+    ("audit", &[]),
+    ("positions", &[("POOL", false)]),
+    ("notices", &[("DATE", true), ("POOL", false)]),
+    ("import", &[("LANE", true)]),
+    ("weigh", &[("KIND", true), ("DATE", true)]),
+    ("history", &[("POOL", false)]),
+    ("statement", &[("ROUND", true), ("POOL", false)]),
+    (
+        "trial",
+        &[("FIRMS", true), ("CLAIMS", true), ("SEED", true)],
+    ),
+];
 
-// A command that takes one value, added to the program.
-fn with_one<'a>(
-    alloc: Global,
-    program: Command<'a>,
-    name: &'a str,
-    id: &'a str,
-    asked: bool,
-) -> Result<Command<'a>, AllocError>
-    ensures shape { IfOk result (λ c. app_of c ≡ knowing name.entry.now (value_of id.entry.now asked ∷ []) (app_of program.entry)) }
+// The values of a command, in order.
+fn args_of<'a>(alloc: Global, values: &[(&'a str, bool)]) -> Result<Vec<Arg<'a>>, AllocError>
+    ensures rules { IfOk result (λ args. map (λ a. rule_of a) args.items ≡ map (λ v. value_of v.0.now v.1) values.now) }
+    ensures local { IfOk result (λ args. All (λ a. a.global ≡ false) args.items) }
 {
-    match taking(alloc, Command::new(alloc, name), id, asked) {
-        Ok(command) => program.subcommand(command),
-        Err(e) => {
-            drop(program);
-            Err(e)
-        }
+    let mut args = Vec::with_capacity(alloc, values.len())?;
+    for (id, asked) in values {
+        args.push_reserved(Arg::new(alloc, *id).required(*asked));
     }
+    Ok(args)
 }
 
-// A command that takes two values, the first of which it asks for.
-fn of_two<'a>(
+// A command with its values.
+fn command_of<'a>(
     alloc: Global,
     name: &'a str,
-    first: &'a str,
-    second: &'a str,
-    asked: bool,
+    values: &[(&'a str, bool)],
 ) -> Result<Command<'a>, AllocError>
-    ensures shape { IfOk result (λ c. (app_of c).top ≡ shape_of name.entry.now (value first.entry.now ∷ value_of second.entry.now asked ∷ [])) }
-    ensures globals { IfOk result (λ c. (out-Command c).has_globals ≡ false) }
+    ensures shape { IfOk result (λ c. made c ≡ shape_of name.entry.now (map (λ v. value_of v.0.now v.1) values.now)) }
+    ensures local { IfOk result (λ c. (out-Command c).has_globals ≡ false) }
 {
-    let command = taking(alloc, Command::new(alloc, name), first, true)?;
-    let command = taking(alloc, command, second, asked)?;
-    Ok(command)
+    let args = args_of(alloc, values)?;
+    Command::new(alloc, name).args(args)
 }
 
-// The same, added to the program.
-fn with_two<'a>(
+// Puts a command with its values at the end of those that there is room for.
+fn add<'a>(
     alloc: Global,
-    program: Command<'a>,
+    commands: &mut Vec<Command<'a>>,
     name: &'a str,
-    first: &'a str,
-    second: &'a str,
-    asked: bool,
-) -> Result<Command<'a>, AllocError>
-    ensures shape { IfOk result (λ c. app_of c ≡ knowing name.entry.now (value first.entry.now ∷ value_of second.entry.now asked ∷ []) (app_of program.entry)) }
+    values: &[(&'a str, bool)],
+) -> Result<(), AllocError>
+    requires { vec_len commands.old < vec_capacity commands.old }
+    ensures shapes { OnOk result (map (λ c. made c) commands.new.items ≡ map (λ c. made c) commands.old.items ++ shape_of name.entry.now (map (λ v. value_of v.0.now v.1) values.now) ∷ []) }
+    ensures local { All (λ c. (out-Command c).has_globals ≡ false) commands.old.items → OnOk result (All (λ c. (out-Command c).has_globals ≡ false) commands.new.items) }
+    ensures len { OnOk result (vec_len commands.new ≡ vec_len commands.old + 1) }
+    ensures capacity { vec_capacity commands.new ≡ vec_capacity commands.old }
 {
-    match of_two(alloc, name, first, second, asked) {
-        Ok(command) => program.subcommand(command),
-        Err(e) => {
-            drop(program);
-            Err(e)
-        }
+    commands.push_reserved(command_of(alloc, name, values)?);
+    Ok(())
+}
+
+// The table of the commands.
+fn table() -> &'static [(&'static str, &'static [(&'static str, bool)])]
+    ensures { map (λ r. shape_of r.0.now (map (λ v. value_of v.0.now v.1) r.1.now)) result.now ≡ whole.subs }
+{
+    &COMMANDS
+}
+
+// All commands, in order.
+fn commands<'a>(alloc: Global) -> Result<Vec<Command<'a>>, AllocError>
+    ensures shapes { IfOk result (λ cs. map (λ c. made c) cs.items ≡ whole.subs) }
+    ensures local { IfOk result (λ cs. All (λ c. (out-Command c).has_globals ≡ false) cs.items) }
+{
+    let rows = table();
+    let mut commands = Vec::with_capacity(alloc, rows.len())?;
+    for (name, values) in rows {
+        add(alloc, &mut commands, *name, *values)?;
     }
-}
-
-// The command `trial`, which takes three values.
-fn trial<'a>(alloc: Global) -> Result<Command<'a>, AllocError>
-    ensures shape { IfOk result (λ c. (app_of c).top ≡ shape_of (codes "trial") trial_values) }
-    ensures globals { IfOk result (λ c. (out-Command c).has_globals ≡ false) }
-{
-    let trial = taking(alloc, Command::new(alloc, "trial"), "FIRMS", true)?;
-    let trial = taking(alloc, trial, "CLAIMS", true)?;
-    let trial = taking(alloc, trial, "SEED", true)?;
-    Ok(trial)
-}
-
-// The same, added to the program.
-fn with_trial<'a>(alloc: Global, program: Command<'a>) -> Result<Command<'a>, AllocError>
-    ensures shape { IfOk result (λ c. app_of c ≡ knowing (codes "trial") trial_values (app_of program.entry)) }
-{
-    match trial(alloc) {
-        Ok(trial) => program.subcommand(trial),
-        Err(e) => {
-            drop(program);
-            Err(e)
-        }
-    }
-}
-
-// The commands that take values, added to the program.
-fn with_values<'a>(alloc: Global, program: Command<'a>) -> Result<Command<'a>, AllocError>
-    ensures shape { app_of program.entry ≡ plain → IfOk result (λ c. app_of c ≡ whole) }
-{
-    let known = with_one(alloc, program, "positions", "POOL", false)?;
-    let known = with_two(alloc, known, "notices", "DATE", "POOL", false)?;
-    let known = with_one(alloc, known, "import", "LANE", true)?;
-    let known = with_two(alloc, known, "weigh", "KIND", "DATE", true)?;
-    let known = with_one(alloc, known, "history", "POOL", false)?;
-    let known = with_two(alloc, known, "statement", "ROUND", "POOL", false)?;
-    with_trial(alloc, known)
+    Ok(commands)
 }
 
 /// The program with its commands. The only error is that memory is missing.
 pub(crate) fn program<'a>(alloc: Global) -> Result<Command<'a>, AllocError>
     ensures shape { IfOk result (λ c. app_of c ≡ whole) }
 {
-    let program = Command::new(alloc, "bureau")
+    let commands = commands(alloc)?;
+    Command::new(alloc, "bureau")
         .no_binary_name(true)
         .disable_help_flag(true)
         .disable_help_subcommand(true)
         .subcommand_required(true)
-        .subcommand(Command::new(alloc, "run"))?
-        .subcommand(Command::new(alloc, "live"))?
-        .subcommand(Command::new(alloc, "check"))?
-        .subcommand(Command::new(alloc, "explain"))?
-        .subcommand(Command::new(alloc, "audit"))?;
-    with_values(alloc, program)
+        .subcommands(commands)
 }

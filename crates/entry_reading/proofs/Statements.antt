@@ -16,8 +16,8 @@ use Rattle.text_lines.proofs.Cutting.{feed}
 use Rattle.text_lines.proofs.Visible.{visible_law}
 use Rattle.statement_text.specs.declared.line.Line.TheVariants as line
 use Rattle.statement_text.specs.Statements.{claim_line, claim_lines, firm_at, party_lines, statement_bytes}
-use Rattle.printed_text.specs.Printing.{IsPrintable, line_bytes, lines_bytes}
-use Rattle.printed_text.proofs.Printing.{discharge_each, discharges_fit, price_each, prices_fit, statement_of_lists}
+use Rattle.batch_runs.specs.printed_text.specs.Printing.{IsPrintable, line_bytes, lines_bytes}
+use Rattle.batch_runs.specs.printed_text.proofs.Printing.{discharge_each, discharges_fit, price_each, prices_fit, statement_of_lists}
 use Rattle.entry_reading.proofs.Lines.{NoFeed, line_both, parts_at, word_no_feed}
 
 -- ---- the last field of a line

@@ -28,19 +28,19 @@ use Rattle.claim_history.specs.PoolRounds.{open_cut_in}
 use Rattle.claim_history.proofs.Pasts.{legal_first}
 use Rattle.claim_history.proofs.Pools.{in_append, legal_in, past_own}
 use Rattle.claim_history.proofs.Replies.{publishes}
-use Rattle.limited_book.specs.declared.room.Room.{Room}
-use Rattle.limited_book.specs.declared.room.Room.TheVariants.{Entries, Bytes}
+use Rattle.batch_runs.specs.limited_book.specs.declared.room.Room.{Room}
+use Rattle.batch_runs.specs.limited_book.specs.declared.room.Room.TheVariants.{Entries, Bytes}
 use Rattle.text_lines.proofs.Cutting.{feed}
 use Rattle.text_lines.proofs.Visible.{visible_law}
 use Rattle.statement_text.specs.Statements.{statement_bytes}
-use Rattle.served_lines.specs.declared.answer.Answer.{Answer}
-use Rattle.served_lines.specs.declared.line_end.LineEnd.{LineEnd}
-use Rattle.served_lines.specs.declared.line_end.LineEnd.TheVariants as ends
+use Rattle.batch_runs.specs.served_lines.specs.declared.answer.Answer.{Answer}
+use Rattle.batch_runs.specs.served_lines.specs.declared.line_end.LineEnd.{LineEnd}
+use Rattle.batch_runs.specs.served_lines.specs.declared.line_end.LineEnd.TheVariants as ends
 use Rattle.entry_text.specs.Entries.{entry_line, entry_text}
 use Rattle.request_text.specs.Pools.{pool_text}
-use Rattle.printed_text.specs.Printing.{IsPrintable, added_text, end_text, ends_text, member_text, rounds_in, statement_of}
-use Rattle.printed_text.specs.Texts.{room_text}
-use Rattle.printed_text.proofs.Printing.{none_stated}
+use Rattle.batch_runs.specs.printed_text.specs.Printing.{IsPrintable, added_text, end_text, ends_text, member_text, rounds_in, statement_of}
+use Rattle.batch_runs.specs.printed_text.specs.Texts.{room_text}
+use Rattle.batch_runs.specs.printed_text.proofs.Printing.{none_stated}
 use Rattle.batch_runs.specs.Runs.{Done, all_added, text_of}
 use Rattle.history_text.proofs.Stated.{stated}
 use Rattle.entry_reading.specs.Shown.{IsEntry, ShowSame, shown_act}

@@ -6,8 +6,8 @@ use Rattle.claim_history.specs.declared.entry.Entry.{Entry}
 use Rattle.claim_history.specs.Acts.{is_publication}
 use Rattle.claim_history.specs.History.{is_accepted}
 use Rattle.claim_history.specs.Pools.{AreValid, IsLegal}
-use Rattle.served_lines.specs.declared.line_end.LineEnd.{LineEnd}
-use Rattle.served_lines.specs.declared.line_end.LineEnd.TheVariants as ends
+use Rattle.batch_runs.specs.served_lines.specs.declared.line_end.LineEnd.{LineEnd}
+use Rattle.batch_runs.specs.served_lines.specs.declared.line_end.LineEnd.TheVariants as ends
 use Rattle.batch_runs.specs.Runs.{Done, all_added, text_of}
 use Rattle.entry_reading.specs.Shown.{IsEntry, ShowSame}
 

@@ -1,14 +1,14 @@
 -- The line of an entry.
 use Rattle.std.specs.Prelude.{ℕ, List, [], ◌++◌, codes, decimal}
 use Rattle.setoff_model.specs.Texts.{cents_text, signed_cents_text}
-use Rattle.claim_history.specs.Acts.{act_text}
-use Rattle.claim_history.specs.declared.fact.Position.{Position}
-use Rattle.claim_history.specs.declared.call.PoolEntry.{PoolEntry}
-use Rattle.claim_history.specs.declared.entry.Entry.{Entry}
-use Rattle.claim_history.specs.declared.entry.Why.{Why}
-use Rattle.claim_history.specs.declared.entry.Why.TheVariants as why
-use Rattle.claim_history.specs.declared.entry.Reply.{Reply}
-use Rattle.claim_history.specs.declared.entry.Reply.TheVariants as reply
+use Rattle.request_text.specs.claim_history.specs.Acts.{act_text}
+use Rattle.request_text.specs.claim_history.specs.declared.fact.Position.{Position}
+use Rattle.request_text.specs.claim_history.specs.declared.call.PoolEntry.{PoolEntry}
+use Rattle.request_text.specs.claim_history.specs.declared.entry.Entry.{Entry}
+use Rattle.request_text.specs.claim_history.specs.declared.entry.Why.{Why}
+use Rattle.request_text.specs.claim_history.specs.declared.entry.Why.TheVariants as why
+use Rattle.request_text.specs.claim_history.specs.declared.entry.Reply.{Reply}
+use Rattle.request_text.specs.claim_history.specs.declared.entry.Reply.TheVariants as reply
 use Rattle.request_text.specs.Pools.{pool_text}
 
 -- the number and name of a refusal

@@ -2,12 +2,12 @@
 ghost use Rattle.std.specs.Prelude.{◌≡◌, ◌+◌, ◌<◌, ◌≤◌, ◌++◌, unsigned_abs, length, codes, decimal, true, vec_len, vec_capacity};
 ghost use Rattle.setoff_model.specs.declared.limits.TheConstants.{SUM_LIMIT, LINE_BYTES};
 ghost use Rattle.setoff_model.specs.Texts.{cents_text, signed_cents_text};
-ghost use Rattle.claim_history.specs.Acts.{is_valid};
-ghost use Rattle.claim_history.specs.Laws.{IsReplyInRange};
-ghost use Rattle.claim_history.specs.Pools.{member_of};
+ghost use Rattle.request_text.specs.claim_history.specs.Acts.{is_valid};
+ghost use Rattle.request_text.specs.claim_history.specs.Laws.{IsReplyInRange};
+ghost use Rattle.request_text.specs.claim_history.specs.Pools.{member_of};
 ghost use Rattle.entry_text.specs.Entries.{why_name, why_numbers, why_text, spaced, position_text, reply_text, entry_line, entry_text};
 
-use claim_history::{Entry, PoolEntry, Position, Reply, Why, write_act};
+use request_text::claim_history::{Entry, PoolEntry, Position, Reply, Why, write_act};
 use request_text::write_pool;
 use setoff_model::{Name, put, write_sum, write_whole};
 

@@ -235,7 +235,7 @@ fn mark_new(marks: &mut Vec<bool>, entry: &Entry)
     ensures capacity { vec_capacity marks.old ≤ vec_capacity marks.new }
 {
     if accepted(entry) && matches!(&entry.act, Act::Firm { .. }) {
-        let _ = marks.push(false);
+        marks.push_reserved(false);
     }
 }
 
@@ -285,7 +285,7 @@ fn add_account(accounts: &mut Vec<AccountFact>, names: &mut NameIndex, firm: &Na
     ensures capacity { vec_capacity accounts.old ≤ vec_capacity accounts.new }
 {
     names.add(*firm);
-    let _ = accounts.push(AccountFact {
+    accounts.push_reserved(AccountFact {
         firm: *firm,
         balance: 0,
         credit: 0,

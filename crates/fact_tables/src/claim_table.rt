@@ -245,8 +245,8 @@ impl ClaimTable {
         self.keys.add(*key);
         self.receivables.begin(&key.creditor);
         self.payables.begin(debtor);
-        let _ = self.marks.push(false);
-        let _ = self.facts.push(ClaimFact {
+        self.marks.push_reserved(false);
+        self.facts.push_reserved(ClaimFact {
             key: *key,
             debtor: *debtor,
             status: Status::Filed,

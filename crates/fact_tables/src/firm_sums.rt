@@ -77,7 +77,7 @@ impl FirmSums {
     {
         if self.firms.place(firm).is_none() {
             self.firms.add(*firm);
-            let _ = self.sums.push(0);
+            self.sums.push_reserved(0);
         }
     }
 

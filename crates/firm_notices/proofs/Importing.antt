@@ -12,8 +12,8 @@ use Rattle.csv.specs.Machine.{Read, next_record}
 use Rattle.csv.specs.Reading.{Reached, default_config, strip_bom, is_bom}
 use Rattle.csv.specs.declared.parser.State.TheVariants as st
 use Rattle.csv.specs.declared.reader.Reader.{Reader}
-use Rattle.claim_history.specs.declared.act.Act.{Act}
-use Rattle.claim_history.specs.Pools.{main_pool}
+use Rattle.claim_book.specs.claim_history.specs.declared.act.Act.{Act}
+use Rattle.claim_book.specs.claim_history.specs.Pools.{main_pool}
 use Rattle.request_text.specs.Grammar.{Asked, request_line, batch_text}
 use Rattle.firm_notices.specs.declared.error.RowCause.{RowCause}
 use Rattle.firm_notices.specs.declared.error.RowCause.TheVariants as cause

@@ -5,10 +5,10 @@ use Rattle.std.proofs.lemmas.List.Folds.{list_any_at}
 use Rattle.std.proofs.lemmas.List.Elements.{All-map}
 use Rattle.setoff_model.specs.Same.{same_name}
 use Rattle.setoff_model.proofs.SameNames.{name_same}
-use Rattle.claim_history.specs.Facts.{Ledger, firms, is_registered, account_fact, account_facts, position_of}
-use Rattle.claim_history.proofs.Pasts.{all_reverse}
+use Rattle.claim_book.specs.claim_history.specs.Facts.{Ledger, firms, is_registered, account_fact, account_facts, position_of}
+use Rattle.claim_book.specs.claim_history.proofs.Pasts.{all_reverse}
 use Rattle.claim_book.specs.Book.{position_in}
-use Rattle.claim_history.specs.declared.fact.AccountFact.{AccountFact}
+use Rattle.claim_book.specs.claim_history.specs.declared.fact.AccountFact.{AccountFact}
 
 firms_known : (l : Ledger) → All (λ (firm : List ℕ). is_registered l firm ≡ true) (firms l)
 firms_known l = λ i d lt. list_any_at (same_name (get_or (firms l) i d)) (firms l) i d lt (name_same (get_or (firms l) i d))

@@ -10,11 +10,11 @@ use Rattle.csv.specs.declared.parser.State.{State}
 use Rattle.csv.specs.declared.parser.State.TheVariants as st
 use Rattle.setoff_model.specs.Names.{is_name}
 use Rattle.setoff_model.specs.Texts.{cents_text}
-use Rattle.claim_history.specs.Days.{day_text}
-use Rattle.claim_history.specs.Acts.{is_key, is_claim_amount, is_day, is_request, act_fields}
-use Rattle.claim_history.specs.declared.act.Act.{Act}
-use Rattle.claim_history.specs.declared.act.Act.TheVariants as act
-use Rattle.claim_history.proofs.Shapes.{act_texts_law}
+use Rattle.claim_book.specs.claim_history.specs.Days.{day_text}
+use Rattle.claim_book.specs.claim_history.specs.Acts.{is_key, is_claim_amount, is_day, is_request, act_fields}
+use Rattle.claim_book.specs.claim_history.specs.declared.act.Act.{Act}
+use Rattle.claim_book.specs.claim_history.specs.declared.act.Act.TheVariants as act
+use Rattle.claim_book.specs.claim_history.proofs.Shapes.{act_texts_law}
 use Rattle.firm_notices.specs.declared.error.RowCause.{RowCause}
 use Rattle.firm_notices.specs.declared.error.RowCause.TheVariants as cause
 use Rattle.firm_notices.specs.Invoices.{invoice_names, IsInvoice, AreInvoices, IsInvoiceText, HasCause, IsBadInvoice, IsFirstBadRow, OneReadingLaw, FiledLaw, asked_of}

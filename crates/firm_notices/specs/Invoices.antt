@@ -1,7 +1,7 @@
 -- Invoices as CSV: a row of names, and below it a row for each invoice, which are read as FILE requests.
 use Rattle.std.specs.Prelude.{◌≡◌, ◌≢◌, ℕ, ◌+◌, List, [], ◌∷◌, ◌++◌, length, map, codes}
-use Rattle.claim_history.specs.declared.act.Act.{Act}
-use Rattle.claim_history.specs.Pools.{main_pool}
+use Rattle.claim_book.specs.claim_history.specs.declared.act.Act.{Act}
+use Rattle.claim_book.specs.claim_history.specs.Pools.{main_pool}
 use Rattle.request_text.specs.Grammar.{AreArgs, Asked, request_line, batch_text, numbered, IsRequestText}
 use Rattle.request_text.specs.Lanes.{IsLane}
 use Rattle.request_text.specs.Causes.{forms_of, IsFirstBadField}

@@ -1,12 +1,12 @@
 -- The notices: the open claims, with the days that each is overdue.
 use Rattle.std.specs.Prelude.{ℕ, ◌-◌, Bool, not, ◌&&◌, nat_lt, List, [], ◌∷◌, map, filter, codes, decimal}
 use Rattle.setoff_model.specs.Texts.{cents_text}
-use Rattle.claim_history.specs.Days.{day_text}
-use Rattle.claim_history.specs.Facts.{Ledger, claim_facts}
-use Rattle.claim_history.specs.History.{is_withdrawn}
-use Rattle.claim_history.specs.declared.fact.ClaimFact.{ClaimFact}
-use Rattle.claim_history.specs.declared.fact.Status.{Status}
-use Rattle.claim_history.specs.declared.fact.Status.TheVariants as status
+use Rattle.claim_book.specs.claim_history.specs.Days.{day_text}
+use Rattle.claim_book.specs.claim_history.specs.Facts.{Ledger, claim_facts}
+use Rattle.claim_book.specs.claim_history.specs.History.{is_withdrawn}
+use Rattle.claim_book.specs.claim_history.specs.declared.fact.ClaimFact.{ClaimFact}
+use Rattle.claim_book.specs.claim_history.specs.declared.fact.Status.{Status}
+use Rattle.claim_book.specs.claim_history.specs.declared.fact.Status.TheVariants as status
 use Rattle.firm_notices.specs.Tables.{csv_text}
 
 -- the word of a status

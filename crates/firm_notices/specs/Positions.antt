@@ -1,9 +1,9 @@
 -- The positions: the account of each firm, with what it is owed and owes.
 use Rattle.std.specs.Prelude.{ℕ, List, [], ◌∷◌, map, codes}
 use Rattle.setoff_model.specs.Texts.{cents_text, signed_cents_text}
-use Rattle.claim_history.specs.Facts.{Ledger, account_facts, position_of}
-use Rattle.claim_history.specs.declared.fact.AccountFact.{AccountFact}
-use Rattle.claim_history.specs.declared.fact.Position.{Position}
+use Rattle.claim_book.specs.claim_history.specs.Facts.{Ledger, account_facts, position_of}
+use Rattle.claim_book.specs.claim_history.specs.declared.fact.AccountFact.{AccountFact}
+use Rattle.claim_book.specs.claim_history.specs.declared.fact.Position.{Position}
 use Rattle.firm_notices.specs.Tables.{csv_text}
 
 -- the names of the fields

@@ -1,6 +1,6 @@
 //! Invoices as FILE requests.
 ghost use Rattle.std.specs.Prelude.{◌≡◌, ◌∷◌, [], List, length, OnOk, IfOk, IfErr};
-ghost use Rattle.claim_history.specs.declared.act.Act.{Act};
+ghost use Rattle.claim_book.specs.claim_history.specs.declared.act.Act.{Act};
 ghost use Rattle.request_text.specs.Lanes.{IsLane};
 ghost use Rattle.csv.specs.Records.{fields_of};
 ghost use Rattle.firm_notices.specs.Rows.{StandsAt};
@@ -9,7 +9,7 @@ ghost use Rattle.firm_notices.specs.Invoices.{invoice_names, IsInvoiceText, IsFi
 use crate::error::{ImportError, RowCause};
 use crate::invoice::{has_names, invoice_of};
 use crate::rows::{next_row, reader_of};
-use claim_history::main_pool_name;
+use claim_book::claim_history::main_pool_name;
 use csv::{ByteRecord, Reader};
 use request_text::write_request;
 use setoff_model::limits::LINE_BYTES;

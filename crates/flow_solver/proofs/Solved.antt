@@ -9,7 +9,7 @@ use Rattle.setoff_model.specs.CutView.{spends, rooms}
 use Rattle.setoff_model.proofs.Weighed.{total_of_ones, bound_of_ones}
 use Rattle.netting_graph.specs.declared.arc.Arc.{Arc}
 use Rattle.netting_graph.specs.NetView.{NetView, IsNet, IsArcAmong, obligations_of_net, arc_debtors, arc_creditors, arc_amounts}
-use Rattle.residual_network.specs.declared.edge.Edge.{Edge}
+use Rattle.residual_state.specs.residual_network.specs.declared.edge.Edge.{Edge}
 use Rattle.residual_state.specs.declared.state.State.{State}
 use Rattle.residual_state.specs.Edges.{IsClaimEdge, tails, heads, capacities, rewards}
 use Rattle.residual_state.specs.States.{IsStateOf, IsFound, weighed_edges}

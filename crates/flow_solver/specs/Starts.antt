@@ -2,7 +2,7 @@
 use Rattle.std.specs.Prelude.{map}
 use Rattle.netting_graph.specs.declared.arc.Arc.{Arc}
 use Rattle.netting_graph.specs.NetView.{NetView, obligations_of_net}
-use Rattle.residual_network.specs.declared.edge.Edge.{Edge}
+use Rattle.residual_state.specs.residual_network.specs.declared.edge.Edge.{Edge}
 use Rattle.residual_state.specs.States.{Weighed}
 
 -- the arc of a search for an arc of the net

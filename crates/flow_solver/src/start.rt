@@ -4,7 +4,7 @@ ghost use Rattle.residual_state.specs.States.{IsStateOf};
 ghost use Rattle.flow_solver.specs.Starts.{claim_edge, unweighed};
 
 use netting_graph::{Arc, Net};
-use residual_network::Edge;
+use residual_state::residual_network::Edge;
 use residual_state::{State, state_at_start};
 use std::alloc::{AllocError, Global};
 

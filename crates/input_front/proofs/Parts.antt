@@ -8,7 +8,7 @@ use Rattle.std.specs.Str.Lines.{lines, lines_of_parts, strip_carriage_return}
 use Rattle.std.proofs.Math.Seq.{take-add}
 use Rattle.std.proofs.lemmas.List.{append-nil, get_or-take, get_or_default, take-append-drop, take_more}
 use Rattle.std.proofs.lemmas.List.Splits.{slice_split_at, slice_split_none, length-slice_split}
-use Rattle.text_lines.proofs.Cutting.{feed, last_line, some_parts}
+use Rattle.request_text.specs.text_lines.proofs.Cutting.{feed, last_line, some_parts}
 use Rattle.input_front.specs.Front.{is_feed, whole_lines, whole_of_parts}
 use Rattle.input_front.specs.Taken.{HasNoFeed, IsEnded, IsWhole}
 

@@ -4,7 +4,7 @@ use Rattle.std.specs.Prelude.{All, codes, flat_map}
 use Rattle.std.proofs.lemmas.List.{append-nil}
 use Rattle.std.proofs.lemmas.List.Concat.{flat_map-cons}
 use Rattle.std.proofs.lemmas.List.Elements.{All-cons, All-nil}
-use Rattle.claim_history.specs.declared.act.Act.{Act}
+use Rattle.request_text.specs.claim_history.specs.declared.act.Act.{Act}
 use Rattle.request_text.specs.declared.request.Request.{Request}
 use Rattle.request_text.specs.Lanes.{fence}
 use Rattle.request_text.specs.Grammar.{AreBatches, Asked, CanBeAsked, IsLine, IsRequestText, all_numbered, batches_text, request_line}

@@ -3,7 +3,7 @@ use Rattle.std.specs.Prelude.{◌≡◌, ℕ, Bool, true, List, [], ◌∷◌, �
 use Rattle.std.specs.List.{slice_split}
 use Rattle.std.specs.Str.Lines.{lines, strip_carriage_return}
 use Rattle.std.proofs.Common.{eqb}
-use Rattle.claim_history.specs.declared.act.Act.{Act}
+use Rattle.request_text.specs.claim_history.specs.declared.act.Act.{Act}
 use Rattle.request_text.specs.declared.request.Request.{Request}
 use Rattle.request_text.specs.Lanes.{fence}
 use Rattle.request_text.specs.Causes.{IsBadLine}

@@ -1,7 +1,7 @@
 //! One line of an input, read alone.
 ghost use Rattle.std.specs.Prelude.{◌≡◌, ℕ, true, List, [], ◌∷◌};
 ghost use Rattle.std.specs.Str.Lines.{lines};
-ghost use Rattle.claim_history.specs.Acts.{is_request};
+ghost use Rattle.request_text.specs.claim_history.specs.Acts.{is_request};
 ghost use Rattle.input_front.specs.Front.{Says};
 ghost use Rattle.input_front.specs.declared.line.Line.TheVariants as line;
 

@@ -3,13 +3,13 @@ use Rattle.std.specs.Prelude.{reverse}
 use Rattle.std.proofs.Common.{◌≡◌, Bool, true, false, not, ◌||◌, List, [], ◌∷◌, ◌++◌, map, All, refl, sym, ◌∙◌, ap, subst, true≢false}
 use Rattle.std.proofs.lemmas.List.{reverse-reverse}
 use Rattle.std.proofs.lemmas.List.Elements.{All-head, All-tail}
-use Rattle.claim_history.specs.declared.call.Call.{Call}
-use Rattle.claim_history.specs.declared.call.PoolEntry.{PoolEntry}
-use Rattle.claim_history.specs.History.{is_accepted, is_no_refusal}
-use Rattle.claim_history.specs.Pools.{due_member, due_of_past, due_reply, replay_after}
-use Rattle.claim_history.specs.PoolNeeds.{FitsPast, IsWithinLimitsPast, is_full}
-use Rattle.claim_history.proofs.Pasts.{all_reverse}
-use Rattle.claim_history.proofs.PoolRoom.{full_law}
+use Rattle.limited_book.specs.claim_history.specs.declared.call.Call.{Call}
+use Rattle.limited_book.specs.claim_history.specs.declared.call.PoolEntry.{PoolEntry}
+use Rattle.limited_book.specs.claim_history.specs.History.{is_accepted, is_no_refusal}
+use Rattle.limited_book.specs.claim_history.specs.Pools.{due_member, due_of_past, due_reply, replay_after}
+use Rattle.limited_book.specs.claim_history.specs.PoolNeeds.{FitsPast, IsWithinLimitsPast, is_full}
+use Rattle.limited_book.specs.claim_history.proofs.Pasts.{all_reverse}
+use Rattle.limited_book.specs.claim_history.proofs.PoolRoom.{full_law}
 use Rattle.round_journal.specs.declared.record.Record.{Record}
 use Rattle.journal_replay.specs.Replays.{AreSound, IsFirstFaulty, recorded_call, history_of, is_faulty}
 use Rattle.journal_replay.specs.Laws.{FirstLaw, SoundLaw}

@@ -4,16 +4,16 @@ use Rattle.std.proofs.Common.{◌≡◌, Bool, true, false, not, ◌||◌, List,
 use Rattle.std.proofs.lemmas.Bool.{false_from_ne_true}
 use Rattle.std.proofs.lemmas.List.{map-append, reverse-append, reverse-reverse}
 use Rattle.std.proofs.lemmas.List.Elements.{All-push}
-use Rattle.claim_history.specs.declared.entry.Reply.{Reply}
-use Rattle.claim_history.specs.declared.call.Call.{Call}
-use Rattle.claim_history.specs.declared.call.PoolEntry.{PoolEntry}
-use Rattle.claim_history.specs.Acts.{is_publication, is_close}
-use Rattle.claim_history.specs.History.{is_accepted, is_no_refusal, is_opening, replied}
-use Rattle.claim_history.specs.Pools.{IsLegal, answered, due_member, due_of_past, due_reply, replay_after, state_in, with_due}
-use Rattle.claim_history.specs.PoolNeeds.{IsWithinLimits, is_full}
-use Rattle.claim_history.proofs.Kept.{replay_append}
-use Rattle.claim_history.proofs.PoolRoom.{due_is, use_law}
-use Rattle.claim_history.proofs.Replies.{opens}
+use Rattle.limited_book.specs.claim_history.specs.declared.entry.Reply.{Reply}
+use Rattle.limited_book.specs.claim_history.specs.declared.call.Call.{Call}
+use Rattle.limited_book.specs.claim_history.specs.declared.call.PoolEntry.{PoolEntry}
+use Rattle.limited_book.specs.claim_history.specs.Acts.{is_publication, is_close}
+use Rattle.limited_book.specs.claim_history.specs.History.{is_accepted, is_no_refusal, is_opening, replied}
+use Rattle.limited_book.specs.claim_history.specs.Pools.{IsLegal, answered, due_member, due_of_past, due_reply, replay_after, state_in, with_due}
+use Rattle.limited_book.specs.claim_history.specs.PoolNeeds.{IsWithinLimits, is_full}
+use Rattle.limited_book.specs.claim_history.proofs.Kept.{replay_append}
+use Rattle.limited_book.specs.claim_history.proofs.PoolRoom.{due_is, use_law}
+use Rattle.limited_book.specs.claim_history.proofs.Replies.{opens}
 use Rattle.round_journal.specs.declared.record.Record.{Record}
 use Rattle.limited_book.proofs.Limits.{publication_of}
 use Rattle.journal_replay.specs.declared.replay_stop.ReplayStop.{ReplayStop}

@@ -1,20 +1,14 @@
 -- The replay of a journal's records: the history of their calls, and the first record that is refused or full.
-use Rattle.std.specs.Prelude.{◌≡◌, ℕ, Bool, true, false, not, ◌||◌, List, All, ◌∷◌, ◌++◌, map}
-use Rattle.claim_history.specs.declared.call.Call.{Call}
-use Rattle.claim_history.specs.declared.call.PoolEntry.{PoolEntry}
-use Rattle.claim_history.specs.History.{is_accepted, is_no_refusal}
-use Rattle.claim_history.specs.Pools.{due_reply, replay_of, with_due}
-use Rattle.claim_history.specs.PoolNeeds.{Fits, IsWithinLimits, is_full}
+use Rattle.std.specs.Prelude.{◌≡◌, ℕ, Bool, true, false, not, ◌||◌, List, All, ◌∷◌, ◌++◌}
+use Rattle.limited_book.specs.claim_history.specs.declared.call.Call.{Call}
+use Rattle.limited_book.specs.claim_history.specs.declared.call.PoolEntry.{PoolEntry}
+use Rattle.limited_book.specs.claim_history.specs.History.{is_accepted, is_no_refusal}
+use Rattle.limited_book.specs.claim_history.specs.Pools.{due_reply, with_due}
+use Rattle.limited_book.specs.claim_history.specs.PoolNeeds.{Fits, IsWithinLimits, is_full}
 use Rattle.round_journal.specs.declared.record.Record.{Record}
-pub use Rattle.round_journal.specs.Records.{recorded_call}
+pub use Rattle.round_journal.specs.Records.{history_of, recorded_call}
 use Rattle.journal_replay.specs.declared.replay_stop.ReplayStop.{ReplayStop}
 use Rattle.journal_replay.specs.declared.replay_stop.ReplayStop.TheVariants.{Memory, BadAct, Overfull}
-
--- ---- the history of records
-
--- the calls of the records in turn, each with the one reply of its pool
-abbrev pub history_of : List Record → List PoolEntry
-history_of records = replay_of (map recorded_call records)
 
 -- each call is accepted, and was within the limits when it was asked
 pub record AreSound (records : List Record) : Type 0 where

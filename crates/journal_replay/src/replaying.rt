@@ -1,17 +1,17 @@
 //! The replay of a journal's records.
 ghost use Rattle.std.specs.Prelude.{◌≡◌, ◌≤◌, [], IfOk, IfErr, OnOk, true, false};
-ghost use Rattle.claim_history.specs.Acts.{is_valid, is_publication, is_close};
-ghost use Rattle.claim_history.specs.History.{is_opening, is_no_refusal};
-ghost use Rattle.claim_history.specs.Pools.{due_reply, state_in};
-ghost use Rattle.claim_book.specs.Book.{room_for};
-ghost use Rattle.claim_book.specs.Pools.{room_in};
-ghost use Rattle.act_bodies.specs.Bodies.{is_keepable};
+ghost use Rattle.limited_book.specs.claim_history.specs.Acts.{is_valid, is_publication, is_close};
+ghost use Rattle.limited_book.specs.claim_history.specs.History.{is_opening, is_no_refusal};
+ghost use Rattle.limited_book.specs.claim_history.specs.Pools.{due_reply, state_in};
+ghost use Rattle.limited_book.specs.claim_book.specs.Book.{room_for};
+ghost use Rattle.limited_book.specs.claim_book.specs.Pools.{room_in};
+ghost use Rattle.limited_book.specs.act_bodies.specs.Bodies.{is_keepable};
 ghost use Rattle.round_journal.specs.Records.{AreKeepable};
 ghost use Rattle.journal_replay.specs.Replays.{history_of, recorded_call, AreSound, StopsFirst, Tells, IsReplayed};
 
 use crate::replay_stop::ReplayStop;
-use claim_history::{Act, Call, Entry, Reply};
 use limited_book::LimitedBooks;
+use limited_book::claim_history::{Act, Call, Entry, Reply};
 use round_journal::Record;
 use std::alloc::Global;
 

@@ -1,6 +1,6 @@
 //! Tests of journals.
 
-use crate::made::{disk_of, file};
+use crate::made::{ABANDON, EAST_A, FIRM_A, disk_of, file};
 use claim_history::{Act, is_main};
 use disk_model::{Disk, FileDisk, MemoryDisk};
 use round_journal::{Device, Journal, JournalCause, Record, RecordWhy, read_records};
@@ -8,14 +8,6 @@ use std::alloc::Global;
 use std::fs::{self, File};
 use std::process::Abort;
 use std::rt::Files;
-
-// The body of caller 1 and FIRM A, and that of caller 0 and ABANDON.
-const FIRM_A: [u8; 7] = [0, 0, 0, 1, 1, 1, b'A'];
-
-const ABANDON: [u8; 5] = [0, 0, 0, 0, 13];
-
-// The first of them in the pool EAST.
-const EAST_A: [u8; 13] = [0, 0, 0, 1, 15, 4, b'E', b'A', b'S', b'T', 1, 1, b'A'];
 
 // A journal with one record, of FIRM A.
 const ONE: [u8; 21] = [

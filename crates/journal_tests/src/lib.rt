@@ -12,6 +12,8 @@ mod desks;
 #[cfg(test)]
 mod disks;
 #[cfg(test)]
+mod groups;
+#[cfg(test)]
 mod journals;
 #[cfg(test)]
 mod made;

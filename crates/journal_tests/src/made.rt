@@ -7,6 +7,15 @@ use std::fs::File;
 use std::process::Abort;
 use std::rt::Files;
 
+/// The body of caller 1 and FIRM A.
+pub(crate) const FIRM_A: [u8; 7] = [0, 0, 0, 1, 1, 1, b'A'];
+
+/// The same in the pool EAST.
+pub(crate) const EAST_A: [u8; 13] = [0, 0, 0, 1, 15, 4, b'E', b'A', b'S', b'T', 1, 1, b'A'];
+
+/// The body of caller 0 and ABANDON.
+pub(crate) const ABANDON: [u8; 5] = [0, 0, 0, 0, 13];
+
 /// A disk in memory with these bytes, of whose calls these fail.
 pub(crate) fn disk_of(rt: &(impl Abort + AllocGlobal), bytes: &[u8], fails: &[u64]) -> MemoryDisk {
     let bytes = Vec::from_slice(rt.alloc(), bytes).expect(rt, "memory");

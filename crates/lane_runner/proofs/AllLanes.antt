@@ -3,23 +3,23 @@ use Rattle.std.proofs.Common.{◌≡◌, ◌∙◌, ◌+◌, ◌<◌, ◌≤◌,
 use Rattle.std.proofs.Math.ListN.{drop_of_length-le}
 use Rattle.std.proofs.lemmas.List.{append-nil, get_or-map, length-map}
 use Rattle.std.proofs.lemmas.List.Elements.{All-map}
-use Rattle.disk_model.specs.Calls.{Seen}
-use Rattle.claim_history.specs.declared.call.PoolEntry.{PoolEntry}
-use Rattle.claim_history.proofs.Pasts.{all_reverse}
-use Rattle.request_text.specs.declared.request.Request.{Request}
-use Rattle.turn_lock.specs.declared.view.View.{View}
-use Rattle.turn_lock.specs.declared.turn.Seat.{Seat}
-use Rattle.turn_lock.specs.declared.turn.Turn.{Turn}
-use Rattle.turn_lock.specs.Turns.{EachOf}
-use Rattle.turn_lock.specs.Seats.{number}
-use Rattle.bureau_desk.specs.declared.base.DeskBase.{DeskBase}
-use Rattle.bureau_desk.specs.Desks.{DeskView}
+use Rattle.shared_bureau.specs.disk_model.specs.Calls.{Seen}
+use Rattle.shared_bureau.specs.claim_history.specs.declared.call.PoolEntry.{PoolEntry}
+use Rattle.shared_bureau.specs.claim_history.proofs.Pasts.{all_reverse}
+use Rattle.served_lines.specs.request_text.specs.declared.request.Request.{Request}
+use Rattle.shared_bureau.specs.turn_lock.specs.declared.view.View.{View}
+use Rattle.shared_bureau.specs.turn_lock.specs.declared.turn.Seat.{Seat}
+use Rattle.shared_bureau.specs.turn_lock.specs.declared.turn.Turn.{Turn}
+use Rattle.shared_bureau.specs.turn_lock.specs.Turns.{EachOf}
+use Rattle.shared_bureau.specs.turn_lock.specs.Seats.{number}
+use Rattle.shared_bureau.specs.bureau_desk.specs.declared.base.DeskBase.{DeskBase}
+use Rattle.shared_bureau.specs.bureau_desk.specs.Desks.{DeskView}
 use Rattle.shared_bureau.specs.Adding.{IsReady}
 use Rattle.shared_bureau.specs.Finishing.{HasFinished}
 use Rattle.served_lines.specs.declared.answer.Answer.{Answer}
-use Rattle.served_lines.specs.Served.{lane_lines}
+use Rattle.served_lines.specs.Served.{lane_lines, of_lane}
 use Rattle.lane_runner.specs.declared.lane.Lane.{Lane}
-use Rattle.lane_runner.specs.Lanes.{HasServedLines, ended, of_lane}
+use Rattle.lane_runner.specs.Lanes.{HasServedLines, ended}
 use Rattle.lane_runner.specs.Merging.{HasMerged, HaveEnds}
 use Rattle.lane_runner.specs.Seating.{HasServedAll, IsNewLane, IsNewSeatAt}
 use Rattle.lane_runner.proofs.Batched.{served_all}

@@ -2,15 +2,15 @@
 use Rattle.std.specs.Prelude.{IsTrue, Some, None}
 use Rattle.std.proofs.Common.{◌≡◌, ◌∙◌, ℕ, List, [], ◌++◌, length, refl, sym, ap, subst}
 use Rattle.std.proofs.lemmas.List.{append-nil}
-use Rattle.disk_model.specs.Calls.{Seen}
-use Rattle.claim_history.specs.declared.call.PoolEntry.{PoolEntry}
-use Rattle.claim_history.specs.PoolRounds.{cuts_after}
-use Rattle.recorded_book.specs.Moments.{HeldSince}
-use Rattle.request_text.specs.declared.request.Request.{Request}
-use Rattle.turn_lock.specs.declared.view.View.{View}
-use Rattle.turn_lock.specs.Turns.{IsRegistrarOf}
-use Rattle.bureau_desk.specs.declared.base.DeskBase.{DeskBase}
-use Rattle.bureau_desk.specs.Desks.{DeskView, KeepsDesk, base_cleared, base_of}
+use Rattle.shared_bureau.specs.disk_model.specs.Calls.{Seen}
+use Rattle.shared_bureau.specs.claim_history.specs.declared.call.PoolEntry.{PoolEntry}
+use Rattle.shared_bureau.specs.claim_history.specs.PoolRounds.{cuts_after}
+use Rattle.shared_bureau.specs.recorded_book.specs.Moments.{HeldSince}
+use Rattle.served_lines.specs.request_text.specs.declared.request.Request.{Request}
+use Rattle.shared_bureau.specs.turn_lock.specs.declared.view.View.{View}
+use Rattle.shared_bureau.specs.turn_lock.specs.Turns.{IsRegistrarOf}
+use Rattle.shared_bureau.specs.bureau_desk.specs.declared.base.DeskBase.{DeskBase}
+use Rattle.shared_bureau.specs.bureau_desk.specs.Desks.{DeskView, KeepsDesk, base_cleared, base_of}
 use Rattle.served_lines.specs.declared.answer.Answer.{Answer}
 use Rattle.served_lines.specs.Served.{IsServed}
 use Rattle.lane_runner.specs.Batches.{HasRunBatch}

@@ -1,11 +1,11 @@
 -- What a batch does to a desk.
 use Rattle.std.specs.Prelude.{◌≡◌, List, [], ◌++◌, length, Option, MatchOption, IsTrue}
-use Rattle.disk_model.specs.Calls.{Seen}
-use Rattle.claim_history.specs.declared.call.PoolEntry.{PoolEntry}
-use Rattle.claim_history.specs.PoolRounds.{cuts_after}
-use Rattle.request_text.specs.declared.request.Request.{Request}
-use Rattle.recorded_book.specs.Moments.{HeldSince}
-use Rattle.bureau_desk.specs.Desks.{DeskView, KeepsDesk, base_cleared, base_of}
+use Rattle.shared_bureau.specs.disk_model.specs.Calls.{Seen}
+use Rattle.shared_bureau.specs.claim_history.specs.declared.call.PoolEntry.{PoolEntry}
+use Rattle.shared_bureau.specs.claim_history.specs.PoolRounds.{cuts_after}
+use Rattle.served_lines.specs.request_text.specs.declared.request.Request.{Request}
+use Rattle.shared_bureau.specs.recorded_book.specs.Moments.{HeldSince}
+use Rattle.shared_bureau.specs.bureau_desk.specs.Desks.{DeskView, KeepsDesk, base_cleared, base_of}
 use Rattle.served_lines.specs.declared.answer.Answer.{Answer}
 use Rattle.served_lines.specs.Served.{IsServed}
 

@@ -1,14 +1,15 @@
 -- What a lane does.
 use Rattle.std.specs.Prelude.{◌≡◌, ◌<◌, ℕ, List, length, slice_index_or}
-use Rattle.claim_history.specs.declared.call.PoolEntry.{PoolEntry}
-use Rattle.turn_lock.specs.declared.turn.Turn.{Turn}
-use Rattle.turn_lock.specs.Seats.{number}
-use Rattle.request_text.specs.declared.request.Request.{Request}
-use Rattle.bureau_desk.specs.declared.base.DeskBase.{DeskBase}
-use Rattle.bureau_desk.specs.Desks.{DeskView}
+use Rattle.shared_bureau.specs.claim_history.specs.declared.call.PoolEntry.{PoolEntry}
+use Rattle.shared_bureau.specs.turn_lock.specs.declared.turn.Turn.{Turn}
+use Rattle.shared_bureau.specs.turn_lock.specs.Seats.{number}
+use Rattle.served_lines.specs.request_text.specs.declared.request.Request.{Request}
+use Rattle.shared_bureau.specs.bureau_desk.specs.declared.base.DeskBase.{DeskBase}
+use Rattle.shared_bureau.specs.bureau_desk.specs.Desks.{DeskView}
 use Rattle.shared_bureau.specs.Adding.{IsReady}
 use Rattle.lane_runner.specs.declared.lane.Lane.{Lane}
-use Rattle.lane_runner.specs.Lanes.{HasRun, of_lane}
+use Rattle.served_lines.specs.Served.{of_lane}
+use Rattle.lane_runner.specs.Lanes.{HasRun}
 
 module _ {D : Type 0} (turn : Turn (DeskView D) PoolEntry (DeskBase D)) (requests : List Request) where
   -- a lane has served its requests among these

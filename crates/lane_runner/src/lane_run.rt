@@ -1,6 +1,6 @@
 //! One lane that is run.
 ghost use Rattle.std.specs.Prelude.{◌≡◌, true, All};
-ghost use Rattle.claim_history.specs.Acts.{is_request};
+ghost use Rattle.shared_bureau.specs.claim_history.specs.Acts.{is_request};
 ghost use Rattle.lane_runner.specs.Lanes.{IsFit};
 ghost use Rattle.lane_runner.specs.LanesServed.{HasServedLane};
 
@@ -8,10 +8,10 @@ use crate::gate::Gate;
 use crate::lane::Lane;
 use crate::line::serve;
 use crate::service::Service;
-use disk_model::Disk;
-use flow_solver::Solver;
-use request_text::Request;
+use served_lines::request_text::Request;
 use shared_bureau::Pause;
+use shared_bureau::disk_model::Disk;
+use shared_bureau::flow_solver::Solver;
 use std::sync::Wait;
 
 /// Serves in order the requests of one lane. The room for what comes of them is there.

@@ -1,11 +1,11 @@
 //! Acts, and how a seat of a shared desk on a disk in memory asks them.
-ghost use Rattle.shared_bureau.specs.Adding.{IsReady};
+ghost use Rattle.live_intake.specs.shared_bureau.specs.Adding.{IsReady};
 
-use bureau_desk::Desk;
 use claim_history::{Act, Entry, Reply, main_pool_name};
 use disk_model::MemoryDisk;
+use live_intake::bureau_desk::Desk;
+use live_intake::shared_bureau::Shared;
 use setoff_model::Name;
-use shared_bureau::Shared;
 use std::alloc::Global;
 use std::process::Abort;
 use std::sync::Wait;

@@ -1,14 +1,14 @@
 //! A FUNDED round of a shared desk, which holds its firms, and which the level solver solves.
-ghost use Rattle.shared_bureau.specs.Adding.{IsReady};
+ghost use Rattle.live_intake.specs.shared_bureau.specs.Adding.{IsReady};
 
 use crate::acts::{MemoryDesk, ask, firm};
 use crate::rounds::{finished, horizon, two_seats};
-use bureau_desk::CutReply;
 use claim_history::{Act, Reply, Why, main_pool_name};
 use disk_model::MemoryDisk;
 use level_solver::LevelSolver;
+use live_intake::bureau_desk::CutReply;
+use live_intake::shared_bureau::{CloseEnd, Pause, Shared};
 use setoff_model::Kind;
-use shared_bureau::{CloseEnd, Pause, Shared};
 use std::alloc::Global;
 use std::process::Abort;
 use std::sync::{Mutex, Wait};

@@ -1,6 +1,6 @@
 //! Inputs that are served while they are read.
 ghost use Rattle.std.specs.Prelude.{◌≡◌, ◌<◌, true};
-ghost use Rattle.live_intake.specs.declared.stop.Stop.TheVariants as stop;
+ghost use Rattle.live_intake.specs.live_reading.specs.declared.stop.Stop.TheVariants as stop;
 
 use crate::acts::{MemoryDesk, desk_on, main_entries};
 use crate::lanes::{Nothing, batches_of};
@@ -9,7 +9,7 @@ use bureau_edge::{BytesSource, Failed, Source, SureSource};
 use claim_history::Reply;
 use flow_solver::PlainSolver;
 use input_front::Intake;
-use lane_runner::{Answer, BatchEnd, Gate, LineEnd};
+use live_intake::lane_runner::{Answer, BatchEnd, Gate, LineEnd};
 use live_intake::{LiveEnd, Stop, run_live};
 use request_text::LineCause;
 use std::alloc::Global;

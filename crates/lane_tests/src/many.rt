@@ -1,13 +1,13 @@
 //! Sixteen seats that ask side by side.
 ghost use Rattle.std.specs.Prelude.{◌≡◌, All, length};
 ghost use Rattle.turn_lock.specs.Seats.{lock_of, registry, made};
-ghost use Rattle.shared_bureau.specs.Adding.{IsReady};
+ghost use Rattle.live_intake.specs.shared_bureau.specs.Adding.{IsReady};
 
 use crate::acts::{MemoryDesk, ask, desk_on, firm, is_same, main_entries};
 use claim_history::{Act, Entry, Position, Reply, Why, accepted};
 use disk_model::MemoryDisk;
+use live_intake::shared_bureau::Shared;
 use setoff_model::Name;
-use shared_bureau::Shared;
 use std::alloc::{AllocError, Global};
 use std::process::Abort;
 use std::sync::Wait;

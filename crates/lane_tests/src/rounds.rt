@@ -1,18 +1,18 @@
 //! Rounds of a desk that two seats share.
 ghost use Rattle.std.specs.Prelude.{◌≡◌};
 ghost use Rattle.turn_lock.specs.Seats.{lock_of, number, seen, own, registry, made};
-ghost use Rattle.shared_bureau.specs.Owned.{OwnsRound};
-ghost use Rattle.shared_bureau.specs.Adding.{IsReady};
+ghost use Rattle.live_intake.specs.shared_bureau.specs.Owned.{OwnsRound};
+ghost use Rattle.live_intake.specs.shared_bureau.specs.Adding.{IsReady};
 
 use crate::acts::{MemoryDesk, ask, desk_on, firm, main_entries};
 use crate::steps::{Steps, UntilAnswered};
-use bureau_desk::{CutReply, PublishReply};
 use claim_history::{Act, Day, Reply, Why, main_pool_name};
 use disk_model::MemoryDisk;
 use flow_solver::PlainSolver;
-use price_certificate::certified;
+use live_intake::bureau_desk::{CutReply, PublishReply};
+use live_intake::price_certificate::certified;
+use live_intake::shared_bureau::{CloseEnd, Shared};
 use setoff_model::{Cut, Key, Kind, Name};
-use shared_bureau::{CloseEnd, Shared};
 use std::alloc::Global;
 use std::process::Abort;
 use std::sync::Wait;

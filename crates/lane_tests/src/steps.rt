@@ -1,6 +1,6 @@
 //! What threads wait for.
-use lane_runner::Gate;
-use shared_bureau::Pause;
+use live_intake::lane_runner::Gate;
+use live_intake::shared_bureau::Pause;
 use std::sync::{Mutex, Wait};
 use std::thread;
 

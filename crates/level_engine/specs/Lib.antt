@@ -1,0 +1,1 @@
+pub use Rattle.residual_network as residual_network

@@ -1,11 +1,11 @@
 //! Levels of prices.
 ghost use Rattle.std.specs.Prelude.{◌<◌, ℕ, IfOk, OnOk, IsTrue, length, pos, ◌≤ℤ◌};
-ghost use Rattle.residual_state.specs.Excesses.{excess_of};
-ghost use Rattle.residual_state.specs.States.{IsState, StaysOn, surplus};
-ghost use Rattle.residual_state.specs.Carries.{IsNoWorse};
+ghost use Rattle.flow_solver.specs.residual_state.specs.Excesses.{excess_of};
+ghost use Rattle.flow_solver.specs.residual_state.specs.States.{IsState, StaysOn, surplus};
+ghost use Rattle.flow_solver.specs.residual_state.specs.Carries.{IsNoWorse};
 
-use level_engine::Advice;
-use residual_state::{State, augment, carry_all, reprice, surplus_of};
+use flow_solver::residual_state::{State, augment, carry_all, reprice, surplus_of};
+use simplex_engine::level_engine::Advice;
 use std::alloc::{AllocError, Global};
 
 // So many levels are tried at first, more where some units count more than one, and few where there are at most three halves of

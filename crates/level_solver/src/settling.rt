@@ -1,11 +1,12 @@
 //! A state brought to rest.
 ghost use Rattle.std.specs.Prelude.{◌<◌, ℕ, OnOk, length, pos, ◌≤ℤ◌};
-ghost use Rattle.residual_state.specs.Excesses.{excess_of};
-ghost use Rattle.residual_state.specs.States.{IsState, StaysOn};
+ghost use Rattle.flow_solver.specs.residual_state.specs.Excesses.{excess_of};
+ghost use Rattle.flow_solver.specs.residual_state.specs.States.{IsState, StaysOn};
 
 use crate::levels::{MOST_WEIGHTED, all_levels, first_levels};
-use level_engine::{Advice, Halves};
-use residual_state::{State, adopt, surplus_of};
+use crate::parting::take_parts;
+use flow_solver::residual_state::{State, adopt, surplus_of};
+use simplex_engine::level_engine::{Advice, Halves};
 use simplex_engine::{Solution, Start, seek_cold, seek_solution};
 use std::alloc::{AllocError, Global};
 
@@ -37,34 +38,94 @@ pub fn settle_within(alloc: Global, state: &mut State, turns: u32) -> Result<(),
     ensures rest { OnOk result ((v : ℕ) → v < length state.new.excess.items → excess_of state.new.excess.items v ≤ℤ pos 0) }
 {
     let windows = window_flows(alloc, state)?;
-    let halves = levels_at_first(alloc, state, &windows, turns)?;
-    take_solution(alloc, state, &halves, &windows, turns)?;
-    drop(halves);
+    let halves = Halves::of(alloc, &state.edges, state.excess.len())?;
+    take_parts(alloc, state, &halves, &windows, turns)?;
+    settle_over(alloc, state, halves, &windows, turns)
+}
+
+// The same, where the parts of the net are not taken apart.
+pub(crate) fn settle_whole(alloc: Global, state: &mut State, turns: u32) -> Result<(), AllocError>
+    requires { IsState state.old }
+    ensures state { OnOk result (StaysOn state.old state.new) }
+{
+    let windows = window_flows(alloc, state)?;
+    let halves = Halves::of(alloc, &state.edges, state.excess.len())?;
+    settle_over(alloc, state, halves, &windows, turns)
+}
+
+// The same over the halves of the arcs, with the flows of the windows' arcs at which no balance changes.
+fn settle_over(
+    alloc: Global,
+    state: &mut State,
+    halves: Halves,
+    windows: &[u64],
+    turns: u32,
+) -> Result<(), AllocError>
+    requires { IsState state.old }
+    ensures state { OnOk result (StaysOn state.old state.new) }
+    ensures rest { OnOk result ((v : ℕ) → v < length state.new.excess.items → excess_of state.new.excess.items v ≤ℤ pos 0) }
+{
+    if surplus_of(&state.excess) != 0 {
+        engines_at_first(alloc, state, halves, windows, turns)?;
+    }
     levels_to_the_end(alloc, state)
+}
+
+// Seeks the whole from where nothing is set off, goes from one level of prices to the next while they get on, and takes a whole solution
+// for the rest.
+fn engines_at_first(
+    alloc: Global,
+    state: &mut State,
+    halves: Halves,
+    windows: &[u64],
+    turns: u32,
+) -> Result<(), AllocError>
+    requires { IsState state.old }
+    ensures { OnOk result (StaysOn state.old state.new) }
+{
+    let levels = levels_before_cold(halves.len(), state.excess.len());
+    take_cold(alloc, state, &halves, windows, turns, levels == 0)?;
+    if surplus_of(&state.excess) == 0 {
+        return Ok(());
+    }
+    let halves = levels_at_first(alloc, state, halves, windows, turns)?;
+    take_solution(alloc, state, &halves, windows, turns)?;
+    Ok(())
 }
 
 // Goes from one level of prices to the next while they get on. The halves of the arcs; the other lists of the advice make room.
 fn levels_at_first(
     alloc: Global,
     state: &mut State,
+    halves: Halves,
     windows: &[u64],
     turns: u32,
 ) -> Result<Halves, AllocError>
     requires { IsState state.old }
     ensures { OnOk result (StaysOn state.old state.new) }
 {
-    let halves = Halves::of(alloc, &state.edges, state.excess.len())?;
-    let levels = levels_before_cold(halves.len(), state.excess.len());
-    take_cold(alloc, state, &halves, windows, turns, levels == 0)?;
-    if surplus_of(&state.excess) == 0 {
-        return Ok(halves);
-    }
     let mut advice = Advice::over(alloc, halves, state.edges.len(), state.excess.len())?;
-    let mut past = Vec::with_capacity(alloc, MOST_WEIGHTED)?;
-    first_levels(alloc, state, &mut advice, &mut past, levels)?;
-    take_cold(alloc, state, advice.halves(), windows, turns, levels != 0)?;
-    first_levels(alloc, state, &mut advice, &mut past, usize::MAX)?;
+    levels_with(alloc, state, &mut advice, windows, turns)?;
     Ok(advice.into_halves())
+}
+
+// Goes over these levels with the advice. Where arcs are few, the whole is sought after some of them.
+fn levels_with(
+    alloc: Global,
+    state: &mut State,
+    advice: &mut Advice,
+    windows: &[u64],
+    turns: u32,
+) -> Result<(), AllocError>
+    requires { IsState state.old }
+    ensures { OnOk result (StaysOn state.old state.new) }
+{
+    let levels = levels_before_cold(advice.halves().len(), state.excess.len());
+    let mut past = Vec::with_capacity(alloc, MOST_WEIGHTED)?;
+    first_levels(alloc, state, advice, &mut past, levels)?;
+    take_cold(alloc, state, advice.halves(), windows, turns, levels != 0)?;
+    first_levels(alloc, state, advice, &mut past, usize::MAX)?;
+    Ok(())
 }
 
 // How many levels come before the whole is sought from where nothing is set off.

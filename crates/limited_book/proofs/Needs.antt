@@ -4,23 +4,23 @@ use Rattle.std.proofs.Common.{◌≡◌, ℕ, ◌+◌, ◌*◌, true, false, Lis
 use Rattle.std.proofs.lemmas.List.{reverse-append}
 use Rattle.std.proofs.lemmas.Result.{IfOk-weaker, MatchResult-weaker}
 use Rattle.setoff_model.specs.CutView.{CutView}
-use Rattle.claim_history.specs.declared.act.Act.{Act}
-use Rattle.claim_history.specs.declared.entry.Reply.{Reply}
-use Rattle.claim_history.specs.declared.entry.Reply.TheVariants as reply
-use Rattle.claim_history.specs.declared.call.Call.{Call}
-use Rattle.claim_history.specs.declared.call.PoolEntry.{PoolEntry}
-use Rattle.claim_history.specs.declared.record_bytes.TheConstants.{RECORD_HEAD, CLOSE_BODY}
-use Rattle.claim_history.specs.Cut.{cut_of}
-use Rattle.claim_history.specs.declared.entry.Entry.{Entry}
-use Rattle.claim_history.specs.States.{OpenRound, State, after, state}
-use Rattle.claim_history.specs.History.{is_opening, replied}
-use Rattle.claim_history.specs.Needs.{endings_with, endings_entries, open_after}
-use Rattle.claim_history.specs.Pools.{due_reply, entries_in, ledger_in, open_round_in, state_in}
-use Rattle.claim_history.specs.PoolNeeds.{is_full, needed_bytes_of, needed_entries_of, open_in, own_bytes, pool_bytes, pool_endings_bytes, reserved_bytes_of, reserved_entries_of, used_bytes_of, used_entries_of}
-use Rattle.claim_history.specs.PoolRounds.{IsCutDue}
-use Rattle.claim_history.proofs.Replies.{IsOpening, opens}
-use Rattle.claim_history.proofs.Pools.{in_reverse}
-use Rattle.claim_history.proofs.PoolRoom.{needs_law, open_own, reserve_law}
+use Rattle.claim_book.specs.claim_history.specs.declared.act.Act.{Act}
+use Rattle.claim_book.specs.claim_history.specs.declared.entry.Reply.{Reply}
+use Rattle.claim_book.specs.claim_history.specs.declared.entry.Reply.TheVariants as reply
+use Rattle.claim_book.specs.claim_history.specs.declared.call.Call.{Call}
+use Rattle.claim_book.specs.claim_history.specs.declared.call.PoolEntry.{PoolEntry}
+use Rattle.claim_book.specs.claim_history.specs.declared.record_bytes.TheConstants.{RECORD_HEAD, CLOSE_BODY}
+use Rattle.claim_book.specs.claim_history.specs.Cut.{cut_of}
+use Rattle.claim_book.specs.claim_history.specs.declared.entry.Entry.{Entry}
+use Rattle.claim_book.specs.claim_history.specs.States.{OpenRound, State, after, state}
+use Rattle.claim_book.specs.claim_history.specs.History.{is_opening, replied}
+use Rattle.claim_book.specs.claim_history.specs.Needs.{endings_with, endings_entries, open_after}
+use Rattle.claim_book.specs.claim_history.specs.Pools.{due_reply, entries_in, ledger_in, open_round_in, state_in}
+use Rattle.claim_book.specs.claim_history.specs.PoolNeeds.{is_full, needed_bytes_of, needed_entries_of, open_in, own_bytes, pool_bytes, pool_endings_bytes, reserved_bytes_of, reserved_entries_of, used_bytes_of, used_entries_of}
+use Rattle.claim_book.specs.claim_history.specs.PoolRounds.{IsCutDue}
+use Rattle.claim_book.specs.claim_history.proofs.Replies.{IsOpening, opens}
+use Rattle.claim_book.specs.claim_history.proofs.Pools.{in_reverse}
+use Rattle.claim_book.specs.claim_history.proofs.PoolRoom.{needs_law, open_own, reserve_law}
 use Rattle.limited_book.specs.declared.room.Room.{Room}
 use Rattle.limited_book.specs.declared.room.Room.TheVariants.{Entries, Bytes}
 use Rattle.limited_book.specs.declared.full.Full.{Full}

@@ -14,7 +14,11 @@ mod need;
 mod publication;
 mod room;
 
+pub use act_bodies;
+pub use claim_book;
+pub use claim_book::{claim_history, round_cut};
 pub use full::Full;
 pub use limited::LimitedBooks;
 pub use publication::publication_reply;
 pub use room::Room;
+pub use setoff_checker;

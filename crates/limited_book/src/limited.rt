@@ -2,12 +2,12 @@
 ghost use Rattle.std.specs.Prelude.{ℕ, List, ◌≡◌, ◌+◌, ◌-◌, ◌*◌, ◌<◌, ◌≤◌, ◌++◌, ◌∷◌, [], IfOk, IfErr, OnOk, OnErr, true, false};
 ghost use Rattle.setoff_model.specs.declared.limits.TheConstants.{MOST_ENTRIES, MOST_JOURNAL_BYTES};
 ghost use Rattle.setoff_model.specs.CutView.{WellFormed};
-ghost use Rattle.claim_history.specs.History.{is_opening, is_no_refusal};
-ghost use Rattle.claim_history.specs.Acts.{is_valid, is_publication, is_close};
-ghost use Rattle.claim_history.specs.Pools.{IsLegal, AreValid, MayFollow, call_of, due_reply, entries_in, member_of, open_round_in, state_in};
-ghost use Rattle.claim_history.specs.Needs.{endings_entries};
-ghost use Rattle.claim_history.specs.PoolNeeds.{Fits, IsReserved, IsWithinLimits, is_full, pool_endings_bytes, reserved_bytes_of, reserved_entries_of, used_bytes_of, used_entries_of};
-ghost use Rattle.claim_history.specs.PoolRounds.{IsCutDue};
+ghost use Rattle.claim_book.specs.claim_history.specs.History.{is_opening, is_no_refusal};
+ghost use Rattle.claim_book.specs.claim_history.specs.Acts.{is_valid, is_publication, is_close};
+ghost use Rattle.claim_book.specs.claim_history.specs.Pools.{IsLegal, AreValid, MayFollow, call_of, due_reply, entries_in, member_of, open_round_in, state_in};
+ghost use Rattle.claim_book.specs.claim_history.specs.Needs.{endings_entries};
+ghost use Rattle.claim_book.specs.claim_history.specs.PoolNeeds.{Fits, IsReserved, IsWithinLimits, is_full, pool_endings_bytes, reserved_bytes_of, reserved_entries_of, used_bytes_of, used_entries_of};
+ghost use Rattle.claim_book.specs.claim_history.specs.PoolRounds.{IsCutDue};
 ghost use Rattle.claim_book.specs.Book.{room_for, room_needed, KeepsRoom, GivesCut};
 ghost use Rattle.claim_book.specs.Pools.{KeepsRooms, room_in};
 ghost use Rattle.limited_book.specs.Limited.{IsFull, round_after};
@@ -16,11 +16,11 @@ use crate::full::{Full, within_limits};
 use crate::need::{Need, endings_in, endings_of, is_ending, more, moved, own_bytes, use_of};
 use crate::publication::publication_reply;
 use claim_book::Books;
-use claim_history::record_bytes::{CLOSE_BODY, RECORD_HEAD};
-use claim_history::{
+use claim_book::claim_history::record_bytes::{CLOSE_BODY, RECORD_HEAD};
+use claim_book::claim_history::{
     Act, Call, Entry, Reply, each_pool_has_its_history, pool_bytes, use_is_counted,
 };
-use round_cut::cut_of_a_history_is_of_its_facts;
+use claim_book::round_cut::cut_of_a_history_is_of_its_facts;
 use setoff_model::{Cut, Name};
 use std::alloc::{AllocError, Global};
 use std::marker::Model;

@@ -3,13 +3,13 @@ use Rattle.std.proofs.Common.{◌≡◌, ◌∙◌, ◌==◌, ℕ, List, [], ◌
 use Rattle.std.proofs.lemmas.List.{append-nil}
 use Rattle.std.proofs.lemmas.List.Elements.{filter-append}
 use Rattle.turn_lock.proofs.Histories.{prefix_self, prefix_trans}
-use Rattle.claim_history.specs.declared.call.PoolEntry.{PoolEntry}
-use Rattle.request_text.specs.declared.request.Request.{Request}
+use Rattle.lane_runner.specs.claim_history.specs.declared.call.PoolEntry.{PoolEntry}
+use Rattle.lane_runner.specs.request_text.specs.declared.request.Request.{Request}
 use Rattle.turn_lock.specs.declared.turn.Seat.{Seat}
 use Rattle.turn_lock.specs.Seats.{seen, own, opened}
-use Rattle.served_lines.specs.declared.answer.Answer.{Answer}
-use Rattle.served_lines.specs.Served.{Line, LinesAdd, lane_lines, lines_of}
-use Rattle.served_lines.proofs.Longer.{lines_longer}
+use Rattle.lane_runner.specs.served_lines.specs.declared.answer.Answer.{Answer}
+use Rattle.lane_runner.specs.served_lines.specs.Served.{Line, LinesAdd, lane_lines, lines_of}
+use Rattle.lane_runner.specs.served_lines.proofs.Longer.{lines_longer}
 use Rattle.lane_runner.specs.Lanes.{HasServedLines}
 
 -- lines and those behind them

@@ -1,28 +1,29 @@
 -- A lane and its ring, after a segment.
 use Rattle.std.proofs.Common.{◌≡◌, ◌∙◌, ◌+◌, ◌<◌, ◌≤◌, ℕ, List, [], ◌∷◌, ◌++◌, All, length, get_or, map, sym, ap, subst, arith, append_assoc, vec_capacity}
-use Rattle.live_intake.specs.declared.handed.TheConstants.{MOST_HANDED}
+use Rattle.live_reading.specs.declared.handed.TheConstants.{MOST_HANDED}
 use Rattle.std.proofs.lemmas.List.{append_cancel_left}
 use Rattle.rtrb.specs.declared.producer.Producer.{Producer}
 use Rattle.rtrb.specs.declared.consumer.Consumer.{Consumer}
 use Rattle.rtrb.specs.Ring.{received, sent, producer_capacity, IsPair, SameConsumer, SameProducer}
-use Rattle.claim_history.specs.declared.call.PoolEntry.{PoolEntry}
-use Rattle.request_text.specs.declared.request.Request.{Request}
+use Rattle.lane_runner.specs.claim_history.specs.declared.call.PoolEntry.{PoolEntry}
+use Rattle.lane_runner.specs.request_text.specs.declared.request.Request.{Request}
 use Rattle.turn_lock.specs.declared.turn.Turn.{Turn}
 use Rattle.turn_lock.specs.Seats.{number}
-use Rattle.bureau_desk.specs.declared.base.DeskBase.{DeskBase}
-use Rattle.bureau_desk.specs.Desks.{DeskView}
-use Rattle.shared_bureau.specs.Adding.{IsReady}
-use Rattle.lane_runner.specs.Lanes.{HasRun, of_lane}
+use Rattle.lane_runner.specs.bureau_desk.specs.declared.base.DeskBase.{DeskBase}
+use Rattle.lane_runner.specs.bureau_desk.specs.Desks.{DeskView}
+use Rattle.lane_runner.specs.shared_bureau.specs.Adding.{IsReady}
+use Rattle.lane_runner.specs.served_lines.specs.Served.{of_lane}
+use Rattle.lane_runner.specs.Lanes.{HasRun}
 use Rattle.lane_runner.proofs.Places.{one_of}
-use Rattle.live_intake.specs.declared.handed.Handed.{Handed}
-use Rattle.live_intake.specs.declared.handed.Handed.TheVariants as handed
+use Rattle.live_reading.specs.declared.handed.Handed.{Handed}
+use Rattle.live_reading.specs.declared.handed.Handed.TheVariants as handed
 use Rattle.live_intake.specs.declared.lane.LiveLane.{LiveLane}
-use Rattle.live_intake.specs.Handing.{IsMarked, handed_of, lines_since, segment_of}
-use Rattle.live_intake.specs.Rings.{IsOpen, Ring}
+use Rattle.live_reading.specs.Handing.{IsMarked, handed_of, lines_since, segment_of}
+use Rattle.live_reading.specs.Rings.{AreOpen, HasHandedSegment, HaveHanded, IsOpen, Ring}
 use Rattle.live_intake.specs.Meeting.{ArePairs, HasMetLane, HaveMet}
 use Rattle.live_intake.specs.Segments.{HasServedSegment, HaveServed}
-use Rattle.live_intake.specs.Joining.{AreJoined, AreOpen, HasHandedSegment, HasServedThese, HaveHanded, HaveServedThese, IsJoined}
-use Rattle.live_intake.proofs.Handing.{all_own, prefix_of, same_requests, since_mark}
+use Rattle.live_intake.specs.Joining.{AreJoined, HasServedThese, HaveServedThese, IsJoined}
+use Rattle.live_reading.proofs.Handing.{all_own, prefix_of, same_requests, since_mark}
 
 -- both ends of one ring, after each has gone on
 pair_later : {T A P : Type 0} (p q : Producer T A P) (c d : Consumer T A P) → IsPair p c → SameProducer p q → SameConsumer c d → IsPair q d

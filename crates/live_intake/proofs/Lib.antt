@@ -1,14 +1,9 @@
-mod Handing
 mod Taking
-mod Sending
 mod Meets
 mod Joined
 mod Following
 mod Threads
-mod InReading
 mod Merging
 mod Served
 mod OneBatch
 mod Seating
-mod Spared
-mod Passed

@@ -4,11 +4,11 @@ use Rattle.std.proofs.lemmas.Bool.{eqb-false}
 use Rattle.std.proofs.lemmas.List.{get_or-set_other, get_or-set_same}
 use Rattle.std.specs.declared.alloc.Global.{Global}
 use Rattle.rtrb.specs.declared.consumer.Consumer.{Consumer}
-use Rattle.live_intake.specs.declared.handed.Handed.{Handed}
-use Rattle.live_intake.specs.declared.handed.InSegments.{InSegments}
+use Rattle.live_reading.specs.declared.handed.Handed.{Handed}
+use Rattle.live_reading.specs.declared.handed.InSegments.{InSegments}
 use Rattle.live_intake.specs.declared.lane.LiveLane.{LiveLane}
 use Rattle.live_intake.specs.Meeting.{HasMet, HasMetLane}
-use Rattle.live_intake.specs.Rings.{Ring}
+use Rattle.live_reading.specs.Rings.{Ring}
 
 -- what holds of each place below the next one
 module _ {X Y : Type 0} (P : X → Y → X → Y → Type 0) (xs xs0 : List X) (ys ys0 : List Y) (k : ℕ) (x : X) (y : Y) (ltx : k < length xs) (lty : k < length ys)

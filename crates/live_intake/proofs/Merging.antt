@@ -5,12 +5,12 @@ use Rattle.std.proofs.Math.ListN.{length-set}
 use Rattle.std.proofs.lemmas.List.{append-nil, get_or_default}
 use Rattle.setoff_model.specs.declared.limits.TheConstants.{MOST_LANES}
 use Rattle.turn_lock.specs.Turns.{EachOf}
-use Rattle.request_text.specs.declared.request.Request.{Request}
-use Rattle.served_lines.specs.declared.answer.Answer.{Answer}
-use Rattle.served_lines.specs.declared.line_end.LineEnd.{LineEnd}
-use Rattle.lane_runner.specs.Lanes.{of_lane}
+use Rattle.lane_runner.specs.request_text.specs.declared.request.Request.{Request}
+use Rattle.lane_runner.specs.served_lines.specs.declared.answer.Answer.{Answer}
+use Rattle.lane_runner.specs.served_lines.specs.declared.line_end.LineEnd.{LineEnd}
+use Rattle.lane_runner.specs.served_lines.specs.Served.{of_lane}
 use Rattle.lane_runner.proofs.Merged.{Agree, agree_more, answered_more, answer_of, next_more}
-use Rattle.lane_runner.proofs.OfLanes.{fewer_before, one_more}
+use Rattle.lane_runner.specs.served_lines.proofs.OfLane.{fewer_before, one_more}
 use Rattle.live_intake.specs.declared.lane.LiveLane.{LiveLane}
 use Rattle.live_intake.specs.Batching.{HasMergedMore, HaveEnds}
 

@@ -2,19 +2,20 @@
 use Rattle.std.specs.Prelude.{MatchBool, None, Option, Some, ◌⊎◌}
 use Rattle.std.proofs.Common.{◌≡◌, ◌∙◌, ◌+◌, ◌≤◌, ℕ, Bool, true, false, List, [], ◌∷◌, ◌++◌, length, take, sym, ap, subst, inl, inr}
 use Rattle.std.specs.Io.KnownBytes.{IsAtEnd}
-use Rattle.disk_model.specs.Calls.{Seen}
-use Rattle.request_text.specs.declared.error.LineCause.{LineCause}
-use Rattle.request_text.specs.declared.request.Request.{Request}
-use Rattle.bureau_desk.specs.Desks.{DeskView}
-use Rattle.served_lines.specs.declared.answer.Answer.{Answer}
+use Rattle.lane_runner.specs.disk_model.specs.Calls.{Seen}
+use Rattle.lane_runner.specs.request_text.specs.declared.error.LineCause.{LineCause}
+use Rattle.lane_runner.specs.request_text.specs.declared.request.Request.{Request}
+use Rattle.lane_runner.specs.bureau_desk.specs.Desks.{DeskView}
+use Rattle.lane_runner.specs.served_lines.specs.declared.answer.Answer.{Answer}
 use Rattle.lane_runner.specs.Batches.{HasRunBatch}
-use Rattle.input_front.specs.Front.{IsBatchAt, IsFrontOf}
-use Rattle.input_front.specs.Taken.{HasBatches, HasRead, IntakeView, IsFirstWholeBad, KeepsRead}
-use Rattle.input_front.proofs.Fronts.{front_law}
-use Rattle.live_intake.specs.declared.stop.Stop.{Stop}
-use Rattle.live_intake.specs.declared.stop.Stop.TheVariants as stop
-use Rattle.live_intake.specs.Reading.{AreNumbered, Ends, HasFront, HasTaken, IsBadForGood, fence_lines}
-use Rattle.live_intake.specs.Live.{HasRunLive, IsStop, front_bytes, is_end, is_fence}
+use Rattle.live_reading.specs.input_front.specs.Front.{IsBatchAt, IsFrontOf}
+use Rattle.live_reading.specs.input_front.specs.Taken.{HasBatches, HasRead, IntakeView, IsFirstWholeBad, KeepsRead}
+use Rattle.live_reading.specs.input_front.proofs.Fronts.{front_law}
+use Rattle.live_reading.specs.declared.stop.Stop.{Stop}
+use Rattle.live_reading.specs.declared.stop.Stop.TheVariants as stop
+use Rattle.live_reading.specs.Reading.{AreNumbered, Ends, HasFront, HasTaken, IsBadForGood, fence_lines}
+use Rattle.live_reading.specs.Fronts.{is_fence}
+use Rattle.live_intake.specs.Live.{HasRunLive, IsStop, front_bytes, is_end}
 
 -- the batches before
 pub record HasBefore (old : IntakeView) : Type 0 where

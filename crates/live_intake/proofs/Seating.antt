@@ -3,9 +3,9 @@ use Rattle.std.proofs.Common.{◌≡◌, ◌∙◌, ◌+◌, ◌<◌, ℕ, zero,
 use Rattle.turn_lock.specs.Seats.{number}
 use Rattle.live_intake.specs.declared.lane.LiveLane.{LiveLane}
 use Rattle.live_intake.specs.declared.room.Place.{Place}
-use Rattle.live_intake.specs.Handing.{lines_since}
+use Rattle.live_reading.specs.Handing.{lines_since}
 use Rattle.live_intake.specs.Joining.{AreJoined, IsJoined}
-use Rattle.live_intake.specs.Rings.{Ring}
+use Rattle.live_reading.specs.Rings.{Ring}
 use Rattle.live_intake.specs.Rooms.{IsPlace}
 
 -- a lane at its place has its ring

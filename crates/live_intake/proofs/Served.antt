@@ -4,35 +4,35 @@ use Rattle.std.proofs.Common.{◌≡◌, ◌∙◌, ◌+◌, ◌<◌, ◌≤◌,
 use Rattle.std.proofs.lemmas.List.{get_or-map, length-map, map-append}
 use Rattle.std.proofs.lemmas.List.Elements.{All-append, All-map}
 use Rattle.setoff_model.specs.declared.limits.TheConstants.{MOST_LANES}
-use Rattle.disk_model.specs.Calls.{Seen}
-use Rattle.claim_history.specs.declared.call.PoolEntry.{PoolEntry}
-use Rattle.claim_history.proofs.Pasts.{all_reverse}
+use Rattle.lane_runner.specs.disk_model.specs.Calls.{Seen}
+use Rattle.lane_runner.specs.claim_history.specs.declared.call.PoolEntry.{PoolEntry}
+use Rattle.lane_runner.specs.claim_history.proofs.Pasts.{all_reverse}
 use Rattle.turn_lock.specs.declared.turn.Seat.{Seat}
 use Rattle.turn_lock.specs.declared.turn.Turn.{Turn}
 use Rattle.turn_lock.specs.declared.view.View.{View}
 use Rattle.turn_lock.specs.Turns.{EachOf}
-use Rattle.bureau_desk.specs.declared.base.DeskBase.{DeskBase}
-use Rattle.bureau_desk.specs.Desks.{DeskView}
-use Rattle.shared_bureau.specs.Adding.{IsReady}
-use Rattle.shared_bureau.specs.Finishing.{HasFinished}
-use Rattle.request_text.specs.declared.request.Request.{Request}
-use Rattle.request_text.specs.Lanes.{IsLane}
-use Rattle.served_lines.specs.declared.answer.Answer.{Answer}
-use Rattle.served_lines.specs.Served.{lane_lines}
+use Rattle.lane_runner.specs.bureau_desk.specs.declared.base.DeskBase.{DeskBase}
+use Rattle.lane_runner.specs.bureau_desk.specs.Desks.{DeskView}
+use Rattle.lane_runner.specs.shared_bureau.specs.Adding.{IsReady}
+use Rattle.lane_runner.specs.shared_bureau.specs.Finishing.{HasFinished}
+use Rattle.lane_runner.specs.request_text.specs.declared.request.Request.{Request}
+use Rattle.lane_runner.specs.request_text.specs.Lanes.{IsLane}
+use Rattle.lane_runner.specs.served_lines.specs.declared.answer.Answer.{Answer}
+use Rattle.lane_runner.specs.served_lines.specs.Served.{lane_lines}
 use Rattle.lane_runner.specs.Lanes.{HasServedLines}
 use Rattle.lane_runner.specs.Seating.{HasServedAll, IsNewSeatAt}
 use Rattle.lane_runner.proofs.Batched.{served_all}
 use Rattle.lane_runner.proofs.Places.{one_of}
-use Rattle.input_front.specs.Taken.{IntakeView}
+use Rattle.live_reading.specs.input_front.specs.Taken.{IntakeView}
 use Rattle.live_intake.specs.declared.lane.LiveLane.{LiveLane}
-use Rattle.live_intake.specs.declared.stop.Stop.{Stop}
-use Rattle.live_intake.specs.Handing.{IsMarked}
+use Rattle.live_reading.specs.declared.stop.Stop.{Stop}
+use Rattle.live_reading.specs.Handing.{IsMarked}
 use Rattle.live_intake.specs.Joining.{AreJoined, HaveServedThese}
-use Rattle.live_intake.specs.Rings.{Ring}
+use Rattle.live_reading.specs.Rings.{Ring}
 use Rattle.live_intake.specs.Segments.{IsFit}
 use Rattle.live_intake.specs.Batching.{AreReady, HasServedBatch, HasServedMore, HaveAnswers, HaveEnds, HaveServedAll, IsNewLane}
 use Rattle.live_intake.proofs.Following.{lane_lines_append, none_served, then_served}
-use Rattle.live_intake.proofs.InReading.{ends_more, none_read}
+use Rattle.live_reading.proofs.InReading.{ends_more, none_read}
 
 -- ---- one segment
 

@@ -1,27 +1,27 @@
 -- A lane, while it serves what it is handed.
 use Rattle.std.proofs.Common.{◌≡◌, ◌∙◌, ◌+◌, ◌<◌, ◌≤◌, ℕ, List, [], ◌∷◌, ◌++◌, All, map, refl, sym, ap, subst, arith, append_assoc, vec_len, vec_capacity}
-use Rattle.live_intake.specs.declared.handed.TheConstants.{MOST_HANDED}
+use Rattle.live_reading.specs.declared.handed.TheConstants.{MOST_HANDED}
 use Rattle.std.proofs.lemmas.List.{append-nil, map-append}
 use Rattle.std.proofs.lemmas.List.Elements.{All-append, All-cons, All-nil}
 use Rattle.rtrb.specs.Ring.{received, SameConsumer}
 use Rattle.rtrb.specs.declared.consumer.Consumer.{Consumer}
-use Rattle.claim_history.specs.declared.act.Act.{Act}
-use Rattle.claim_history.specs.declared.call.PoolEntry.{PoolEntry}
-use Rattle.request_text.specs.declared.request.Request.{Request}
+use Rattle.lane_runner.specs.claim_history.specs.declared.act.Act.{Act}
+use Rattle.lane_runner.specs.claim_history.specs.declared.call.PoolEntry.{PoolEntry}
+use Rattle.lane_runner.specs.request_text.specs.declared.request.Request.{Request}
 use Rattle.turn_lock.specs.declared.turn.Turn.{Turn}
 use Rattle.turn_lock.specs.Seats.{number}
-use Rattle.bureau_desk.specs.declared.base.DeskBase.{DeskBase}
-use Rattle.bureau_desk.specs.Desks.{DeskView}
-use Rattle.shared_bureau.specs.Adding.{IsReady}
-use Rattle.served_lines.specs.declared.line_end.LineEnd.{LineEnd}
+use Rattle.lane_runner.specs.bureau_desk.specs.declared.base.DeskBase.{DeskBase}
+use Rattle.lane_runner.specs.bureau_desk.specs.Desks.{DeskView}
+use Rattle.lane_runner.specs.shared_bureau.specs.Adding.{IsReady}
+use Rattle.lane_runner.specs.served_lines.specs.declared.line_end.LineEnd.{LineEnd}
 use Rattle.lane_runner.specs.Serving.{HasServed}
 use Rattle.lane_runner.specs.Lanes.{HasRun}
 use Rattle.lane_runner.proofs.Running.{run_begins, run_more}
-use Rattle.live_intake.specs.declared.handed.Handed.TheVariants as handed
+use Rattle.live_reading.specs.declared.handed.Handed.TheVariants as handed
 use Rattle.live_intake.specs.declared.lane.LiveLane.{LiveLane}
-use Rattle.live_intake.specs.Handing.{MayHand, handed_of, lines_since}
+use Rattle.live_reading.specs.Handing.{MayHand, handed_of, lines_since}
 use Rattle.live_intake.specs.Segments.{HasServedSegment, IsFit}
-use Rattle.live_intake.proofs.Handing.{since_line}
+use Rattle.live_reading.proofs.Handing.{since_line}
 
 -- the same ring
 pub same_twice : {T A P : Type 0} (a b c : Consumer T A P) → SameConsumer a b → SameConsumer b c → SameConsumer a c

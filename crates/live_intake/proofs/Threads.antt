@@ -3,8 +3,8 @@ use denote.RattleType.{RattleType}
 use denote.Param.Send.{IsSend, Frees, sendable}
 use Rattle.std.proofs.Crossing.{crosses}
 use Rattle.std.proofs.Crossing as std
-use Rattle.disk_model.specs.declared.disk.Disk.{Ghosts}
-use Rattle.shared_bureau.proofs.Threads.{seat_field_of_desk_is_sent}
+use Rattle.lane_runner.specs.disk_model.specs.declared.disk.Disk.{Ghosts}
+use Rattle.lane_runner.specs.shared_bureau.proofs.Threads.{seat_field_of_desk_is_sent}
 use Rattle.live_intake.specs.contracts.lane.LiveLane as lane
 use Rattle.std.specs.declared.alloc.Allocator as alloc
 use Rattle.rtrb.specs.declared.Protocol as protocol
@@ -13,9 +13,9 @@ use Rattle.rtrb.proofs.end.End.TheSendSync as sent
 use Rattle.setoff_model.specs.contracts.name.Name as name
 use Rattle.setoff_model.specs.contracts.name.Key as key
 use Rattle.setoff_model.specs.contracts.outcome.Outcome as outcome
-use Rattle.claim_history.specs.contracts.day.Day as day
-use Rattle.claim_history.specs.contracts.act.Act as act
-use Rattle.live_intake.specs.contracts.handed.Handed as handed
+use Rattle.lane_runner.specs.claim_history.specs.contracts.day.Day as day
+use Rattle.lane_runner.specs.claim_history.specs.contracts.act.Act as act
+use Rattle.live_reading.specs.contracts.handed.Handed as handed
 
 name_is_sent : IsSend (name.the_field).row
 name_is_sent = search sendable depth 20

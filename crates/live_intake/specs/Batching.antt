@@ -1,23 +1,23 @@
 -- The segments of a batch: the answers of each, and what all lanes have done so far.
 use Rattle.std.specs.Prelude.{◌≡◌, ◌+◌, ◌<◌, ℕ, Option, List, ◌++◌, All, length, map, slice_index_or}
 use Rattle.setoff_model.specs.declared.limits.TheConstants.{MOST_LANES}
-use Rattle.claim_history.specs.declared.call.PoolEntry.{PoolEntry}
+use Rattle.lane_runner.specs.claim_history.specs.declared.call.PoolEntry.{PoolEntry}
 use Rattle.turn_lock.specs.declared.turn.Turn.{Turn}
 use Rattle.turn_lock.specs.Turns.{EachOf}
-use Rattle.bureau_desk.specs.declared.base.DeskBase.{DeskBase}
-use Rattle.bureau_desk.specs.Desks.{DeskView}
-use Rattle.request_text.specs.declared.request.Request.{Request}
-use Rattle.request_text.specs.Lanes.{IsLane}
-use Rattle.served_lines.specs.declared.answer.Answer.{Answer}
-use Rattle.served_lines.specs.Served.{lane_lines}
-use Rattle.lane_runner.specs.Lanes.{HasServedLines, ended, of_lane}
+use Rattle.lane_runner.specs.bureau_desk.specs.declared.base.DeskBase.{DeskBase}
+use Rattle.lane_runner.specs.bureau_desk.specs.Desks.{DeskView}
+use Rattle.lane_runner.specs.request_text.specs.declared.request.Request.{Request}
+use Rattle.lane_runner.specs.request_text.specs.Lanes.{IsLane}
+use Rattle.lane_runner.specs.served_lines.specs.declared.answer.Answer.{Answer}
+use Rattle.lane_runner.specs.served_lines.specs.Served.{lane_lines, of_lane}
+use Rattle.lane_runner.specs.Lanes.{HasServedLines, ended}
 use Rattle.lane_runner.specs.Seating.{IsNewSeatAt}
 use Rattle.live_intake.specs.declared.lane.LiveLane.{LiveLane}
-use Rattle.live_intake.specs.declared.stop.Stop.{Stop}
-use Rattle.input_front.specs.Taken.{IntakeView}
+use Rattle.live_reading.specs.declared.stop.Stop.{Stop}
+use Rattle.live_reading.specs.input_front.specs.Taken.{IntakeView}
 use Rattle.live_intake.specs.Joining.{AreJoined}
-use Rattle.live_intake.specs.Reading.{Ends}
-use Rattle.live_intake.specs.Rings.{Ring}
+use Rattle.live_reading.specs.Reading.{Ends}
+use Rattle.live_reading.specs.Rings.{Ring}
 use Rattle.live_intake.specs.Segments.{IsFit}
 
 module _ {D : Type 0} (requests : List Request) (lanes : List (LiveLane D)) where

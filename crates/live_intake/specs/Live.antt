@@ -2,26 +2,22 @@
 use Rattle.std.specs.Prelude.{◌≡◌, ◌⊎◌, ◌+◌, ◌<◌, ◌≤◌, ℕ, Bool, true, false, Option, Some, None, List, [], ◌∷◌, ◌++◌, length, take, drop}
 use Rattle.std.specs.Io.KnownBytes.{Consumes, IsAtEnd}
 use Rattle.fault_count.specs.Counts.{HasRisen}
-use Rattle.disk_model.specs.Calls.{Seen}
-use Rattle.request_text.specs.declared.request.Request.{Request}
-use Rattle.request_text.specs.Grammar.{IsFirstBadLine, IsRequestText}
-use Rattle.claim_history.specs.declared.call.PoolEntry.{PoolEntry}
+use Rattle.lane_runner.specs.disk_model.specs.Calls.{Seen}
+use Rattle.lane_runner.specs.request_text.specs.declared.request.Request.{Request}
+use Rattle.lane_runner.specs.request_text.specs.Grammar.{IsFirstBadLine, IsRequestText}
+use Rattle.lane_runner.specs.claim_history.specs.declared.call.PoolEntry.{PoolEntry}
 use Rattle.turn_lock.specs.declared.view.View.{View}
-use Rattle.bureau_desk.specs.declared.base.DeskBase.{DeskBase}
-use Rattle.bureau_desk.specs.Desks.{DeskView}
+use Rattle.lane_runner.specs.bureau_desk.specs.declared.base.DeskBase.{DeskBase}
+use Rattle.lane_runner.specs.bureau_desk.specs.Desks.{DeskView}
 use Rattle.lane_runner.specs.Seating.{HasServedAll}
-use Rattle.served_lines.specs.declared.answer.Answer.{Answer}
+use Rattle.lane_runner.specs.served_lines.specs.declared.answer.Answer.{Answer}
 use Rattle.lane_runner.specs.Batches.{HasRunBatch}
-use Rattle.input_front.specs.Front.{IsBatchAt, IsFrontOf}
-use Rattle.input_front.specs.Taken.{HasNoFeed, HasRead, IntakeView, IsFirstWholeBad}
-use Rattle.live_intake.specs.Reading.{AreNumbered, Ends, fence_lines}
-use Rattle.live_intake.specs.declared.stop.Stop.{Stop}
-use Rattle.live_intake.specs.declared.stop.Stop.TheVariants as stop
-
--- a line FENCE with its line feed ended the batch
-abbrev pub is_fence : Stop → Bool
-is_fence stop.Fence = true
-is_fence _ = false
+use Rattle.live_reading.specs.input_front.specs.Front.{IsBatchAt, IsFrontOf}
+use Rattle.live_reading.specs.input_front.specs.Taken.{HasNoFeed, HasRead, IntakeView, IsFirstWholeBad}
+use Rattle.live_reading.specs.Fronts.{is_fence}
+use Rattle.live_reading.specs.Reading.{AreNumbered, Ends, fence_lines}
+use Rattle.live_reading.specs.declared.stop.Stop.{Stop}
+use Rattle.live_reading.specs.declared.stop.Stop.TheVariants as stop
 
 -- the input ended
 abbrev pub is_end : Stop → Bool

@@ -1,7 +1,7 @@
 -- The memory for a batch.
 use Rattle.std.specs.Prelude.{◌≡◌, ◌+◌, ◌≤◌, [], All, length, vec_len, vec_capacity}
-use Rattle.live_intake.specs.declared.handed.TheConstants.{MOST_HANDED}
-use Rattle.live_intake.specs.declared.reading.TheConstants.{MOST_ASKED}
+use Rattle.live_reading.specs.declared.handed.TheConstants.{MOST_HANDED}
+use Rattle.live_reading.specs.declared.reading.TheConstants.{MOST_ASKED}
 use Rattle.setoff_model.specs.declared.limits.TheConstants.{MOST_LANES}
 use Rattle.rtrb.specs.Ring.{received, sent, known_free, producer_capacity, IsPair}
 use Rattle.live_intake.specs.declared.room.LiveRoom.{LiveRoom}

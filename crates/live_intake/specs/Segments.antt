@@ -1,17 +1,17 @@
 -- What one lane does in a segment.
 use Rattle.std.specs.Prelude.{◌≡◌, ◌<◌, ◌≤◌, ℕ, List, ◌++◌, All, length, slice_index_or, vec_capacity}
-use Rattle.live_intake.specs.declared.handed.TheConstants.{MOST_HANDED}
+use Rattle.live_reading.specs.declared.handed.TheConstants.{MOST_HANDED}
 use Rattle.rtrb.specs.Ring.{received, SameConsumer}
-use Rattle.claim_history.specs.declared.call.PoolEntry.{PoolEntry}
+use Rattle.lane_runner.specs.claim_history.specs.declared.call.PoolEntry.{PoolEntry}
 use Rattle.turn_lock.specs.declared.turn.Turn.{Turn}
 use Rattle.turn_lock.specs.Seats.{number}
-use Rattle.bureau_desk.specs.declared.base.DeskBase.{DeskBase}
-use Rattle.bureau_desk.specs.Desks.{DeskView}
-use Rattle.shared_bureau.specs.Adding.{IsReady}
-use Rattle.request_text.specs.declared.request.Request.{Request}
+use Rattle.lane_runner.specs.bureau_desk.specs.declared.base.DeskBase.{DeskBase}
+use Rattle.lane_runner.specs.bureau_desk.specs.Desks.{DeskView}
+use Rattle.lane_runner.specs.shared_bureau.specs.Adding.{IsReady}
+use Rattle.lane_runner.specs.request_text.specs.declared.request.Request.{Request}
 use Rattle.lane_runner.specs.Lanes.{HasRun}
 use Rattle.live_intake.specs.declared.lane.LiveLane.{LiveLane}
-use Rattle.live_intake.specs.Handing.{IsMarked, segment_of}
+use Rattle.live_reading.specs.Handing.{IsMarked, segment_of}
 
 module _ {D : Type 0} (turn : Turn (DeskView D) PoolEntry (DeskBase D)) where
   -- a lane of this lock at the beginning of a segment, with room for what comes of its lines

@@ -1,18 +1,18 @@
 //! One lane, while lines are handed to it.
 ghost use Rattle.std.specs.Prelude.{◌≡◌, ◌++◌, ◌∷◌, []};
 ghost use Rattle.rtrb.specs.Ring.{received, SameConsumer};
-ghost use Rattle.live_intake.specs.Handing.{MayHand};
+ghost use Rattle.live_reading.specs.Handing.{MayHand};
 ghost use Rattle.live_intake.specs.Segments.{HasServedSegment, IsFit};
 
-use crate::handed::{Handed, InSegments};
-use bureau_desk::Desk;
-use disk_model::Disk;
-use flow_solver::Solver;
+use lane_runner::bureau_desk::Desk;
+use lane_runner::disk_model::Disk;
+use lane_runner::flow_solver::Solver;
+use lane_runner::request_text::Request;
+use lane_runner::served_lines::LineEnd;
+use lane_runner::shared_bureau::Pause;
 use lane_runner::{Gate, Service, serve};
-use request_text::Request;
+use live_reading::{Handed, InSegments};
 use rtrb::Consumer;
-use served_lines::LineEnd;
-use shared_bureau::Pause;
 use std::alloc::Global;
 use std::sync::Wait;
 use std::thread;

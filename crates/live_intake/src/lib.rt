@@ -7,21 +7,18 @@
 //! received. `run_live` serves one batch, and `HasRunLive` says which, and why it ended.
 #![tactic(auto)]
 
-mod alone;
 mod answers;
 mod fork;
-mod handed;
 mod lane;
 mod live;
 mod meeting;
-mod passing;
-mod reading;
-mod rings;
 mod room;
 mod seats;
 mod segment;
 mod segments;
-mod stop;
 
+pub use lane_runner;
+pub use lane_runner::{bureau_desk, price_certificate, shared_bureau};
 pub use live::{LiveEnd, run_live};
-pub use stop::Stop;
+pub use live_reading::input_front::Intake;
+pub use live_reading::{Stop, input_front};

@@ -3,15 +3,13 @@ ghost use Rattle.std.specs.Prelude.{◌≡◌, ◌+◌, ◌<◌, ◌≤◌, [], 
 ghost use Rattle.setoff_model.specs.declared.limits.TheConstants.{MOST_LANES, MOST_INPUT_BYTES};
 ghost use Rattle.live_intake.specs.Rooms.{IsPlace, IsRoom};
 
-use crate::handed::{Handed, InSegments, MOST_HANDED};
 use crate::lane::LiveLane;
-use crate::reading::MOST_ASKED;
-use crate::rings::Ring;
-use bureau_desk::Desk;
-use disk_model::Disk;
-use request_text::Request;
+use lane_runner::bureau_desk::Desk;
+use lane_runner::disk_model::Disk;
+use lane_runner::request_text::Request;
+use lane_runner::served_lines::{Answer, LineEnd};
+use live_reading::{Handed, InSegments, MOST_ASKED, MOST_HANDED, Ring};
 use rtrb::{Consumer, RingBuffer};
-use served_lines::{Answer, LineEnd};
 use setoff_model::limits::MOST_LANES;
 use std::alloc::{AllocError, Global};
 use turn_lock::Seat;

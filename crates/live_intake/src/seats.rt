@@ -8,11 +8,11 @@ ghost use Rattle.live_intake.specs.Batching.{AreReady, IsNewLane};
 ghost use Rattle.live_intake.specs.Rooms.{IsPlace};
 
 use crate::lane::LiveLane;
-use crate::rings::Ring;
 use crate::room::Place;
-use bureau_desk::Desk;
-use disk_model::Disk;
-use shared_bureau::Shared;
+use lane_runner::bureau_desk::Desk;
+use lane_runner::disk_model::Disk;
+use lane_runner::shared_bureau::Shared;
+use live_reading::Ring;
 use turn_lock::{Registrar, Seat};
 
 /// Makes a lane for each place: its seat has the next number. There are no lanes and no rings at first, and the room for them is

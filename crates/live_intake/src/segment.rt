@@ -1,30 +1,27 @@
 //! One segment: lines are handed to their lanes, which serve them meanwhile.
 ghost use Rattle.std.specs.Prelude.{◌≡◌, ◌≤◌, false, [], length, All, vec_len, vec_capacity};
-ghost use Rattle.live_intake.specs.declared.reading.TheConstants.{MOST_ASKED};
+ghost use Rattle.live_reading.specs.declared.reading.TheConstants.{MOST_ASKED};
 ghost use Rattle.setoff_model.specs.declared.limits.TheConstants.{MOST_LANES};
-ghost use Rattle.request_text.specs.Lanes.{IsLane};
-ghost use Rattle.live_intake.specs.Reading.{Ends, HasTaken};
-ghost use Rattle.live_intake.specs.Reader.{HasReadSegment, MayRead};
+ghost use Rattle.lane_runner.specs.request_text.specs.Lanes.{IsLane};
+ghost use Rattle.live_reading.specs.Reading.{Ends, HasTaken};
+ghost use Rattle.live_reading.specs.Reader.{HasReadSegment, MayRead};
 ghost use Rattle.live_intake.specs.Joining.{AreJoined, HaveServedThese};
 ghost use Rattle.live_intake.specs.Segments.{HaveServed, IsFit};
-ghost use Rattle.live_intake.specs.Sparing.{HasSpare, KeepsSpare};
+ghost use Rattle.live_reading.specs.Sparing.{HasSpare, KeepsSpare};
 
-use crate::alone::steps_alone;
 use crate::fork::serve_lanes;
 use crate::lane::LiveLane;
 use crate::meeting::meet;
-use crate::reading::read_segment;
-use crate::rings::Ring;
-use crate::stop::Stop;
 use bureau_edge::Source;
-use disk_model::Disk;
-use flow_solver::Solver;
-use input_front::Intake;
+use lane_runner::disk_model::Disk;
+use lane_runner::flow_solver::Solver;
+use lane_runner::request_text::Request;
+use lane_runner::served_lines::Answer;
+use lane_runner::shared_bureau::Pause;
 use lane_runner::{Gate, Service};
-use request_text::Request;
-use served_lines::Answer;
+use live_reading::input_front::Intake;
+use live_reading::{Ring, Stop, read_segment, steps_alone};
 use setoff_model::limits::MOST_LANES;
-use shared_bureau::Pause;
 use std::sync::Wait;
 use std::thread::{Threads, join_mut};
 

@@ -1,23 +1,22 @@
 //! The segments of a batch, one after another.
 ghost use Rattle.std.specs.Prelude.{◌≡◌, ◌≤◌, false, [], None, Some, vec_capacity};
-ghost use Rattle.live_intake.specs.declared.reading.TheConstants.{MOST_ASKED};
+ghost use Rattle.live_reading.specs.declared.reading.TheConstants.{MOST_ASKED};
 ghost use Rattle.live_intake.specs.Batching.{AreReady, HasServedBatch, HasServedMore};
-ghost use Rattle.live_intake.specs.Reading.{HasTaken};
-ghost use Rattle.live_intake.specs.Sparing.{HasMoved, HasSpare};
+ghost use Rattle.live_reading.specs.Reading.{HasTaken};
+ghost use Rattle.live_reading.specs.Sparing.{HasMoved, HasSpare};
 
 use crate::answers::merge;
 use crate::lane::LiveLane;
-use crate::rings::Ring;
 use crate::segment::run_segment;
-use crate::stop::Stop;
 use bureau_edge::Source;
-use disk_model::Disk;
-use flow_solver::Solver;
-use input_front::Intake;
+use lane_runner::disk_model::Disk;
+use lane_runner::flow_solver::Solver;
+use lane_runner::request_text::Request;
+use lane_runner::served_lines::Answer;
+use lane_runner::shared_bureau::Pause;
 use lane_runner::{Gate, Service};
-use request_text::Request;
-use served_lines::Answer;
-use shared_bureau::Pause;
+use live_reading::input_front::Intake;
+use live_reading::{Ring, Stop};
 use std::sync::Wait;
 use std::thread::Threads;
 

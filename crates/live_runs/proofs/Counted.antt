@@ -1,11 +1,11 @@
 -- The lines of a batch that got no answers, by their numbers.
 use Rattle.std.specs.Prelude.{Option, Some, None}
 use Rattle.std.proofs.Common.{◌≡◌, ◌∙◌, ℕ, ◌+◌, List, [], ◌∷◌, length, refl, sym, ap, ap₂}
-use Rattle.request_text.specs.declared.request.Request.{Request}
-use Rattle.served_lines.specs.declared.answer.Answer.{Answer}
-use Rattle.served_lines.specs.declared.line_end.LineEnd.TheVariants as ends
-use Rattle.printed_text.specs.Printing.{unanswered, unanswered_lines}
-use Rattle.live_intake.specs.Reading.{AreNumbered}
+use Rattle.batch_runs.specs.request_text.specs.declared.request.Request.{Request}
+use Rattle.batch_runs.specs.served_lines.specs.declared.answer.Answer.{Answer}
+use Rattle.batch_runs.specs.served_lines.specs.declared.line_end.LineEnd.TheVariants as ends
+use Rattle.batch_runs.specs.printed_text.specs.Printing.{unanswered, unanswered_lines}
+use Rattle.live_intake.specs.live_reading.specs.Reading.{AreNumbered}
 use Rattle.batch_runs.specs.Serving.{answers_of, counted_answers}
 
 numbered_same : (first : ℕ) (rs : List Request) → AreNumbered first rs → unanswered rs ≡ unanswered_lines first (length rs)

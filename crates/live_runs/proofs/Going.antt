@@ -10,22 +10,22 @@ use Rattle.fault_count.specs.Counts.{HasRisen}
 use Rattle.fault_count.proofs.Rising.{risen_within}
 use Rattle.bureau_edge.specs.Streams.{AppendsPart}
 use Rattle.disk_model.specs.Calls.{Seen}
-use Rattle.request_text.specs.declared.request.Request.{Request}
-use Rattle.request_text.specs.Grammar.{AreBatches, IsRequestText}
-use Rattle.bureau_desk.specs.Desks.{DeskView}
-use Rattle.printed_text.specs.declared.exit_status.ExitStatus.{ExitStatus}
-use Rattle.printed_text.specs.declared.exit_status.ExitStatus.TheVariants as statuses
-use Rattle.input_front.specs.Front.{IsFrontOf, is_feed, whole_lines, whole_of_parts}
-use Rattle.input_front.specs.Taken.{HasBatches, HasNoFeed, HasRead, IntakeView}
-use Rattle.input_front.proofs.Fronts.{front_law}
-use Rattle.live_intake.specs.declared.stop.Stop.{Stop}
-use Rattle.live_intake.specs.declared.stop.Stop.TheVariants as stop
-use Rattle.live_intake.specs.Live.{IsStop, is_fence}
+use Rattle.batch_runs.specs.request_text.specs.declared.request.Request.{Request}
+use Rattle.batch_runs.specs.request_text.specs.Grammar.{AreBatches, IsRequestText}
+use Rattle.batch_runs.specs.bureau_desk.specs.Desks.{DeskView}
+use Rattle.batch_runs.specs.printed_text.specs.declared.exit_status.ExitStatus.{ExitStatus}
+use Rattle.batch_runs.specs.printed_text.specs.declared.exit_status.ExitStatus.TheVariants as statuses
+use Rattle.live_intake.specs.input_front.specs.Front.{IsFrontOf, is_feed, whole_lines, whole_of_parts}
+use Rattle.live_intake.specs.input_front.specs.Taken.{HasBatches, HasNoFeed, HasRead, IntakeView}
+use Rattle.live_intake.specs.input_front.proofs.Fronts.{front_law}
+use Rattle.live_intake.specs.live_reading.specs.declared.stop.Stop.{Stop}
+use Rattle.live_intake.specs.live_reading.specs.declared.stop.Stop.TheVariants as stop
+use Rattle.live_intake.specs.live_reading.specs.Fronts.{IsFrontServed, IsTakenWhole, is_fence}
+use Rattle.live_intake.specs.Live.{IsStop}
 use Rattle.batch_runs.specs.declared.tally.Tally.{Tally}
 use Rattle.batch_runs.specs.Runs.{run_status}
 use Rattle.batch_runs.specs.Serving.{IsTally, text_between}
 use Rattle.batch_runs.proofs.Batches.{SoFar, begins, breaks_at_last, ends_with, more, more_empty}
-use Rattle.live_runs.specs.Fronts.{IsFrontServed, IsTakenWhole}
 use Rattle.live_runs.specs.Serving.{HasServedInput, HasToldLive}
 
 -- these batches were served, each up to its FENCE

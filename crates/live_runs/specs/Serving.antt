@@ -3,19 +3,19 @@ use Rattle.std.specs.Prelude.{◌≡◌, ◌≢◌, ◌+◌, ◌≤◌, ℕ, fal
 use Rattle.std.specs.Io.KnownBytes.{Consumes}
 use Rattle.fault_count.specs.Counts.{HasRisen}
 use Rattle.disk_model.specs.Calls.{Seen}
-use Rattle.request_text.specs.declared.request.Request.{Request}
-use Rattle.request_text.specs.Grammar.{IsRequestText}
-use Rattle.bureau_desk.specs.Desks.{DeskView}
-use Rattle.served_lines.specs.declared.answer.Answer.{Answer}
-use Rattle.printed_text.specs.declared.exit_status.ExitStatus.{ExitStatus}
-use Rattle.printed_text.specs.declared.exit_status.ExitStatus.TheVariants as statuses
-use Rattle.input_front.specs.Taken.{HasBatches, IntakeView}
-use Rattle.live_intake.specs.declared.stop.Stop.{Stop}
-use Rattle.live_intake.specs.declared.stop.Stop.TheVariants as stop
-use Rattle.live_intake.specs.Live.{HasRunLive, is_fence}
+use Rattle.batch_runs.specs.request_text.specs.declared.request.Request.{Request}
+use Rattle.batch_runs.specs.request_text.specs.Grammar.{IsRequestText}
+use Rattle.batch_runs.specs.bureau_desk.specs.Desks.{DeskView}
+use Rattle.batch_runs.specs.served_lines.specs.declared.answer.Answer.{Answer}
+use Rattle.batch_runs.specs.printed_text.specs.declared.exit_status.ExitStatus.{ExitStatus}
+use Rattle.batch_runs.specs.printed_text.specs.declared.exit_status.ExitStatus.TheVariants as statuses
+use Rattle.live_intake.specs.input_front.specs.Taken.{HasBatches, IntakeView}
+use Rattle.live_intake.specs.live_reading.specs.declared.stop.Stop.{Stop}
+use Rattle.live_intake.specs.live_reading.specs.declared.stop.Stop.TheVariants as stop
+use Rattle.live_intake.specs.live_reading.specs.Fronts.{IsFrontServed, is_fence}
+use Rattle.live_intake.specs.Live.{HasRunLive}
 use Rattle.batch_runs.specs.declared.tally.Tally.{Tally}
 use Rattle.batch_runs.specs.Serving.{HasRunBatches, HasToldBatch}
-use Rattle.live_runs.specs.Fronts.{IsFrontServed}
 
 -- One batch was served while it was read, and counted into a tally. Its text was written after that, or the sink failed at it. The
 -- intake stands behind the lines of batches, and took at most one byte more than it may.

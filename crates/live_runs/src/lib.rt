@@ -6,4 +6,10 @@
 
 mod serving;
 
+pub use batch_runs;
+pub use batch_runs::{
+    bureau_desk, lane_runner, printed_text, request_text, round_journal, shared_bureau,
+};
+pub use live_intake;
+pub use live_intake::input_front;
 pub use serving::serve_input;

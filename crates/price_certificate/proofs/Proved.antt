@@ -7,10 +7,10 @@ use Rattle.setoff_model.specs.Setoff.{IsLawful, Proves, total_of, bound_of}
 use Rattle.setoff_model.specs.CutView.{CutView, obligations, spends}
 use Rattle.setoff_model.specs.Squeezing.{IsSqueezed}
 use Rattle.setoff_model.proofs.Near.{squeezing_keeps}
-use Rattle.netting_graph.specs.declared.arc.Arc.{Arc}
-use Rattle.netting_graph.specs.NetView.{NetView}
-use Rattle.netting_graph.specs.Merging.{IsNetOf, IsSpread}
-use Rattle.netting_graph.proofs.Kept.{spread_law, bound_law}
+use Rattle.flow_solver.specs.netting_graph.specs.declared.arc.Arc.{Arc}
+use Rattle.flow_solver.specs.netting_graph.specs.NetView.{NetView}
+use Rattle.flow_solver.specs.netting_graph.specs.Merging.{IsNetOf, IsSpread}
+use Rattle.flow_solver.specs.netting_graph.proofs.Kept.{spread_law, bound_law}
 use Rattle.flow_solver.specs.Solution.{FlowView, IsSolution}
 
 pub proved : (cut : CutView) (net : NetView) (flow : FlowView) (d : List ℕ) (q : List ℤ) →

@@ -3,12 +3,12 @@ ghost use Rattle.std.specs.Prelude.{IfOk};
 ghost use Rattle.setoff_model.specs.Setoff.{Proves, IsOldestFirst};
 ghost use Rattle.setoff_model.specs.CutView.{obligations};
 ghost use Rattle.setoff_model.specs.Squeezing.{IsSqueezed};
-ghost use Rattle.netting_graph.specs.Merging.{IsNetOf, IsSpread};
+ghost use Rattle.flow_solver.specs.netting_graph.specs.Merging.{IsNetOf, IsSpread};
 ghost use Rattle.flow_solver.specs.Solution.{IsSolution};
 
 use flow_solver::Flow;
-use netting_graph::{Net, spread};
-use price_squeezing::squeeze;
+use flow_solver::netting_graph::{Net, spread};
+use flow_solver::price_squeezing::squeeze;
 use setoff_model::{Cut, Outcome};
 use std::alloc::{AllocError, Global};
 

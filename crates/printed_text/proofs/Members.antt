@@ -9,24 +9,24 @@ use Rattle.std.proofs.Math.Seq.{drop-length}
 use Rattle.setoff_model.specs.CutView.{CutView}
 use Rattle.setoff_model.proofs.Lists.{All-first}
 use Rattle.setoff_model.proofs.SameNames.{name_same}
-use Rattle.claim_history.specs.declared.call.PoolEntry.{PoolEntry}
-use Rattle.claim_history.specs.declared.entry.Entry.{Entry}
-use Rattle.claim_history.specs.declared.entry.Reply.{Reply}
-use Rattle.claim_history.specs.declared.entry.Reply.TheVariants as reply
-use Rattle.claim_history.specs.Acts.{is_valid}
-use Rattle.claim_history.specs.Laws.{IsReplyInRange}
-use Rattle.claim_history.specs.States.{OpenRound}
-use Rattle.claim_history.specs.History as one
-use Rattle.claim_history.specs.Pools.{AreValid, IsLegal, entries_in, open_round_in}
-use Rattle.claim_history.specs.PoolRounds.{cuts_after, cuts_of, open_cut_in}
-use Rattle.claim_history.specs.Rounds.{cut_published}
-use Rattle.claim_history.proofs.Greatest.{greatest_law}
-use Rattle.claim_history.proofs.Open.{number_from}
-use Rattle.claim_history.proofs.Pasts.{legal_first}
-use Rattle.claim_history.proofs.PoolCuts.{cuts_law}
-use Rattle.claim_history.proofs.Pools.{in_append, legal_in, past_own, valid_in}
-use Rattle.claim_history.proofs.Ranges.{replies_law}
-use Rattle.round_cut.proofs.OpenCut.{open_formed_law}
+use Rattle.served_lines.specs.claim_history.specs.declared.call.PoolEntry.{PoolEntry}
+use Rattle.served_lines.specs.claim_history.specs.declared.entry.Entry.{Entry}
+use Rattle.served_lines.specs.claim_history.specs.declared.entry.Reply.{Reply}
+use Rattle.served_lines.specs.claim_history.specs.declared.entry.Reply.TheVariants as reply
+use Rattle.served_lines.specs.claim_history.specs.Acts.{is_valid}
+use Rattle.served_lines.specs.claim_history.specs.Laws.{IsReplyInRange}
+use Rattle.served_lines.specs.claim_history.specs.States.{OpenRound}
+use Rattle.served_lines.specs.claim_history.specs.History as one
+use Rattle.served_lines.specs.claim_history.specs.Pools.{AreValid, IsLegal, entries_in, open_round_in}
+use Rattle.served_lines.specs.claim_history.specs.PoolRounds.{cuts_after, cuts_of, open_cut_in}
+use Rattle.served_lines.specs.claim_history.specs.Rounds.{cut_published}
+use Rattle.served_lines.specs.claim_history.proofs.Greatest.{greatest_law}
+use Rattle.served_lines.specs.claim_history.proofs.Open.{number_from}
+use Rattle.served_lines.specs.claim_history.proofs.Pasts.{legal_first}
+use Rattle.served_lines.specs.claim_history.proofs.PoolCuts.{cuts_law}
+use Rattle.served_lines.specs.claim_history.proofs.Pools.{in_append, legal_in, past_own, valid_in}
+use Rattle.served_lines.specs.claim_history.proofs.Ranges.{replies_law}
+use Rattle.served_lines.specs.round_cut.proofs.OpenCut.{open_formed_law}
 use Rattle.entry_text.specs.Entries.{entry_line}
 use Rattle.printed_text.specs.Printing.{IsPrintableAt, added_text, member_text, rounds_in, statement_of}
 use Rattle.printed_text.proofs.Printing.{same_statement}

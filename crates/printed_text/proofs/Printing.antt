@@ -12,11 +12,11 @@ use Rattle.setoff_model.specs.declared.limits.TheConstants.{SUM_LIMIT, MOST_AMOU
 use Rattle.setoff_model.specs.CutView.{CutView, OutcomeView, WellFormed, obligations}
 use Rattle.setoff_model.specs.Setoff.{IsLawful}
 use Rattle.setoff_model.proofs.Columns.{claims_long, lawful_fits, limit_small, parties_long}
-use Rattle.claim_history.specs.declared.act.Act.{Act}
-use Rattle.claim_history.specs.declared.act.Act.TheVariants as act
-use Rattle.claim_history.specs.declared.entry.Reply.{Reply}
-use Rattle.claim_history.specs.declared.entry.Reply.TheVariants as reply
-use Rattle.request_text.specs.declared.request.Request.{Request}
+use Rattle.served_lines.specs.claim_history.specs.declared.act.Act.{Act}
+use Rattle.served_lines.specs.claim_history.specs.declared.act.Act.TheVariants as act
+use Rattle.served_lines.specs.claim_history.specs.declared.entry.Reply.{Reply}
+use Rattle.served_lines.specs.claim_history.specs.declared.entry.Reply.TheVariants as reply
+use Rattle.served_lines.specs.request_text.specs.declared.request.Request.{Request}
 use Rattle.served_lines.specs.declared.answer.Answer.{Answer}
 use Rattle.served_lines.specs.declared.line_end.LineEnd.TheVariants as ends
 use Rattle.statement_text.specs.declared.line.Line.{Line}

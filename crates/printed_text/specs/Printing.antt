@@ -2,17 +2,17 @@
 use Rattle.std.specs.Prelude.{ℕ, zero, suc, ◌+◌, ◌≡◌, ◌≤◌, List, [], ◌∷◌, ◌++◌, flat_map, slice_get, codes, Option, Some}
 use Rattle.setoff_model.specs.CutView.{CutView, OutcomeView, WellFormed, obligations}
 use Rattle.setoff_model.specs.Setoff.{Proves}
-use Rattle.claim_history.specs.declared.act.Act.{Act}
-use Rattle.claim_history.specs.declared.act.Act.TheVariants as act
-use Rattle.claim_history.specs.declared.call.PoolEntry.{PoolEntry}
-use Rattle.claim_history.specs.declared.entry.Reply.{Reply}
-use Rattle.claim_history.specs.declared.entry.Reply.TheVariants as reply
-use Rattle.claim_history.specs.PoolRounds.{open_cut_in}
+use Rattle.served_lines.specs.claim_history.specs.declared.act.Act.{Act}
+use Rattle.served_lines.specs.claim_history.specs.declared.act.Act.TheVariants as act
+use Rattle.served_lines.specs.claim_history.specs.declared.call.PoolEntry.{PoolEntry}
+use Rattle.served_lines.specs.claim_history.specs.declared.entry.Reply.{Reply}
+use Rattle.served_lines.specs.claim_history.specs.declared.entry.Reply.TheVariants as reply
+use Rattle.served_lines.specs.claim_history.specs.PoolRounds.{open_cut_in}
 use Rattle.statement_text.specs.declared.line.Line.{Line}
 use Rattle.statement_text.specs.Lines.{line_text}
 use Rattle.entry_text.specs.Entries.{entry_line}
 use Rattle.statement_text.specs.Statements.{statement_bytes}
-use Rattle.request_text.specs.declared.request.Request.{Request}
+use Rattle.served_lines.specs.request_text.specs.declared.request.Request.{Request}
 use Rattle.served_lines.specs.declared.answer.Answer.{Answer}
 use Rattle.served_lines.specs.declared.line_end.LineEnd.{LineEnd}
 use Rattle.served_lines.specs.declared.line_end.LineEnd.TheVariants as ends

@@ -2,16 +2,16 @@
 use Rattle.std.specs.Prelude.{ℕ, ◌<◌, List, [], ◌++◌, length, codes, decimal, slice_index_or, unsigned_abs}
 use Rattle.setoff_model.specs.CutView.{CutView}
 use Rattle.setoff_model.specs.Texts.{cents_text}
-use Rattle.limited_book.specs.declared.room.Room.{Room}
-use Rattle.limited_book.specs.declared.room.Room.TheVariants.{Entries, Bytes}
-use Rattle.request_text.specs.declared.error.LineCause.{LineCause}
-use Rattle.request_text.specs.declared.error.LineCause.TheVariants as cause
+use Rattle.served_lines.specs.limited_book.specs.declared.room.Room.{Room}
+use Rattle.served_lines.specs.limited_book.specs.declared.room.Room.TheVariants.{Entries, Bytes}
+use Rattle.served_lines.specs.request_text.specs.declared.error.LineCause.{LineCause}
+use Rattle.served_lines.specs.request_text.specs.declared.error.LineCause.TheVariants as cause
 use Rattle.firm_notices.specs.declared.error.RowCause.{RowCause}
 use Rattle.firm_notices.specs.declared.error.RowCause.TheVariants as row
 use Rattle.statement_text.specs.declared.error.StatementCause.{StatementCause}
 use Rattle.statement_text.specs.declared.error.StatementCause.TheVariants as statement
-use Rattle.setoff_checker.specs.declared.verdict.Verdict.{Verdict}
-use Rattle.setoff_checker.specs.declared.verdict.Verdict.TheVariants as verdict
+use Rattle.served_lines.specs.setoff_checker.specs.declared.verdict.Verdict.{Verdict}
+use Rattle.served_lines.specs.setoff_checker.specs.declared.verdict.Verdict.TheVariants as verdict
 use Rattle.printed_text.specs.declared.exit_status.ExitStatus.{ExitStatus}
 use Rattle.printed_text.specs.declared.exit_status.ExitStatus.TheVariants as statuses
 

@@ -20,11 +20,16 @@ mod output;
 mod statement;
 mod verdict_text;
 
+pub use bureau_edge;
 pub use ending::{end_with, tell_no_memory, tell_read_fault, tell_too_long, tell_words};
+pub use entry_text;
 pub use exit_status::ExitStatus;
 pub use fault_text::{write_bad_line, write_bad_row, write_bad_statement};
+pub use firm_notices;
 pub use output::{
     flush, make_room, output_buffer, print_batch, print_member, print_publication,
     print_unanswered, print_unanswered_lines,
 };
+pub use served_lines::{claim_book, claim_history, round_cut};
+pub use statement_text;
 pub use verdict_text::{status_of_verdict, write_verdict};

@@ -4,8 +4,8 @@ use crate::runs::{
     failing_source, left_by, left_on, sink_of, source_of, words_of,
 };
 use bureau_commands::bureau;
+use bureau_commands::lane_runner::{Gate, Unhindered};
 use bureau_edge::{Failed, Source, SureSource};
-use lane_runner::{Gate, Unhindered};
 use std::sync::Wait;
 use std::sync::atomic::{AtomicU64, Ordering};
 use std::thread;

@@ -1,7 +1,7 @@
+use bureau_commands::lane_runner::Unhindered;
 use bureau_commands::{Ended, bureau, without_words};
 use bureau_edge::{BytesSink, BytesSource, Failed, Sink, Source, SureSource};
 use disk_model::{Disk, MemoryDisk};
-use lane_runner::Unhindered;
 use std::alloc::Global;
 use std::process::Abort;
 use std::sync::Wait;

@@ -1,62 +1,62 @@
 -- What a recorder keeps over an append.
-use Rattle.std.proofs.Common.{◌≡◌, inl, inr, ⊎_elim, ℕ, ◌+◌, ◌≤◌, max, Bool, true, false, if◌then◌else◌, List, [], ◌∷◌, ◌++◌, length, reverse, Option, Some, None, IsTrue, refl, sym, ◌∙◌, ap, subst, arith, length-append}
-use Rattle.std.proofs.lemmas.List.{reverse-append}
+use Rattle.std.proofs.Common.{◌≡◌, inl, inr, ⊎_elim, ℕ, ◌+◌, ◌≤◌, max, Bool, true, false, if◌then◌else◌, List, [], ◌∷◌, ◌++◌, length, reverse, IsTrue, refl, sym, ◌∙◌, ap, subst, arith, length-append}
+use Rattle.std.proofs.lemmas.List.{append-nil, reverse-append}
 use Rattle.std.proofs.lemmas.List.Elements.{All-push}
-use Rattle.disk_model.specs.Calls.{Seen, GoesOn, Passes}
-use Rattle.disk_model.proofs.Moments.{passes_still, passes_on, passes_wide}
-use Rattle.claim_history.specs.declared.call.Call.{Call}
-use Rattle.claim_history.specs.declared.call.PoolEntry.{PoolEntry}
-use Rattle.claim_history.specs.declared.entry.Reply.{Reply}
-use Rattle.claim_history.specs.declared.entry.Reply.TheVariants as reply
-use Rattle.claim_history.specs.declared.entry.Why.TheVariants as why
-use Rattle.claim_history.specs.History.{is_accepted, is_no_refusal, second_count, last_count}
-use Rattle.claim_history.specs.Needs.{is_of_device, body_length_of}
-use Rattle.claim_history.specs.PoolNeeds.{call_bytes, own_bytes, pool_bytes}
-use Rattle.claim_history.proofs.PoolRoom.{accepted_owns, use_law}
-use Rattle.act_bodies.specs.Bodies.{is_keepable, body_of}
+use Rattle.round_journal.specs.disk_model.specs.Calls.{Seen, GoesOn, Passes}
+use Rattle.round_journal.specs.disk_model.proofs.Moments.{passes_still, passes_on, passes_wide}
+use Rattle.limited_book.specs.claim_history.specs.declared.call.Call.{Call}
+use Rattle.limited_book.specs.claim_history.specs.declared.call.PoolEntry.{PoolEntry}
+use Rattle.limited_book.specs.claim_history.specs.declared.entry.Reply.{Reply}
+use Rattle.limited_book.specs.claim_history.specs.declared.entry.Reply.TheVariants as reply
+use Rattle.limited_book.specs.claim_history.specs.declared.entry.Why.TheVariants as why
+use Rattle.limited_book.specs.claim_history.specs.History.{is_accepted, is_no_refusal, second_count, last_count}
+use Rattle.limited_book.specs.claim_history.specs.Needs.{is_of_device, body_length_of}
+use Rattle.limited_book.specs.claim_history.specs.PoolNeeds.{call_bytes, own_bytes, pool_bytes}
+use Rattle.limited_book.specs.claim_history.proofs.PoolRoom.{accepted_owns, use_law}
+use Rattle.limited_book.specs.act_bodies.specs.Bodies.{is_keepable, body_of}
 use Rattle.round_journal.specs.Bytes.{StandsFor}
-use Rattle.round_journal.specs.Kept.{JournalView, IsKept, IsLast, HoldsOne}
+use Rattle.round_journal.specs.Kept.{JournalView, IsKept, IsLast, HoldsMore}
+use Rattle.round_journal.proofs.Bodies.{length-one}
 use Rattle.round_journal.specs.Appends.{HasAppended, HasNotAppended, HasTried}
-use Rattle.claim_history.specs.Pools.{accepted_calls, answered, call_of, entries_of}
+use Rattle.limited_book.specs.claim_history.specs.Pools.{accepted_calls, answered, call_of, entries_of}
 use Rattle.recorded_book.specs.Calls.{bodies_of_calls, HoldsDuring}
 use Rattle.recorded_book.specs.Moments.{HoldsAt, HasMoments}
 use Rattle.recorded_book.specs.Devices.{IsBetween, AreBetween}
 use Rattle.recorded_book.specs.Recorded.{RecorderView, IsTried, IsRecorded, Records}
-use Rattle.claim_history.proofs.Calls.{accepted_more, accepted_same}
+use Rattle.limited_book.specs.claim_history.proofs.Calls.{accepted_more, accepted_same}
 use Rattle.recorded_book.proofs.Histories.{bodies_append, tried_new, tried_stays, during_accepted, during_failed, all_holds}
 use Rattle.recorded_book.proofs.Grow.{moments_kept, moments_grow, held_on, held_now}
 
 -- what an append may leave is what is left by the history, or its accepted calls and the one in progress
-pub during_of_one : (history : List PoolEntry) (last : Option (List ℕ)) (call : Call) (c : List ℕ) → IsTried history last → HoldsOne (bodies_of_calls (accepted_calls history)) last (body_of call) c → HoldsDuring history call c
-during_of_one history None call c tried one = ⊎_elim
+pub during_of_one : (history : List PoolEntry) (last : List (List ℕ)) (call : Call) (c : List ℕ) → IsTried history last → HoldsMore (bodies_of_calls (accepted_calls history)) last (body_of call ∷ []) c → HoldsDuring history call c
+during_of_one history [] call c tried one = ⊎_elim
     (λ alone. inl (accepted_calls history, inl refl, inl alone))
     (λ more. ⊎_elim
     (λ new. inr (inl (subst (StandsFor c) (sym (bodies_append (accepted_calls history) (call ∷ []))) new)))
-    (λ other. absurd (cc other.1))
+    (λ other. inl (accepted_calls history, inl refl, inl (subst (StandsFor c) (append-nil (bodies_of_calls (accepted_calls history))) other)))
     more)
     one
-during_of_one history (Some body) call c tried one = ⊎_elim
+during_of_one history (body ∷ rest) call c tried one = ⊎_elim
     (λ alone. inl (accepted_calls history, inl refl, inl alone))
     (λ more. ⊎_elim
     (λ new. inr (inl (subst (StandsFor c) (sym (bodies_append (accepted_calls history) (call ∷ []))) new)))
     (λ other.
-    let is : other.0 ≡ body_of tried.0 = cc (other.1, tried.2) in
-    let stands : StandsFor c (bodies_of_calls (accepted_calls history) ++ body_of tried.0 ∷ []) = subst (λ (b : List ℕ). StandsFor c (bodies_of_calls (accepted_calls history) ++ b ∷ [])) is other.2 in
+    let stands : StandsFor c (bodies_of_calls (accepted_calls history) ++ body_of tried.0 ∷ []) = subst (λ (l : List (List ℕ)). StandsFor c (bodies_of_calls (accepted_calls history) ++ l)) tried.2 other in
     inl (accepted_calls history ++ tried.0 ∷ [], inr (tried.0, tried.1, refl), inl (subst (StandsFor c) (sym (bodies_append (accepted_calls history) (tried.0 ∷ []))) stands)))
     more)
     one
 
 -- what may be left as the body that was tried last, after an append that failed
-tried_after : (history : List PoolEntry) (e : PoolEntry) (before after : Option (List ℕ)) → is_of_device e.entry.reply ≡ true → is_accepted e.entry ≡ false → IsTried history before → IsLast before (body_of (call_of e)) after → IsTried (history ++ e ∷ []) after
-tried_after history e before None device refused tried is = tt
-tried_after history e before (Some body) device refused tried is = ⊎_elim
-    (λ same. let old : IsTried history (Some body) = subst (IsTried history) (sym same) tried in (old.0, tried_stays history e old.0 refused old.1, old.2))
-    (λ more. ⊎_elim (λ none. absurd (cc none)) (λ own. (call_of e, tried_new history e device, cc own)) more)
+tried_after : (history : List PoolEntry) (e : PoolEntry) (before after : List (List ℕ)) → is_of_device e.entry.reply ≡ true → is_accepted e.entry ≡ false → IsTried history before → IsLast before (body_of (call_of e) ∷ []) after → IsTried (history ++ e ∷ []) after
+tried_after history e before [] device refused tried is = tt
+tried_after history e before (body ∷ rest) device refused tried is = ⊎_elim
+    (λ same. let old : IsTried history (body ∷ rest) = subst (IsTried history) (sym same) tried in (old.0, tried_stays history e old.0 refused old.1, old.2))
+    (λ more. ⊎_elim (λ none. absurd (cc none)) (λ own. (call_of e, tried_new history e device, own)) more)
     is
 
-tried_noted : (history : List PoolEntry) (e : PoolEntry) (last : Option (List ℕ)) → is_accepted e.entry ≡ false → IsTried history last → IsTried (history ++ e ∷ []) last
-tried_noted history e None refused tried = tt
-tried_noted history e (Some body) refused tried = (tried.0, tried_stays history e tried.0 refused tried.1, tried.2)
+tried_noted : (history : List PoolEntry) (e : PoolEntry) (last : List (List ℕ)) → is_accepted e.entry ≡ false → IsTried history last → IsTried (history ++ e ∷ []) last
+tried_noted history e [] refused tried = tt
+tried_noted history e (body ∷ rest) refused tried = (tried.0, tried_stays history e tried.0 refused tried.1, tried.2)
 
 pub accepted_count : (r : Reply) → is_no_refusal r ≡ true → second_count r ≡ 0
 accepted_count (reply.Refused w) is = absurd (cc is)
@@ -147,7 +147,7 @@ module _ {D : Type 0} (seen : D → Seen) where
       (has : Records seen (view_at j spare opened opened_with cleared cleared_with) history)
       (can : is_keepable (call_of e) ≡ true)
       (body_is : body ≡ body_of (call_of e))
-      (tried : HasTried seen j j' body) where
+      (tried : HasTried seen j j' (body ∷ [])) where
     was_told : IsTrue (seen j'.disk).tells → IsRecorded seen (view_at j spare opened opened_with cleared cleared_with) history
     was_told told = has.recorded (subst (λ (b : Bool). IsTrue b) tried.tells told)
 
@@ -155,21 +155,21 @@ module _ {D : Type 0} (seen : D → Seen) where
     pub append_goes : IsTrue (seen j.disk).tells → Passes (seen j.disk) (seen j'.disk) (HoldsDuring history (call_of e))
     append_goes told =
         let kept = (has.recorded told).kept in
-        passes_wide (seen j.disk) (seen j'.disk) (HoldsOne (bodies_of_calls (accepted_calls history)) kept.0 body) (HoldsDuring history (call_of e)) (tried.crash kept.1 (bodies_of_calls (accepted_calls history)) kept.0 kept.2)
-        (λ c one. during_of_one history kept.0 (call_of e) c kept.3 (subst (λ (b : List ℕ). HoldsOne (bodies_of_calls (accepted_calls history)) kept.0 b c) body_is one))
+        passes_wide (seen j.disk) (seen j'.disk) (HoldsMore (bodies_of_calls (accepted_calls history)) kept.0 (body ∷ [])) (HoldsDuring history (call_of e)) (tried.crash kept.1 (bodies_of_calls (accepted_calls history)) kept.0 kept.2)
+        (λ c one. during_of_one history kept.0 (call_of e) c kept.3 (subst (λ (b : List ℕ). HoldsMore (bodies_of_calls (accepted_calls history)) kept.0 (b ∷ []) c) body_is one))
 
     -- the images of the opening stay
     stays_on : GoesOn (seen opened) (seen j.disk) → Passes (seen j.disk) (seen j'.disk) (HoldsDuring history (call_of e)) → GoesOn (seen opened) (seen j'.disk)
     stays_on was goes = passes_on (seen opened) (seen j.disk) (seen j'.disk) (λ c. Unit {0}) was (passes_wide (seen j.disk) (seen j'.disk) (HoldsDuring history (call_of e)) (λ c. Unit {0}) goes (λ c one. tt))
 
-    pub records_accepted : is_accepted e.entry ≡ true → length body ≡ body_length_of e.entry.act + pool_bytes e.pool → HasAppended seen j j' body
+    pub records_accepted : is_accepted e.entry ≡ true → length body ≡ body_length_of e.entry.act + pool_bytes e.pool → HasAppended seen j j' (body ∷ [])
         → Records seen (view_at j' spare' opened opened_with cleared cleared_with) (history ++ e ∷ [])
     records_accepted accepted length_is done =
         let uses = use_law history e in
         let long : length (history ++ e ∷ []) ≡ length history + 1 = length-append history (e ∷ []) in
         let undevice = accepted_is_no_device e.entry.reply accepted in
         record {
-          place = omega (arith, has.place, done.gate, length_is, uses.bytes, accepted_owns (call_of e) e.entry.reply accepted);
+          place = omega (arith, has.place, done.gate, length-one body, length_is, uses.bytes, accepted_owns (call_of e) e.entry.reply accepted);
           opened_few = omega (arith, has.opened_few, long);
           cleared_few = omega (arith, has.cleared_few, long);
           keepable = All-push (λ (x : PoolEntry). is_keepable (call_of x) ≡ true) history e has.keepable can;
@@ -183,10 +183,10 @@ module _ {D : Type 0} (seen : D → Seen) where
               let goes = append_goes told_old in
               let same : bodies_of_calls (accepted_calls history) ++ body ∷ [] ≡ bodies_of_calls (accepted_calls (history ++ e ∷ [])) =
               ap (λ (b : List ℕ). bodies_of_calls (accepted_calls history) ++ b ∷ []) body_is ∙ sym (ap bodies_of_calls (accepted_more history e accepted) ∙ bodies_append (accepted_calls history) (call_of e ∷ [])) in
-              let kept : IsKept seen j' was.kept.1 (bodies_of_calls (accepted_calls (history ++ e ∷ []))) None = subst (λ (bs : List (List ℕ)). IsKept seen j' was.kept.1 bs None) same (done.kept was.kept.1 (bodies_of_calls (accepted_calls history)) was.kept.0 was.kept.2) in
+              let kept : IsKept seen j' was.kept.1 (bodies_of_calls (accepted_calls (history ++ e ∷ []))) [] = subst (λ (bs : List (List ℕ)). IsKept seen j' was.kept.1 bs []) same (done.kept was.kept.1 (bodies_of_calls (accepted_calls history)) was.kept.0 was.kept.2) in
               let holds : (c : List ℕ) → HoldsDuring history (call_of e) c → HoldsAt (history ++ e ∷ []) (length (accepted_calls history)) c = λ c during. during_accepted history e c accepted during in
               record {
-                kept = (None, was.kept.1, kept, tt);
+                kept = ([], was.kept.1, kept, tt);
                 moments = subst (λ (d : D). HasMoments (seen j'.disk) (seen d).moment opened_with (history ++ e ∷ [])) (sym tried.opened)
                     (moments_grow (seen j.disk) (seen j'.disk) (seen j.at_first_sync).moment opened_with history e (HoldsDuring history (call_of e)) was.moments goes holds accepted
                     (λ c now. all_holds (history ++ e ∷ []) c (inl (record { short = kept.short; begins = was.kept.1; ends = kept.images c now }))));
@@ -195,7 +195,7 @@ module _ {D : Type 0} (seen : D → Seen) where
               };
         }
 
-    pub records_failed : is_accepted e.entry ≡ false → is_of_device e.entry.reply ≡ true → second_count e.entry.reply ≤ (seen j'.disk).count → IsBetween (seen j.disk).count (seen j'.disk).count e → HasNotAppended seen j j' body
+    pub records_failed : is_accepted e.entry ≡ false → is_of_device e.entry.reply ≡ true → second_count e.entry.reply ≤ (seen j'.disk).count → IsBetween (seen j.disk).count (seen j'.disk).count e → HasNotAppended seen j j' (body ∷ [])
         → Records seen (view_at j' spare' opened opened_with cleared cleared_with) (history ++ e ∷ [])
     records_failed refused device second own failed =
         let uses = use_law history e in
@@ -215,7 +215,7 @@ module _ {D : Type 0} (seen : D → Seen) where
               let told_old = subst (λ (b : Bool). IsTrue b) tried.tells told in
               let goes = append_goes told_old in
               let after = failed.kept was.kept.1 (bodies_of_calls (accepted_calls history)) was.kept.0 was.kept.2 in
-              let last_is : IsLast was.kept.0 (body_of (call_of e)) after.0 = subst (λ (b : List ℕ). IsLast was.kept.0 b after.0) body_is after.1 in
+              let last_is : IsLast was.kept.0 (body_of (call_of e) ∷ []) after.0 = subst (λ (b : List ℕ). IsLast was.kept.0 (b ∷ []) after.0) body_is after.1 in
               let holds : (c : List ℕ) → HoldsDuring history (call_of e) c → HoldsAt (history ++ e ∷ []) (length (accepted_calls history)) c = λ c during. during_failed history e c device refused during in
               record {
                 kept = (after.0, was.kept.1, subst (λ (calls : List Call). IsKept seen j' was.kept.1 (bodies_of_calls calls) after.0) (sym (accepted_same history e refused)) after.2, tried_after history e was.kept.0 after.0 device refused was.kept.3 last_is);

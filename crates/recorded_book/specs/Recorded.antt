@@ -1,12 +1,12 @@
 -- What the record of a desk's calls on its disk keeps of a history.
-use Rattle.std.specs.Prelude.{◌≡◌, ◌≤◌, ◌+◌, ℕ, List, length, reverse, Option, Some, None, IsTrue}
-use Rattle.disk_model.specs.Calls.{Seen, GoesOn}
-use Rattle.claim_history.specs.declared.call.Call.{Call}
-use Rattle.claim_history.specs.declared.call.PoolEntry.{PoolEntry}
-use Rattle.claim_history.specs.History.{last_count}
-use Rattle.claim_history.specs.PoolNeeds.{used_bytes_of}
-use Rattle.claim_history.specs.Pools.{accepted_calls, entries_of}
-use Rattle.act_bodies.specs.Bodies.{body_of}
+use Rattle.std.specs.Prelude.{◌≡◌, ◌≤◌, ◌+◌, ℕ, List, [], ◌∷◌, length, reverse, IsTrue}
+use Rattle.round_journal.specs.disk_model.specs.Calls.{Seen, GoesOn}
+use Rattle.limited_book.specs.claim_history.specs.declared.call.Call.{Call}
+use Rattle.limited_book.specs.claim_history.specs.declared.call.PoolEntry.{PoolEntry}
+use Rattle.limited_book.specs.claim_history.specs.History.{last_count}
+use Rattle.limited_book.specs.claim_history.specs.PoolNeeds.{used_bytes_of}
+use Rattle.limited_book.specs.claim_history.specs.Pools.{accepted_calls, entries_of}
+use Rattle.limited_book.specs.act_bodies.specs.Bodies.{body_of}
 use Rattle.round_journal.specs.Bytes.{Header}
 use Rattle.round_journal.specs.Kept.{JournalView, IsKept}
 use Rattle.recorded_book.specs.Calls.{bodies_of_calls, CanBeKept, TriedLast}
@@ -23,15 +23,15 @@ pub record RecorderView (D : Type 0) : Type 0 where
   pub at_clearing : D
   pub cleared_with : ℕ
 
--- the body that was tried last is that of a member that tells of a device, after which none was accepted
-abbrev pub IsTried : List PoolEntry → Option (List ℕ) → Type 0
-IsTried history None = Unit {0}
-IsTried history (Some body) = (tried : Call) × TriedLast history tried × (body ≡ body_of tried)
+-- what was tried last is the body of one member that tells of a device, after which none was accepted
+abbrev pub IsTried : List PoolEntry → List (List ℕ) → Type 0
+IsTried history [] = Unit {0}
+IsTried history (body ∷ more) = (tried : Call) × TriedLast history tried × (body ∷ more ≡ body_of tried ∷ [])
 
 -- the journal keeps the bodies of the accepted calls, and perhaps one that was tried last
 abbrev pub KeepsAccepted : {D : Type 0} → (D → Seen) → JournalView D → List PoolEntry → Type 0
 KeepsAccepted seen journal history =
-    (last : Option (List ℕ)) × (h : Header) × IsKept seen journal h (bodies_of_calls (accepted_calls history)) last
+    (last : List (List ℕ)) × (h : Header) × IsKept seen journal h (bodies_of_calls (accepted_calls history)) last
     × IsTried history last
 
 -- What holds of its bytes: they are kept, and each image of each moment since the opening holds what was accepted by then. The

@@ -1,9 +1,9 @@
 use bureau_edge::BytesSink;
+use bureau_reports::printed_text::ExitStatus;
 use bureau_reports::{report_input, report_journal};
 use claim_history::Day;
 use command_words::{InputReport, JournalReport};
 use disk_model::MemoryDisk;
-use printed_text::ExitStatus;
 use setoff_model::{Kind, Name};
 use std::alloc::{AllocError, Global};
 use std::process::Abort;

@@ -4,3 +4,4 @@ pub mod Requests
 pub mod Orders
 pub mod ReadBack
 pub mod Worked
+pub mod Given

@@ -3,3 +3,5 @@ pub mod Pools
 pub mod Causes
 pub mod Grammar
 pub mod Batches
+pub use Rattle.claim_history as claim_history
+pub use Rattle.text_lines as text_lines

@@ -19,6 +19,7 @@ mod request;
 mod verb;
 mod writing;
 
+pub use claim_history;
 pub use error::{LineCause, RequestError};
 pub use reading::read_requests;
 pub use request::{Batch, Request};

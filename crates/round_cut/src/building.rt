@@ -2,7 +2,7 @@
 ghost use Rattle.std.specs.Prelude.{◌≡◌, ◌+◌, ◌<◌, ◌≤◌, ◌^◌, ◌++◌, ◌∷◌, [], All, IfOk, OnOk, map, vec_len};
 ghost use Rattle.setoff_model.specs.CutView.{WellFormed};
 ghost use Rattle.round_cut.specs.Windows.{KeepsLimits};
-ghost use Rattle.round_cut.specs.CutOfFacts.{takes_part, cut_of_facts, AreFacts};
+ghost use Rattle.round_cut.specs.CutOfFacts.{takes_part, claims_due, claims_in, cut_of_facts, parties_in, AreFacts};
 ghost use Rattle.round_cut.specs.Growing.{with_parties_of, placed};
 
 use crate::parties::{firms_of, place_of};
@@ -28,23 +28,17 @@ pub fn build_cut(
     ensures cut { IfOk result (λ cut. cut ≡ cut_of_facts round claims.now accounts.now kind horizon) }
     ensures formed { IfOk result WellFormed }
 {
-    let firms = firms_of(alloc, accounts)?;
     let mut parties = Vec::new(alloc);
-    let mut names = NameIndex::new(alloc);
     let mut due = Vec::new(alloc);
-    for claim in claims {
-        if is_due(claim, horizon) {
-            add_claim(
-                &mut parties,
-                &mut names,
-                &mut due,
-                accounts,
-                &firms,
-                kind,
-                claim,
-            )?;
-        }
-    }
+    add_due(
+        alloc,
+        &mut parties,
+        &mut due,
+        claims,
+        accounts,
+        kind,
+        horizon,
+    )?;
     Ok(Cut::new(round, kind, parties, due))
 }
 
@@ -54,6 +48,56 @@ pub fn is_due(claim: &ClaimFact, horizon: Day) -> bool
     ensures { result ≡ takes_part horizon claim.now }
 {
     1 <= claim.part && claim.due.number() <= horizon.number()
+}
+
+// Adds the claims that take part, and their firms, to claims and parties of which there are none yet.
+fn add_due(
+    alloc: Global,
+    parties: &mut Vec<Party>,
+    due: &mut Vec<CutClaim>,
+    claims: &[ClaimFact],
+    accounts: &[AccountFact],
+    kind: Kind,
+    horizon: Day,
+) -> Result<(), AllocError>
+    requires facts { AreFacts claims.now accounts.now }
+    requires no_parties { parties.old.items ≡ [] }
+    requires no_claims { due.old.items ≡ [] }
+    ensures parties { OnOk result (parties.new.items ≡ parties_in accounts.now kind (claims_due horizon claims.now)) }
+    ensures due { OnOk result (due.new.items ≡ claims_in (claims_due horizon claims.now)) }
+{
+    let firms = firms_of(alloc, accounts)?;
+    let mut names = NameIndex::new(alloc);
+    add_claims(
+        parties, &mut names, due, accounts, &firms, kind, horizon, claims,
+    )
+}
+
+// The same, with an index of the parties and one of the accounts.
+fn add_claims(
+    parties: &mut Vec<Party>,
+    names: &mut NameIndex,
+    due: &mut Vec<CutClaim>,
+    accounts: &[AccountFact],
+    firms: &NameIndex,
+    kind: Kind,
+    horizon: Day,
+    claims: &[ClaimFact],
+) -> Result<(), AllocError>
+    requires facts { AreFacts claims.now accounts.now }
+    requires no_parties { parties.old.items ≡ [] }
+    requires no_claims { due.old.items ≡ [] }
+    requires names { names.old.names ≡ [] }
+    requires firms { firms.now.names ≡ map (λ a. a.firm) accounts.now }
+    ensures parties { OnOk result (parties.new.items ≡ parties_in accounts.now kind (claims_due horizon claims.now)) }
+    ensures due { OnOk result (due.new.items ≡ claims_in (claims_due horizon claims.now)) }
+{
+    for claim in claims {
+        if is_due(claim, horizon) {
+            add_claim(parties, names, due, accounts, firms, kind, claim)?;
+        }
+    }
+    Ok(())
 }
 
 // Adds a claim that takes part, and its firms to the parties where they are not among them.

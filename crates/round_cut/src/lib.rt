@@ -14,5 +14,7 @@ mod parties;
 mod windows;
 
 pub use building::{build_cut, is_due};
+pub use claim_history;
 pub use laws::{cut_of_a_history_is_of_its_facts, open_cut_is_well_formed};
+pub use name_index;
 pub use windows::window;

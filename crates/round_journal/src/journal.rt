@@ -1,27 +1,33 @@
 //! An open journal.
-ghost use Rattle.std.specs.Prelude.{◌≡◌, ◌+◌, ◌≤◌, length, IfErr, IfOk, OnOk, OnErr};
-ghost use Rattle.setoff_model.specs.declared.limits.TheConstants.{MOST_JOURNAL_BYTES};
+ghost use Rattle.std.specs.Prelude.{◌≡◌, ◌+◌, ◌<◌, ◌≤◌, ℕ, List, [], ◌∷◌, length, IfErr, IfOk, OnOk, OnErr, vec_capacity};
+ghost use Rattle.setoff_model.specs.declared.limits.TheConstants.{MOST_BODY, MOST_JOURNAL_BYTES};
+ghost use Rattle.act_bodies.specs.claim_history.specs.declared.record_bytes.TheConstants.{POOL_BYTES, RECORD_HEAD};
+ghost use Rattle.round_journal.specs.Kept.{IsGroup, IsSomeGroup};
 ghost use Rattle.round_journal.specs.Appends.{HasAppended, HasNotAppended, HasTried, IsFaultOf};
 ghost use Rattle.round_journal.specs.Opened.{IsOpen, IsRefused};
 
 use crate::cause::JournalCause;
 use crate::device::Device;
+use crate::group::{Group, push_record};
 use crate::log::Log;
 use crate::open_refused::OpenRefused;
 use crate::opening::{Opening, open_disk};
 use crate::record::Record;
-use claim_history::record_bytes::{POOL_BYTES, RECORD_HEAD};
+use act_bodies::claim_history::record_bytes::{POOL_BYTES, RECORD_HEAD};
 use disk_model::Disk;
 use setoff_model::limits::MOST_BODY;
 use std::alloc::Global;
 use std::marker::Model;
 use std::snapshot::Snapshot;
 
-/// A journal on a disk. It keeps the records of its opening and of each append since then that succeeded.
+/// A journal on a disk, with room for the bytes of the longest record. It keeps the records of its opening and of each append
+/// since then that succeeded.
 #[derive(Drop)]
 pub struct Journal<D: Disk> {
     log: Log<D>,
+    staging: Vec<u8>,
     opened: Snapshot<D>,
+    ghost room: { MOST_BODY + POOL_BYTES + RECORD_HEAD ≤ vec_capacity staging },
 }
 
 impl<D: Disk> Model for Journal<D> {
@@ -60,9 +66,15 @@ impl<D: Disk> Journal<D> {
                     disk,
                     gate: scan.gate,
                     unsettled: false,
-                    staging,
                 };
-                Ok((Journal { log, opened }, scan.records))
+                Ok((
+                    Journal {
+                        log,
+                        staging,
+                        opened,
+                    },
+                    scan.records,
+                ))
             }
             Err(stop) => {
                 let cause = stop.cause(before, disk.faults());
@@ -82,19 +94,50 @@ impl<D: Disk> Journal<D> {
     pub fn append(&mut self, body: &[u8]) -> Result<(), Device>
         requires short { length body.now ≤ MOST_BODY + POOL_BYTES }
         requires near { self.old.gate + RECORD_HEAD + length body.now ≤ MOST_JOURNAL_BYTES }
-        ensures done { OnOk result (HasAppended D.seen self.old self.new body.now) }
-        ensures failed { OnErr result (HasNotAppended D.seen self.old self.new body.now) }
-        ensures tried { HasTried D.seen self.old self.new body.now }
+        ensures done { OnOk result (HasAppended D.seen self.old self.new (body.now ∷ [])) }
+        ensures failed { OnErr result (HasNotAppended D.seen self.old self.new (body.now ∷ [])) }
+        ensures tried { HasTried D.seen self.old self.new (body.now ∷ []) }
         ensures cause { IfErr result (IsFaultOf (D.seen self.old.disk) (D.seen self.new.disk)) }
     {
+        self.staging.clear();
+        push_record(&mut self.staging, body);
         let before = self.log.disk.faults();
-        let Err(_) = self.log.append(body) else {
+        let Err(_) = self.log.append(&self.staging) else {
             return Ok(());
         };
         Err(Device {
             before,
             after: self.log.disk.faults(),
         })
+    }
+
+    /// Appends the records of a group, of which there is one at least, all or none, and takes no memory. It asks that the records end
+    /// within the first 2^30 bytes. The calls of the disk are those of an append of one record, so two syncs serve the whole group.
+    ///
+    /// After an Ok every present image has all of them. An Err means that the disk failed. Then the records are kept as they
+    /// were, and an image may have all those of the group behind them, or those of the append that failed before. No image has
+    /// a part of a group. The journal may go on, as after an append of one record that failed.
+    pub fn append_group(&mut self, group: &Group) -> Result<(), Device>
+        // There is a record, and the last one ends in time.
+        requires some { 0 < length group.now }
+        requires near { self.old.gate + length group.now ≤ MOST_JOURNAL_BYTES }
+
+        // It is the group of some bodies, and whatever they are, this came of it.
+        ensures group { IsSomeGroup group.now }
+        ensures done { OnOk result ((bodies : List (List ℕ)) → IsGroup bodies group.now → HasAppended D.seen self.old self.new bodies) }
+        ensures failed { OnErr result ((bodies : List (List ℕ)) → IsGroup bodies group.now
+            → HasNotAppended D.seen self.old self.new bodies) }
+        ensures tried { (bodies : List (List ℕ)) → IsGroup bodies group.now → HasTried D.seen self.old self.new bodies }
+        ensures cause { IfErr result (IsFaultOf (D.seen self.old.disk) (D.seen self.new.disk)) }
+    {
+        let before = self.log.disk.faults();
+        if let Err(_) = self.log.append(group.bytes()) {
+            return Err(Device {
+                before,
+                after: self.log.disk.faults(),
+            });
+        }
+        Ok(())
     }
 
     /// The disk. It takes no memory.
@@ -116,12 +159,15 @@ impl<D: Disk> Journal<D> {
     pub fn close(self) -> D
         ensures { result ≡ self.disk }
     {
-        let Journal { log, opened: _ } = self;
+        let Journal {
+            log,
+            staging: _,
+            opened: _,
+        } = self;
         let Log {
             disk,
             gate: _,
             unsettled: _,
-            staging: _,
         } = log;
         disk
     }

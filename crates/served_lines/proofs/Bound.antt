@@ -8,18 +8,18 @@ use Rattle.std.proofs.lemmas.List.Elements.{All-cons, All-head, All-nil, All-tai
 use Rattle.std.proofs.lemmas.List.Sums.{sum_by-append, sum_by-cons}
 use Rattle.std.proofs.Math.Nat.{mul-le-mul_right}
 use Rattle.setoff_model.specs.Names.{is_name}
-use Rattle.claim_history.specs.declared.act.Act.{Act}
-use Rattle.claim_history.specs.declared.call.Call.{Call}
-use Rattle.claim_history.specs.declared.call.PoolEntry.{PoolEntry}
-use Rattle.claim_history.specs.declared.entry.Reply.{Reply}
-use Rattle.claim_history.specs.declared.entry.Reply.TheVariants as reply
-use Rattle.claim_history.specs.declared.entry.Why.TheVariants as why
-use Rattle.claim_history.specs.Acts.{is_close, is_filing, is_registration, is_request}
-use Rattle.claim_history.specs.Needs.{endings_with, is_counted, is_of_device}
-use Rattle.claim_history.specs.Pools.{AreValid, IsLegal, call_of, members_by, with_due}
-use Rattle.claim_history.specs.PoolNeeds.{Fits, call_bytes, is_full, own_bytes, pool_bytes}
-use Rattle.claim_history.proofs.PoolRoom.{full_law}
-use Rattle.claim_history.proofs.Room.{one_at_most, one_if}
+use Rattle.limited_book.specs.claim_history.specs.declared.act.Act.{Act}
+use Rattle.limited_book.specs.claim_history.specs.declared.call.Call.{Call}
+use Rattle.limited_book.specs.claim_history.specs.declared.call.PoolEntry.{PoolEntry}
+use Rattle.limited_book.specs.claim_history.specs.declared.entry.Reply.{Reply}
+use Rattle.limited_book.specs.claim_history.specs.declared.entry.Reply.TheVariants as reply
+use Rattle.limited_book.specs.claim_history.specs.declared.entry.Why.TheVariants as why
+use Rattle.limited_book.specs.claim_history.specs.Acts.{is_close, is_filing, is_registration, is_request}
+use Rattle.limited_book.specs.claim_history.specs.Needs.{endings_with, is_counted, is_of_device}
+use Rattle.limited_book.specs.claim_history.specs.Pools.{AreValid, IsLegal, call_of, members_by, with_due}
+use Rattle.limited_book.specs.claim_history.specs.PoolNeeds.{Fits, call_bytes, is_full, own_bytes, pool_bytes}
+use Rattle.limited_book.specs.claim_history.proofs.PoolRoom.{full_law}
+use Rattle.limited_book.specs.claim_history.proofs.Room.{one_at_most, one_if}
 use Rattle.limited_book.specs.declared.full.Full.{Full}
 use Rattle.limited_book.specs.declared.room.Room.{Room}
 use Rattle.limited_book.specs.declared.room.Room.TheVariants.{Entries, Bytes}

@@ -6,3 +6,4 @@ mod Devices
 mod Costs
 mod Uses
 pub mod Bound
+pub mod OfLane

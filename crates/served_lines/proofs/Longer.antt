@@ -1,13 +1,13 @@
 -- The members of lines in a longer history, and of one line more.
 use Rattle.std.proofs.Common.{◌∙◌, ℕ, List, [], ◌∷◌, ◌++◌, refl, sym, ap, subst, inl, inr, append_assoc}
 use Rattle.std.proofs.lemmas.List.{append-nil}
-use Rattle.claim_history.specs.declared.call.Call.{Call}
-use Rattle.claim_history.specs.declared.call.PoolEntry.{PoolEntry}
-use Rattle.claim_history.specs.declared.entry.Entry.{Entry}
-use Rattle.claim_history.specs.Pools.{entries_in}
-use Rattle.claim_history.specs.Rounds as one
-use Rattle.claim_history.proofs.OneCut.{cut_longer}
-use Rattle.claim_history.proofs.Pools.{in_append}
+use Rattle.limited_book.specs.claim_history.specs.declared.call.Call.{Call}
+use Rattle.limited_book.specs.claim_history.specs.declared.call.PoolEntry.{PoolEntry}
+use Rattle.limited_book.specs.claim_history.specs.declared.entry.Entry.{Entry}
+use Rattle.limited_book.specs.claim_history.specs.Pools.{entries_in}
+use Rattle.limited_book.specs.claim_history.specs.Rounds as one
+use Rattle.limited_book.specs.claim_history.proofs.OneCut.{cut_longer}
+use Rattle.limited_book.specs.claim_history.proofs.Pools.{in_append}
 use Rattle.limited_book.specs.declared.full.Full.{Full}
 use Rattle.request_text.specs.declared.request.Request.{Request}
 use Rattle.served_lines.specs.declared.line_end.LineEnd.{LineEnd}

@@ -9,28 +9,28 @@ use Rattle.std.proofs.lemmas.List.Sums.{sum_by-append, sum_by-cons}
 use Rattle.setoff_model.specs.Names.{is_name}
 use Rattle.setoff_model.proofs.Lists.{All-first}
 use Rattle.setoff_model.proofs.Padded.{length-name}
-use Rattle.claim_history.specs.declared.act.Act.{Act}
-use Rattle.claim_history.specs.declared.act.Act.TheVariants as act
-use Rattle.claim_history.specs.declared.call.Call.{Call}
-use Rattle.claim_history.specs.declared.call.PoolEntry.{PoolEntry}
-use Rattle.claim_history.specs.declared.entry.Entry.{Entry}
-use Rattle.claim_history.specs.declared.entry.Reply.{Reply}
-use Rattle.claim_history.specs.declared.entry.Reply.TheVariants as reply
-use Rattle.claim_history.specs.Acts.{is_amount, is_claim_amount, is_close, is_day, is_filing, is_key, is_registration, is_request, is_valid}
-use Rattle.claim_history.specs.History.{IsReply, answer, failed, is_no_refusal, last_count, replied}
-use Rattle.claim_history.specs.Needs.{endings_bytes, endings_entries, endings_with, is_counted, is_of_device, record_length_of}
-use Rattle.claim_history.specs.Pools.{AreValid, IsLegal, IsLegalPast, MayFollow, answered, call_of, due_reply, entries_in, entries_of, is_main, open_round_in, state_in, with_due}
-use Rattle.claim_history.specs.PoolNeeds.{NeedsOf, UseGrows, call_bytes, needed_bytes_of, needed_entries_of, own_bytes, pool_bytes, pool_endings_bytes, reserved_bytes_of, reserved_entries_of, used_bytes_of, used_entries_of}
-use Rattle.claim_history.specs.PoolRounds.{CutIsBounded}
-use Rattle.claim_history.specs.States.{OpenRound, State, after, open_as, state, state_of}
-use Rattle.claim_history.proofs.Agreement.{cut_law}
-use Rattle.claim_history.proofs.Greatest.{reply_published}
-use Rattle.claim_history.proofs.OneCut.{open_cut_is}
-use Rattle.claim_history.proofs.PoolCuts.{cut_bound_law}
-use Rattle.claim_history.proofs.PoolRoom.{due_is, needs_law, use_law}
-use Rattle.claim_history.proofs.Pools.{in_own, join_law, legal_in}
-use Rattle.claim_history.proofs.Room.{one_if, publication_covered}
-use Rattle.act_bodies.proofs.Lengths.{short_claim, short_key}
+use Rattle.limited_book.specs.claim_history.specs.declared.act.Act.{Act}
+use Rattle.limited_book.specs.claim_history.specs.declared.act.Act.TheVariants as act
+use Rattle.limited_book.specs.claim_history.specs.declared.call.Call.{Call}
+use Rattle.limited_book.specs.claim_history.specs.declared.call.PoolEntry.{PoolEntry}
+use Rattle.limited_book.specs.claim_history.specs.declared.entry.Entry.{Entry}
+use Rattle.limited_book.specs.claim_history.specs.declared.entry.Reply.{Reply}
+use Rattle.limited_book.specs.claim_history.specs.declared.entry.Reply.TheVariants as reply
+use Rattle.limited_book.specs.claim_history.specs.Acts.{is_amount, is_claim_amount, is_close, is_day, is_filing, is_key, is_registration, is_request, is_valid}
+use Rattle.limited_book.specs.claim_history.specs.History.{IsReply, answer, failed, is_no_refusal, last_count, replied}
+use Rattle.limited_book.specs.claim_history.specs.Needs.{endings_bytes, endings_entries, endings_with, is_counted, is_of_device, record_length_of}
+use Rattle.limited_book.specs.claim_history.specs.Pools.{AreValid, IsLegal, IsLegalPast, MayFollow, answered, call_of, due_reply, entries_in, entries_of, is_main, open_round_in, state_in, with_due}
+use Rattle.limited_book.specs.claim_history.specs.PoolNeeds.{NeedsOf, UseGrows, call_bytes, needed_bytes_of, needed_entries_of, own_bytes, pool_bytes, pool_endings_bytes, reserved_bytes_of, reserved_entries_of, used_bytes_of, used_entries_of}
+use Rattle.limited_book.specs.claim_history.specs.PoolRounds.{CutIsBounded}
+use Rattle.limited_book.specs.claim_history.specs.States.{OpenRound, State, after, open_as, state, state_of}
+use Rattle.limited_book.specs.claim_history.proofs.Agreement.{cut_law}
+use Rattle.limited_book.specs.claim_history.proofs.Greatest.{reply_published}
+use Rattle.limited_book.specs.claim_history.proofs.OneCut.{open_cut_is}
+use Rattle.limited_book.specs.claim_history.proofs.PoolCuts.{cut_bound_law}
+use Rattle.limited_book.specs.claim_history.proofs.PoolRoom.{due_is, needs_law, use_law}
+use Rattle.limited_book.specs.claim_history.proofs.Pools.{in_own, join_law, legal_in}
+use Rattle.limited_book.specs.claim_history.proofs.Room.{one_if, publication_covered}
+use Rattle.limited_book.specs.act_bodies.proofs.Lengths.{short_claim, short_key}
 
 -- ---- records
 

@@ -2,11 +2,11 @@
 use Rattle.std.specs.Prelude.{◌≡◌, ℕ, ◌+◌, ◌*◌, ◌≤◌, true, false, List, All, ◌++◌, length, count_by}
 use Rattle.setoff_model.specs.declared.limits.TheConstants.{MOST_ENTRIES, MOST_JOURNAL_BYTES}
 use Rattle.setoff_model.specs.Names.{is_name}
-use Rattle.claim_history.specs.declared.call.PoolEntry.{PoolEntry}
-use Rattle.claim_history.specs.Acts.{is_close, is_filing, is_registration, is_request}
-use Rattle.claim_history.specs.Needs.{endings_with}
-use Rattle.claim_history.specs.Pools.{AreValid, IsLegal}
-use Rattle.claim_history.specs.PoolNeeds.{reserved_bytes_of, reserved_entries_of, used_bytes_of, used_entries_of}
+use Rattle.limited_book.specs.claim_history.specs.declared.call.PoolEntry.{PoolEntry}
+use Rattle.limited_book.specs.claim_history.specs.Acts.{is_close, is_filing, is_registration, is_request}
+use Rattle.limited_book.specs.claim_history.specs.Needs.{endings_with}
+use Rattle.limited_book.specs.claim_history.specs.Pools.{AreValid, IsLegal}
+use Rattle.limited_book.specs.claim_history.specs.PoolNeeds.{reserved_bytes_of, reserved_entries_of, used_bytes_of, used_entries_of}
 use Rattle.request_text.specs.declared.request.Request.{Request}
 use Rattle.served_lines.specs.declared.answer.Answer.{Answer}
 use Rattle.served_lines.specs.Ends.{is_full_end, has_line_end}

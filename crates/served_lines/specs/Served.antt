@@ -5,18 +5,18 @@ use mathlib.Core.List.{IsPrefix}
 use Rattle.setoff_model.specs.CutView.{CutView, OutcomeView, obligations}
 use Rattle.setoff_model.specs.Same.{same_name}
 use Rattle.setoff_model.specs.Setoff.{Proves, IsOldestFirst}
-use Rattle.claim_history.specs.declared.act.Act.{Act}
-use Rattle.claim_history.specs.declared.act.Act.TheVariants as act
-use Rattle.claim_history.specs.declared.call.Call.{Call}
-use Rattle.claim_history.specs.declared.call.PoolEntry.{PoolEntry}
-use Rattle.claim_history.specs.declared.entry.Reply.{Reply}
-use Rattle.claim_history.specs.declared.entry.Reply.TheVariants as reply
-use Rattle.claim_history.specs.declared.entry.Why.TheVariants as why
-use Rattle.claim_history.specs.History.{is_accepted}
-use Rattle.claim_history.specs.Acts.{is_close}
-use Rattle.claim_history.specs.Laws.{round_in}
-use Rattle.claim_history.specs.Pools.{members_by}
-use Rattle.claim_history.specs.PoolRounds.{IsRoundCut}
+use Rattle.limited_book.specs.claim_history.specs.declared.act.Act.{Act}
+use Rattle.limited_book.specs.claim_history.specs.declared.act.Act.TheVariants as act
+use Rattle.limited_book.specs.claim_history.specs.declared.call.Call.{Call}
+use Rattle.limited_book.specs.claim_history.specs.declared.call.PoolEntry.{PoolEntry}
+use Rattle.limited_book.specs.claim_history.specs.declared.entry.Reply.{Reply}
+use Rattle.limited_book.specs.claim_history.specs.declared.entry.Reply.TheVariants as reply
+use Rattle.limited_book.specs.claim_history.specs.declared.entry.Why.TheVariants as why
+use Rattle.limited_book.specs.claim_history.specs.History.{is_accepted}
+use Rattle.limited_book.specs.claim_history.specs.Acts.{is_close}
+use Rattle.limited_book.specs.claim_history.specs.Laws.{round_in}
+use Rattle.limited_book.specs.claim_history.specs.Pools.{members_by}
+use Rattle.limited_book.specs.claim_history.specs.PoolRounds.{IsRoundCut}
 use Rattle.limited_book.specs.Limited.{IsFull}
 use Rattle.limited_book.specs.declared.full.Full.{Full}
 use Rattle.request_text.specs.declared.request.Request.{Request}
@@ -27,6 +27,10 @@ use Rattle.served_lines.specs.declared.line_end.LineEnd.TheVariants as ends
 -- the call of a request: its lane is the caller
 abbrev pub asked_call : Request → Call
 asked_call request = record { caller = request.lane; pool = request.pool; act = request.act }
+
+-- the requests of one lane
+abbrev pub of_lane : ℕ → List Request → List Request
+of_lane lane requests = filter (λ request. request.lane == lane) requests
 
 -- the member is of the request's call
 pub record IsCall (request : Request) (m : PoolEntry) : Type 0 where

@@ -1,13 +1,13 @@
 //! Lines that were not replied to, and members of a history that tell of a device.
 ghost use Rattle.std.specs.Prelude.{◌≡◌, ◌≤◌, drop, length};
 ghost use Rattle.std.specs.List.{list_any};
-ghost use Rattle.claim_history.specs.Needs.{is_of_device};
+ghost use Rattle.limited_book.specs.claim_history.specs.Needs.{is_of_device};
 ghost use Rattle.served_lines.specs.Ends.{is_memory_end, is_full_end, has_line_end};
 
 use crate::answer::Answer;
 use crate::line_end::LineEnd;
-use claim_book::Books;
-use claim_history::tells_of_device;
+use limited_book::claim_book::Books;
+use limited_book::claim_history::tells_of_device;
 
 fn is_memory_end(end: LineEnd) -> bool
     ensures { result ≡ is_memory_end end }

@@ -1,11 +1,11 @@
 //! Chains that explain outcomes.
 use crate::solvers::{Owed, cut_of, drawn_cut};
 use chain_explain::{Chain, Explainer};
-use level_solver::LevelSolver;
 use price_certificate::certified;
 use setoff_model::{Cut, CutClaim, Kind};
 use std::alloc::Global;
 use std::process::Abort;
+use weighted_setoff::level_solver::LevelSolver;
 
 // A chain that was given, with the places of its claims.
 #[derive(Drop)]
@@ -234,5 +234,24 @@ fn chains_of_drawn_claims(rt: HostRuntime) {
             let cut = drawn_cut(&rt, alloc, kind, 30, 150, &mut x);
             assert!(rt; !chains_of(&rt, alloc, cut).is_empty());
         }
+    }
+}
+
+// One firm owes each of 100 others ten claims, and is owed as many, so each chain goes there and back.
+#[test]
+fn chains_of_a_star(rt: HostRuntime) {
+    let alloc = rt.alloc();
+    let mut owed = Vec::new(alloc);
+    for place in 0..1_000u32 {
+        let firm = place % 100 + 1;
+        owed.push((0, firm, 100)).expect(&rt, "memory");
+        owed.push((firm, 0, 100)).expect(&rt, "memory");
+    }
+    let cut = cut_of(&rt, alloc, Kind::Plain, &[(0, 0); 101], &owed);
+    let given = chains_of(&rt, alloc, cut);
+    assert!(rt; given.len() == 1_000);
+    for one in given.iter() {
+        assert!(rt; one.chain.closed && one.chain.amount == 100);
+        assert!(rt; one.claims.len() == 2);
     }
 }

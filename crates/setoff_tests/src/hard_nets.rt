@@ -6,9 +6,9 @@ use std::process::Abort;
 
 // The windows of the firms, and what they owe.
 #[derive(Drop)]
-struct Net {
-    windows: Vec<Window>,
-    owed: Vec<Owed>,
+pub(crate) struct Net {
+    pub(crate) windows: Vec<Window>,
+    pub(crate) owed: Vec<Owed>,
 }
 
 fn owe(rt: &impl Abort, net: &mut Net, debtor: u32, creditor: u32, cents: u64) {
@@ -18,7 +18,7 @@ fn owe(rt: &impl Abort, net: &mut Net, debtor: u32, creditor: u32, cents: u64) {
 }
 
 // So many firms, each with up to 49 cents of liquidity and of room where they are drawn.
-fn firms(rt: &impl Abort, alloc: Global, many: u32, seed: Option<u32>) -> Net {
+pub(crate) fn firms(rt: &impl Abort, alloc: Global, many: u32, seed: Option<u32>) -> Net {
     let mut windows = Vec::new(alloc);
     let mut x = seed.unwrap_or(0);
     for _ in 0..many {
@@ -36,7 +36,7 @@ fn firms(rt: &impl Abort, alloc: Global, many: u32, seed: Option<u32>) -> Net {
 
 // The first firm owes each of the next ones a cent, and each of these owes the one before it all that it was owed so far. Turned
 // round, the others owe.
-fn ladder(rt: &impl Abort, net: &mut Net, rungs: u32, turned: bool) {
+pub(crate) fn ladder(rt: &impl Abort, net: &mut Net, rungs: u32, turned: bool) {
     for place in 0..rungs {
         let foot = rungs.wrapping_sub(place);
         let held = u64::from(place);
@@ -54,7 +54,7 @@ fn ladder(rt: &impl Abort, net: &mut Net, rungs: u32, turned: bool) {
 }
 
 // Each of so many firms from one on owes the next as much.
-fn chain(rt: &impl Abort, net: &mut Net, first: u32, claims: u32, cents: u64) {
+pub(crate) fn chain(rt: &impl Abort, net: &mut Net, first: u32, claims: u32, cents: u64) {
     for place in 0..claims {
         let debtor = first.wrapping_add(place);
         owe(rt, net, debtor, debtor.wrapping_add(1), cents);
@@ -77,7 +77,7 @@ fn block(rt: &impl Abort, net: &mut Net, first: u32) {
 }
 
 // A ladder whose rungs are chains of 4 claims. The feet are the firms 1 to 30, and the others stand behind them.
-fn comb(rt: &impl Abort, net: &mut Net) {
+pub(crate) fn comb(rt: &impl Abort, net: &mut Net) {
     for place in 0..30u32 {
         let foot = 30 - place;
         let first = 31 + place * 3;
@@ -91,7 +91,7 @@ fn comb(rt: &impl Abort, net: &mut Net) {
 }
 
 // So many claims, drawn between 60 firms from one on.
-fn drawn_claims(rt: &impl Abort, net: &mut Net, first: u32, claims: u32, seed: u32) {
+pub(crate) fn drawn_claims(rt: &impl Abort, net: &mut Net, first: u32, claims: u32, seed: u32) {
     let mut x = seed;
     for _ in 0..claims {
         let debtor = next(&mut x) % 60;
@@ -107,13 +107,17 @@ fn drawn_claims(rt: &impl Abort, net: &mut Net, first: u32, claims: u32, seed: u
     }
 }
 
-fn total(rt: &impl Abort, alloc: Global, net: &Net) -> u64 {
+// A round with liquidity where there is any window.
+pub(crate) fn kind_of(net: &Net) -> Kind {
     let open = net
         .windows
         .iter()
         .any(|window| 0 < window.0 || 0 < window.1);
-    let kind = if open { Kind::Funded } else { Kind::Plain };
-    total_of(rt, alloc, kind, &net.windows, &net.owed)
+    if open { Kind::Funded } else { Kind::Plain }
+}
+
+fn total(rt: &impl Abort, alloc: Global, net: &Net) -> u64 {
+    total_of(rt, alloc, kind_of(net), &net.windows, &net.owed)
 }
 
 // Nothing can be set off on a ladder, and of a block just half.

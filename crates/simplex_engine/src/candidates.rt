@@ -1,6 +1,6 @@
 //! Which arc enters the tree.
-use level_engine::Halves;
-use loose_places::{at, put};
+use spanning_tree::level_engine::Halves;
+use spanning_tree::loose_places::{at, put};
 use spanning_tree::{Arc, NO_ARC, NOBODY, Part, Tree};
 use std::alloc::{AllocError, Global};
 

@@ -17,4 +17,5 @@ mod draining;
 mod simplex;
 mod turns;
 
-pub use turns::{Solution, Start, seek_cold, seek_solution};
+pub use spanning_tree::{level_engine, residual_network};
+pub use turns::{Solution, Start, seek_alone, seek_cold, seek_from, seek_solution};

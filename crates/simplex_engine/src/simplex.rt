@@ -1,8 +1,8 @@
 //! A network simplex.
 use crate::candidates::Candidates;
-use level_engine::Halves;
-use loose_places::{at, put, short, small};
-use residual_network::Edge;
+use spanning_tree::level_engine::Halves;
+use spanning_tree::loose_places::{at, put, short, small};
+use spanning_tree::residual_network::Edge;
 use spanning_tree::{
     Arc, Branch, Circle, MUCH, NO_ARC, NOBODY, Part, Start, Tree, arcs_of, own_code, plant,
 };
@@ -105,6 +105,11 @@ impl Simplex {
     // Whether the work was no more than so much for each arc that entered.
     pub(crate) fn is_light(&self, most: u64) -> bool {
         self.candidates.work <= self.pivots.saturating_mul(most)
+    }
+
+    // How many arcs have entered.
+    pub(crate) fn pivots(&self) -> u64 {
+        self.pivots
     }
 
     // The next arc that enters. None where the work is done.

@@ -1,9 +1,9 @@
 //! A solution by turns.
 use crate::draining::Drain;
 use crate::simplex::Simplex;
-use level_engine::Halves;
-use loose_places::narrow;
-use residual_network::Edge;
+use spanning_tree::level_engine::Halves;
+use spanning_tree::loose_places::narrow;
+use spanning_tree::residual_network::Edge;
 use std::alloc::{AllocError, Global};
 
 /// A flow for each arc, and a price for each party.
@@ -59,8 +59,21 @@ const MANY_HALVES: Trial = Trial {
     all: 128,
 };
 
+// In how many slices a simplex is tried that begins at risen prices. The work that a slice has for each arc that enters, where there are
+// as many halves as nodes: so much, so much more for each time that it could look at all halves, and so much at most.
+const SLICES: usize = 17;
+
+const SLICE: u64 = 200;
+
+const SLICE_MORE: u64 = 36;
+
+const SLICE_MOST: u64 = 2_000;
+
 // The work for each half that the cold simplex has where a drain takes long, besides a quarter of the square of the nodes.
 const COLD: u64 = 400;
+
+// The work for each half that it has where it alone is asked, besides the square of the nodes.
+const ALONE: u64 = 500;
 
 /// A solution from where nothing is set off, if one is found with little work for each arc that enters.
 ///
@@ -108,13 +121,89 @@ fn tried_cold(
     halves: &Halves,
     trial: Trial,
 ) -> Result<Option<Solution>, AllocError> {
-    let mut cold = cold_simplex(alloc, start, halves)?;
+    let prices = vec![in alloc; 0i32; start.excess.len()]?;
+    let mut cold = cold_simplex(alloc, start, halves, &prices)?;
     cold.lengthen_runs();
     if ends_lightly(&mut cold, start.edges, halves, trial)? {
         answer(alloc, start.edges, &cold)
     } else {
         Ok(None)
     }
+}
+
+/// A solution from where nothing is set off, at the price of each node, if one is found while arcs enter with little work each.
+///
+/// Nothing is proved of it. An error is want of memory.
+pub fn seek_from(
+    alloc: Global,
+    start: &Start,
+    halves: &Halves,
+    prices: &[i32],
+) -> Result<Option<Solution>, AllocError> {
+    let mut cold = cold_simplex(alloc, start, halves, prices)?;
+    cold.lengthen_runs();
+    if ends_in_slices(&mut cold, start.edges, halves, start.excess.len())? {
+        answer(alloc, start.edges, &cold)
+    } else {
+        Ok(None)
+    }
+}
+
+/// A solution on these arcs alone, with the flows of the windows' arcs at which no balance changes, if one is found in time.
+///
+/// The arcs of claims may count more than claims do. Nothing is proved of it. An error is want of memory.
+pub fn seek_alone(
+    alloc: Global,
+    edges: &[Edge],
+    windows: &[u64],
+) -> Result<Option<Solution>, AllocError> {
+    let nodes = windows.len().saturating_add(1);
+    let halves = Halves::of(alloc, edges, nodes)?;
+    let flows = vec![in alloc; 0u64; edges.len()]?;
+    let excess = vec![in alloc; 0i128; nodes]?;
+    let start = Start {
+        edges,
+        flows: &flows,
+        prices: &[],
+        excess: &excess,
+        windows,
+    };
+    let most = (nodes as u64).saturating_mul(nodes as u64);
+    let work = (halves.len() as u64).saturating_mul(ALONE);
+    whole_within(alloc, &start, &halves, most.saturating_add(work))
+}
+
+// Whether the simplex comes to its end in slices, each of half as much work more than the one before. It does not go on behind one
+// that was not light.
+fn ends_in_slices(
+    simplex: &mut Simplex,
+    edges: &[Edge],
+    halves: &Halves,
+    nodes: usize,
+) -> Result<bool, AllocError> {
+    let many = halves.len() as u64;
+    let mut work = many;
+    for _ in 0..SLICES {
+        let before = simplex.pivots();
+        if simplex.run(edges, halves, work)? {
+            return Ok(true);
+        }
+        let each = work / simplex.pivots().saturating_sub(before).max(1);
+        if is_heavy(each, work, many, nodes as u64) {
+            return Ok(false);
+        }
+        work = work.saturating_add(work / 2);
+    }
+    Ok(false)
+}
+
+// Whether the work for each arc that entered in a slice was more than so much, and some more in a longer slice, times the root of how many
+// halves there are for each node.
+fn is_heavy(each: u64, slice: u64, halves: u64, nodes: u64) -> bool {
+    let longer = (slice / halves.max(1)).saturating_mul(SLICE_MORE);
+    let most = SLICE.saturating_add(longer).min(SLICE_MOST);
+    let allowed = most.saturating_mul(most).saturating_mul(halves);
+    allowed < each.saturating_mul(each).saturating_mul(nodes)
 }
 
 // Whether the simplex comes to its end. It does not go on where it is not light.
@@ -149,19 +238,59 @@ pub fn seek_solution(
     }
     let prices = node_prices(alloc, start.prices)?;
     let mut warm = warm_simplex(alloc, start, halves, &prices)?;
+    seek_warm(alloc, start, halves, &mut warm, &prices, turns)
+}
+
+// Tries the warm simplex alone where arcs are few, and then the others.
+fn seek_warm(
+    alloc: Global,
+    start: &Start,
+    halves: &Halves,
+    warm: &mut Simplex,
+    prices: &[i32],
+    turns: u32,
+) -> Result<Option<Solution>, AllocError> {
     if warm.run(start.edges, halves, work_where_sparse(start, halves))? {
-        return answer(alloc, start.edges, &warm);
+        return answer(alloc, start.edges, warm);
     }
-    let mut drain = drain_for(alloc, start, halves, BRIEF)?;
-    if !drain.is_over() {
+    let drain = drain_for(alloc, start, halves, BRIEF)?;
+    if drain.is_over() {
+        seek_drained(alloc, start, halves, drain, warm, prices, turns)
+    } else {
         drop(drain);
-        if let Some(solution) = whole_at_once(alloc, start, halves)? {
-            return Ok(Some(solution));
-        }
-        drain = drain_for(alloc, start, halves, DRAIN)?;
+        seek_undrained(alloc, start, halves, warm, prices, turns)
     }
-    let mut drained = drained_simplex(alloc, start, halves, drain, &prices)?;
-    by_turns(alloc, start, halves, &mut drained, &mut warm, turns)
+}
+
+// Seeks the whole at once, and then from where a longer drain ends.
+fn seek_undrained(
+    alloc: Global,
+    start: &Start,
+    halves: &Halves,
+    warm: &mut Simplex,
+    prices: &[i32],
+    turns: u32,
+) -> Result<Option<Solution>, AllocError> {
+    let whole = whole_at_once(alloc, start, halves)?;
+    if whole.is_some() {
+        return Ok(whole);
+    }
+    let drain = drain_for(alloc, start, halves, DRAIN)?;
+    seek_drained(alloc, start, halves, drain, warm, prices, turns)
+}
+
+// Lets a simplex that begins where the drain ended and the warm one go on by turns.
+fn seek_drained(
+    alloc: Global,
+    start: &Start,
+    halves: &Halves,
+    drain: Drain,
+    warm: &mut Simplex,
+    prices: &[i32],
+    turns: u32,
+) -> Result<Option<Solution>, AllocError> {
+    let mut drained = drained_simplex(alloc, start, halves, drain, prices)?;
+    by_turns(alloc, start, halves, &mut drained, warm, turns)
 }
 
 // A solution from where nothing is set off, if one is found in time.
@@ -174,7 +303,18 @@ fn whole_at_once(
     let work = (nodes.saturating_mul(nodes) / 4).saturating_add(
         (halves.len() as u64).saturating_mul(COLD),
     );
-    let mut cold = cold_simplex(alloc, start, halves)?;
+    whole_within(alloc, start, halves, work)
+}
+
+// A solution from where nothing is set off, if one is found with so much work.
+fn whole_within(
+    alloc: Global,
+    start: &Start,
+    halves: &Halves,
+    work: u64,
+) -> Result<Option<Solution>, AllocError> {
+    let prices = vec![in alloc; 0i32; start.excess.len()]?;
+    let mut cold = cold_simplex(alloc, start, halves, &prices)?;
     if cold.run(start.edges, halves, work)? {
         answer(alloc, start.edges, &cold)
     } else {
@@ -228,17 +368,21 @@ fn warm_simplex(
     Simplex::new(alloc, start.edges, halves, flows, prices, excess)
 }
 
-// A simplex that starts where nothing is set off, and no balance changes.
-fn cold_simplex(alloc: Global, start: &Start, halves: &Halves) -> Result<Simplex, AllocError> {
+// A simplex that starts where nothing is set off, and no balance changes, at the price of each node.
+fn cold_simplex(
+    alloc: Global,
+    start: &Start,
+    halves: &Halves,
+    prices: &[i32],
+) -> Result<Simplex, AllocError> {
     let nodes = start.excess.len();
     let claims = start.flows.len().saturating_sub(start.windows.len());
     let mut flows = vec![in alloc; 0u64; claims]?;
     for &flow in start.windows {
         flows.push(flow)?;
     }
-    let prices = vec![in alloc; 0i32; nodes]?;
     let excess = vec![in alloc; 0i64; nodes]?;
-    let mut cold = Simplex::new(alloc, start.edges, halves, flows, &prices, excess)?;
+    let mut cold = Simplex::new(alloc, start.edges, halves, flows, prices, excess)?;
     cold.stop_looking();
     Ok(cold)
 }

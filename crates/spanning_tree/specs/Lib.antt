@@ -1,0 +1,1 @@
+pub use Rattle.level_engine.specs.residual_network as residual_network

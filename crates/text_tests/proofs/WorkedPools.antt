@@ -11,8 +11,8 @@ use Rattle.claim_history.specs.Needs.{body_length_of}
 use Rattle.claim_history.specs.Pools.{main_pool, replay_of}
 use Rattle.claim_history.specs.PoolNeeds.{needed_bytes_of, needed_entries_of, pool_bytes, reserved_bytes_of, reserved_entries_of, used_bytes_of}
 use Rattle.claim_history.specs.PoolRounds.{ended}
-use Rattle.claim_history.proofs.Worked.{position}
-use Rattle.claim_history.proofs.WorkedRounds.{A, B, by, key, circle, circle_outcome, close_plain}
+use Rattle.text_tests.proofs.Worked.{position}
+use Rattle.text_tests.proofs.WorkedRounds.{A, B, by, key, circle, circle_outcome, close_plain}
 
 abbrev EAST : List ℕ
 EAST = codes "EAST"

@@ -1,19 +1,19 @@
 -- A desk on an empty disk has no history.
 use Rattle.std.proofs.Common.{◌≡◌, ◌∙◌, ℕ, Bool, true, List, [], ◌∷◌, ◌++◌, length, refl, ap, subst, arith}
 use Rattle.disk_model.specs.Calls.{Seen}
-use Rattle.claim_history.specs.PoolRounds.{ended}
-use Rattle.round_journal.specs.Records.{bodies_of}
-use Rattle.round_journal.specs.declared.record.Record.{Record}
-use Rattle.round_journal.proofs.Short.{held_short}
-use Rattle.round_journal.specs.Opened.{AreFound}
-use Rattle.round_journal.specs.declared.cause.RecordWhy.TheVariants as faults
-use Rattle.journal_replay.specs.Replays.{TellsFirst, history_of}
-use Rattle.journal_replay.specs.declared.replay_stop.ReplayStop.{ReplayStop}
-use Rattle.journal_replay.specs.declared.replay_stop.ReplayStop.TheVariants as stops
-use Rattle.bureau_desk.specs.declared.desk_refused.DeskCause.{DeskCause}
-use Rattle.bureau_desk.specs.declared.desk_refused.DeskCause.TheVariants as causes
-use Rattle.bureau_desk.specs.Desks.{DeskView}
-use Rattle.bureau_desk.specs.Opening.{HasDeskCause, IsDeskOpen, IsDeskRefused}
+use Rattle.lane_runner.specs.claim_history.specs.PoolRounds.{ended}
+use Rattle.lane_runner.specs.round_journal.specs.Records.{bodies_of}
+use Rattle.lane_runner.specs.round_journal.specs.declared.record.Record.{Record}
+use Rattle.lane_runner.specs.round_journal.proofs.Short.{held_short}
+use Rattle.lane_runner.specs.round_journal.specs.Opened.{AreFound}
+use Rattle.lane_runner.specs.round_journal.specs.declared.cause.RecordWhy.TheVariants as faults
+use Rattle.lane_runner.specs.journal_replay.specs.Replays.{TellsFirst, history_of}
+use Rattle.lane_runner.specs.journal_replay.specs.declared.replay_stop.ReplayStop.{ReplayStop}
+use Rattle.lane_runner.specs.journal_replay.specs.declared.replay_stop.ReplayStop.TheVariants as stops
+use Rattle.lane_runner.specs.bureau_desk.specs.declared.desk_refused.DeskCause.{DeskCause}
+use Rattle.lane_runner.specs.bureau_desk.specs.declared.desk_refused.DeskCause.TheVariants as causes
+use Rattle.lane_runner.specs.bureau_desk.specs.Desks.{DeskView}
+use Rattle.lane_runner.specs.bureau_desk.specs.Opening.{HasDeskCause, IsDeskOpen, IsDeskRefused}
 use Rattle.trial_round.specs.Opening.{IsWant}
 
 no_records : (records : List Record) → bodies_of records ≡ [] → history_of records ≡ []

@@ -1,6 +1,6 @@
 -- Why no desk is opened for a trial.
-use Rattle.bureau_desk.specs.declared.desk_refused.DeskCause.{DeskCause}
-use Rattle.bureau_desk.specs.declared.desk_refused.DeskCause.TheVariants as causes
+use Rattle.lane_runner.specs.bureau_desk.specs.declared.desk_refused.DeskCause.{DeskCause}
+use Rattle.lane_runner.specs.bureau_desk.specs.declared.desk_refused.DeskCause.TheVariants as causes
 
 -- there was no memory, or the disk failed
 abbrev pub IsWant : DeskCause → Type 0

@@ -2,13 +2,13 @@
 use Rattle.std.specs.Prelude.{◌≡◌, ℕ, List, [], ◌∷◌, ◌++◌, Option, MatchOption}
 use Rattle.setoff_model.specs.CutView.{CutView, OutcomeView, WellFormed, obligations}
 use Rattle.setoff_model.specs.Setoff.{Proves}
-use Rattle.claim_history.specs.declared.act.Act.TheVariants as act
-use Rattle.claim_history.specs.declared.entry.Entry.{Entry}
-use Rattle.claim_history.specs.PoolRounds.{cuts_after}
-use Rattle.request_text.specs.declared.request.Request.{Request}
-use Rattle.bureau_desk.specs.Desks.{DeskView}
-use Rattle.served_lines.specs.declared.answer.Answer.{Answer}
-use Rattle.served_lines.specs.Served.{IsServed}
+use Rattle.lane_runner.specs.claim_history.specs.declared.act.Act.TheVariants as act
+use Rattle.lane_runner.specs.claim_history.specs.declared.entry.Entry.{Entry}
+use Rattle.lane_runner.specs.claim_history.specs.PoolRounds.{cuts_after}
+use Rattle.lane_runner.specs.request_text.specs.declared.request.Request.{Request}
+use Rattle.lane_runner.specs.bureau_desk.specs.Desks.{DeskView}
+use Rattle.lane_runner.specs.served_lines.specs.declared.answer.Answer.{Answer}
+use Rattle.lane_runner.specs.served_lines.specs.Served.{IsServed}
 
 -- the last entry asks for a publication of this outcome
 pub record EndsWith (history : List Entry) (outcome : OutcomeView) : Type 0 where

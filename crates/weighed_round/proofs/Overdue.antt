@@ -7,16 +7,16 @@ use Rattle.setoff_model.specs.declared.kind.Kind.{Kind}
 use Rattle.setoff_model.specs.CutView.{CutView, OutcomeView, obligations}
 use Rattle.setoff_model.specs.Weighted.{AreWeights, ProvesWeighted}
 use Rattle.setoff_model.proofs.Columns.{claims_long}
-use Rattle.claim_history.specs.declared.entry.Entry.{Entry}
-use Rattle.claim_history.specs.declared.fact.AccountFact.{AccountFact}
-use Rattle.claim_history.specs.declared.fact.ClaimFact.{ClaimFact}
-use Rattle.claim_history.specs.Facts.{Filing, Ledger, account_facts, claim_fact, claim_facts}
-use Rattle.claim_history.specs.History.{AreValid, IsLegal}
-use Rattle.claim_history.specs.Cut.{cut_claim, due_claims, firms_of}
-use Rattle.claim_book.specs.Book.{ledger_of}
-use Rattle.round_cut.specs.CutLaw.{BuiltCutLaw}
-use Rattle.round_cut.specs.CutOfFacts.{claims_due, cut_of_facts}
-use Rattle.round_cut.proofs.History.{due_is, map-map}
+use Rattle.printed_text.specs.claim_history.specs.declared.entry.Entry.{Entry}
+use Rattle.printed_text.specs.claim_history.specs.declared.fact.AccountFact.{AccountFact}
+use Rattle.printed_text.specs.claim_history.specs.declared.fact.ClaimFact.{ClaimFact}
+use Rattle.printed_text.specs.claim_history.specs.Facts.{Filing, Ledger, account_facts, claim_fact, claim_facts}
+use Rattle.printed_text.specs.claim_history.specs.History.{AreValid, IsLegal}
+use Rattle.printed_text.specs.claim_history.specs.Cut.{cut_claim, due_claims, firms_of}
+use Rattle.printed_text.specs.claim_book.specs.Book.{ledger_of}
+use Rattle.printed_text.specs.round_cut.specs.CutLaw.{BuiltCutLaw}
+use Rattle.printed_text.specs.round_cut.specs.CutOfFacts.{claims_due, cut_of_facts}
+use Rattle.printed_text.specs.round_cut.proofs.History.{due_is, map-map}
 use Rattle.weighed_round.specs.Weighed.{IsWeighedText, cut_by, weighed_text, weight_at, weights_of}
 
 -- the weights by the facts are those by the filings

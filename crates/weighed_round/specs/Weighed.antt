@@ -1,15 +1,15 @@
 -- A weighted set-off of what a history says, and its text.
 use Rattle.std.specs.Prelude.{◌≡◌, ℕ, ◌+◌, ◌-◌, ◌/◌, min, List, [], ◌∷◌, ◌++◌, map, codes}
-use Rattle.text_lines.specs.Fields.{line_of}
+use Rattle.printed_text.specs.text_lines.specs.Fields.{line_of}
 use Rattle.setoff_model.specs.declared.kind.Kind.{Kind}
 use Rattle.setoff_model.specs.declared.cut.Party.{Party}
 use Rattle.setoff_model.specs.declared.cut.CutClaim.{CutClaim}
 use Rattle.setoff_model.specs.CutView.{CutView, OutcomeView, obligations}
 use Rattle.setoff_model.specs.Weighted.{ProvesWeighted, weighted_total_of}
-use Rattle.claim_history.specs.Facts.{Ledger}
-use Rattle.claim_history.specs.Cut.{cut_of, due_claims}
-use Rattle.statement_text.specs.Statements.{firm_at, party_lines}
-use Rattle.statement_text.specs.Weighed.{total_fields, weighed_claim_fields, weighed_head_fields}
+use Rattle.printed_text.specs.claim_history.specs.Facts.{Ledger}
+use Rattle.printed_text.specs.claim_history.specs.Cut.{cut_of, due_claims}
+use Rattle.printed_text.specs.statement_text.specs.Statements.{firm_at, party_lines}
+use Rattle.printed_text.specs.statement_text.specs.Weighed.{total_fields, weighed_claim_fields, weighed_head_fields}
 use Rattle.printed_text.specs.Printing.{lines_bytes}
 
 -- how much a cent of a claim counts that is due on this day: 1, and one more for each 30 days that it is overdue, at most 9

@@ -9,4 +9,6 @@ mod text;
 mod weighing;
 mod weights;
 
+pub use printed_text;
+pub use printed_text::{claim_book, entry_text, firm_notices, statement_text};
 pub use weighing::weigh;

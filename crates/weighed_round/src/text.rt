@@ -3,15 +3,15 @@ ghost use Rattle.std.specs.Prelude.{◌≡◌, ◌<◌, ◌≤◌, ◌^◌, ◌+
 ghost use Rattle.setoff_model.specs.declared.limits.TheConstants.{SUM_LIMIT, MOST_WINDOW};
 ghost use Rattle.setoff_model.specs.CutView.{WellFormed, obligations};
 ghost use Rattle.setoff_model.specs.Weighted.{AreWeights, ProvesWeighted};
-ghost use Rattle.statement_text.specs.Statements.{party_lines};
+ghost use Rattle.printed_text.specs.statement_text.specs.Statements.{party_lines};
 ghost use Rattle.printed_text.specs.Printing.{lines_bytes};
 ghost use Rattle.weighed_round.specs.Weighed.{weighed_lines, weighed_text};
 
-use setoff_model::limits::LINE_BYTES;
-use setoff_model::{Cut, Outcome, Party};
-use statement_text::{
+use printed_text::statement_text::{
     write_end, write_party, write_total, write_weighed_claim, write_weighed_head,
 };
+use setoff_model::limits::LINE_BYTES;
+use setoff_model::{Cut, Outcome, Party};
 use std::alloc::{AllocError, Global};
 use weighted_setoff::weighted_total;
 

@@ -1,13 +1,13 @@
 //! A weighted set-off of a book.
 ghost use Rattle.std.specs.Prelude.{IfOk};
-ghost use Rattle.claim_book.specs.Book.{ledger_of};
+ghost use Rattle.printed_text.specs.claim_book.specs.Book.{ledger_of};
 ghost use Rattle.weighed_round.specs.Weighed.{IsWeighedText};
 
 use crate::text::text_of;
 use crate::weights::weights_of;
-use claim_book::Book;
-use claim_history::Day;
-use round_cut::{build_cut, cut_of_a_history_is_of_its_facts};
+use printed_text::claim_book::Book;
+use printed_text::claim_history::Day;
+use printed_text::round_cut::{build_cut, cut_of_a_history_is_of_its_facts};
 use setoff_model::Kind;
 use std::alloc::{AllocError, Global};
 use weighted_setoff::solve_weighted;

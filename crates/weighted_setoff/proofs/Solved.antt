@@ -12,12 +12,12 @@ use Rattle.setoff_model.specs.Weighted.{AreWeights, ProvesWeighted}
 use Rattle.setoff_model.specs.Squeezing.{IsSqueezedTo, IsNear}
 use Rattle.setoff_model.proofs.Columns.{no_claim, claims_long}
 use Rattle.setoff_model.proofs.Narrowed.{narrowing_keeps}
-use Rattle.residual_network.specs.declared.edge.Edge.{Edge}
-use Rattle.residual_state.specs.declared.state.State.{State}
-use Rattle.residual_state.specs.Edges.{IsClaimEdge, tails, heads, capacities, rewards}
-use Rattle.residual_state.specs.States.{IsStateOf, IsFound, weighed_edges}
-use Rattle.residual_state.proofs.Networks.{no_edge}
-use Rattle.residual_state.proofs.Found.{state_of_columns}
+use Rattle.level_solver.specs.residual_network.specs.declared.edge.Edge.{Edge}
+use Rattle.level_solver.specs.residual_state.specs.declared.state.State.{State}
+use Rattle.level_solver.specs.residual_state.specs.Edges.{IsClaimEdge, tails, heads, capacities, rewards}
+use Rattle.level_solver.specs.residual_state.specs.States.{IsStateOf, IsFound, weighed_edges}
+use Rattle.level_solver.specs.residual_state.proofs.Networks.{no_edge}
+use Rattle.level_solver.specs.residual_state.proofs.Found.{state_of_columns}
 use Rattle.weighted_setoff.specs.Starts.{AreEdgesOf, weighed_cut}
 
 pub begins : (cut : CutView) (weights : List ℕ) (edges : List Edge) (w : State) → AreEdgesOf cut.claims weights edges → IsStateOf (weighed_edges cut.parties edges) w → IsStateOf (weighed_cut cut weights) w

@@ -2,9 +2,9 @@
 use Rattle.std.specs.Prelude.{◌≡◌, ℕ, List}
 use Rattle.setoff_model.specs.declared.cut.CutClaim.{CutClaim}
 use Rattle.setoff_model.specs.CutView.{CutView, obligations, debtors, creditors, amounts}
-use Rattle.residual_network.specs.declared.edge.Edge.{Edge}
-use Rattle.residual_state.specs.Edges.{tails, heads, capacities, rewards}
-use Rattle.residual_state.specs.States.{Weighed}
+use Rattle.level_solver.specs.residual_network.specs.declared.edge.Edge.{Edge}
+use Rattle.level_solver.specs.residual_state.specs.Edges.{tails, heads, capacities, rewards}
+use Rattle.level_solver.specs.residual_state.specs.States.{Weighed}
 
 -- one arc for each claim in order, on which a unit counts the weight
 pub record AreEdgesOf (claims : List CutClaim) (weights : List ℕ) (edges : List Edge) : Type 0 where

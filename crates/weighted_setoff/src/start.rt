@@ -2,11 +2,11 @@
 ghost use Rattle.std.specs.Prelude.{◌≡◌, length, IfOk};
 ghost use Rattle.setoff_model.specs.CutView.{WellFormed, obligations};
 ghost use Rattle.setoff_model.specs.Weighted.{AreWeights};
-ghost use Rattle.residual_state.specs.States.{IsStateOf};
+ghost use Rattle.level_solver.specs.residual_state.specs.States.{IsStateOf};
 ghost use Rattle.weighted_setoff.specs.Starts.{AreEdgesOf, weighed_cut};
 
-use residual_network::Edge;
-use residual_state::{State, state_at_start};
+use level_solver::residual_network::Edge;
+use level_solver::residual_state::{State, state_at_start};
 use setoff_model::{Cut, CutClaim};
 use std::alloc::{AllocError, Global};
 

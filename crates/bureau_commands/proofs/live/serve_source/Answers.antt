@@ -1,13 +1,13 @@
 use Rattle.std.proofs.Common.{ℕ, List, [], refl, subst, sym, arith, ◌∙◌}
-use Rattle.printed_text.specs.declared.exit_status.ExitStatus.TheVariants as statuses
-use Rattle.printed_text.specs.Texts.{memory_text}
-use Rattle.batch_runs.specs.Runs.{HasTaken}
+use Rattle.live_runs.specs.printed_text.specs.declared.exit_status.ExitStatus.TheVariants as statuses
+use Rattle.live_runs.specs.printed_text.specs.Texts.{memory_text}
+use Rattle.live_runs.specs.batch_runs.specs.Runs.{HasTaken}
 use Rattle.bureau_reports.proofs.Written.{no_other, wrote_for, wrote_line}
 use Rattle.bureau_commands.specs.Due.{IsLiveDue, IsNotBegunDue, WroteTaking, no_output_memory, not_begun}
 use Rattle.bureau_commands.proofs.Bound.{none_asked}
 use Rattle.bureau_commands.proofs.LiveCauses.{begun_no_source, stopped_failed}
 use Rattle.bureau_commands.proofs.Served.{wrote_broken, wrote_live}
-use Rattle.printed_text.proofs.Statuses.{kept_untold, sink_told, told_behind}
+use Rattle.live_runs.specs.printed_text.proofs.Statuses.{kept_untold, sink_told, told_behind}
 use Rattle.bureau_commands.proofs.live.serve_source.Goals as goal
 
 -- ---- there was no memory for the intake

@@ -1,8 +1,8 @@
 use Rattle.std.specs.Vec.{vec_len}
 use Rattle.std.proofs.Common.{◌≡◌, ◌∙◌, ℕ, List, ◌++◌, length, ap, subst, arith}
-use Rattle.printed_text.specs.declared.exit_status.ExitStatus.TheVariants as statuses
-use Rattle.printed_text.specs.Texts.{bad_line_text}
-use Rattle.printed_text.specs.Writing.{IsWritten}
+use Rattle.live_runs.specs.printed_text.specs.declared.exit_status.ExitStatus.TheVariants as statuses
+use Rattle.live_runs.specs.printed_text.specs.Texts.{bad_line_text}
+use Rattle.live_runs.specs.printed_text.specs.Writing.{IsWritten}
 use Rattle.bureau_commands.proofs.live.tell_line.Goals as goal
 
 pub write_bad_line-requires : goal.write_bad_line-requires

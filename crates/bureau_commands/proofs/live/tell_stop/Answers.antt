@@ -1,9 +1,9 @@
 use Rattle.std.proofs.Common.{refl, subst, sym}
 use Rattle.bureau_edge.proofs.Known.{Appends-none}
-use Rattle.printed_text.specs.Writing.{IsWritten, whole}
-use Rattle.live_intake.specs.declared.stop.Stop.{Stop}
+use Rattle.live_runs.specs.printed_text.specs.Writing.{IsWritten, whole}
+use Rattle.live_runs.specs.live_reading.specs.declared.stop.Stop.{Stop}
 use Rattle.bureau_commands.specs.Due.{stop_status, stop_text}
-use Rattle.printed_text.proofs.Statuses.{none_told}
+use Rattle.live_runs.specs.printed_text.proofs.Statuses.{none_told}
 use Rattle.bureau_commands.proofs.live.tell_stop.Goals as goal
 
 -- ---- no fault

@@ -3,17 +3,17 @@ use Rattle.std.specs.Io.KnownBytes.{Appends}
 use Rattle.std.proofs.Common.{◌≡◌, ◌∙◌, ◌≤◌, [], ◌∷◌, ℕ, List, length, ap, refl, subst, sym, arith}
 use Rattle.bureau_edge.specs.Streams.{AppendsPart}
 use Rattle.claim_history.specs.PoolRounds.{cuts_after}
-use Rattle.printed_text.specs.declared.exit_status.ExitStatus.TheVariants as statuses
-use Rattle.printed_text.specs.Texts.{memory_text}
-use Rattle.printed_text.specs.Printing.{printed_of}
-use Rattle.printed_text.proofs.Statuses.{other_than, sink_told}
+use Rattle.live_runs.specs.printed_text.specs.declared.exit_status.ExitStatus.TheVariants as statuses
+use Rattle.live_runs.specs.printed_text.specs.Texts.{memory_text}
+use Rattle.live_runs.specs.printed_text.specs.Printing.{printed_of}
+use Rattle.live_runs.specs.printed_text.proofs.Statuses.{other_than, sink_told}
 use Rattle.bureau_reports.specs.DiskTexts.{opening_status, opening_text}
-use Rattle.batch_runs.specs.Runs.{HasTaken}
+use Rattle.live_runs.specs.batch_runs.specs.Runs.{HasTaken}
 use Rattle.bureau_commands.specs.Due.{IsNotBegunDue, WroteTaking, no_output_memory, not_opened}
 use Rattle.bureau_reports.proofs.Viewed.{tellable}
 use Rattle.bureau_reports.proofs.Written.{wrote_line}
-use Rattle.batch_runs.proofs.Batches.{same_opening}
-use Rattle.batch_runs.proofs.Printed.{at_err, at_ok, printed_same}
+use Rattle.live_runs.specs.batch_runs.proofs.Batches.{same_opening}
+use Rattle.live_runs.specs.batch_runs.proofs.Printed.{at_err, at_ok, printed_same}
 use Rattle.bureau_commands.proofs.JournalCauses.{opening_one}
 use Rattle.bureau_commands.proofs.Served.{begun_few, none_begun, wrote_begun}
 use Rattle.bureau_commands.proofs.opening.begin.Goals as goal

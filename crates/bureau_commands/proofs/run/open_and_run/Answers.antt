@@ -1,9 +1,9 @@
 use Rattle.std.proofs.Common.{ℕ, List, subst, sym}
-use Rattle.batch_runs.specs.Runs.{HasTaken}
+use Rattle.live_runs.specs.batch_runs.specs.Runs.{HasTaken}
 use Rattle.bureau_reports.proofs.Written.{wrote_for}
 use Rattle.bureau_commands.specs.Due.{IsBatchesDue, IsNotBegunDue, WroteTaking}
 use Rattle.bureau_commands.proofs.Served.{wrote_all}
-use Rattle.printed_text.proofs.Statuses.{told_behind}
+use Rattle.live_runs.specs.printed_text.proofs.Statuses.{told_behind}
 use Rattle.bureau_commands.proofs.run.open_and_run.Goals as goal
 
 -- ---- no batch was served

@@ -1,8 +1,8 @@
 use Rattle.std.proofs.Common.{◌≡◌, ℕ, List, ◌++◌, ap, ◌∙◌, refl, subst}
 use Rattle.command_words.specs.declared.input_report.InputReport.TheVariants as inputs
-use Rattle.printed_text.specs.declared.exit_status.ExitStatus.{ExitStatus}
-use Rattle.printed_text.specs.Texts.{verdict_text, verdict_status}
-use Rattle.printed_text.specs.Writing.{IsWritten}
+use Rattle.weighed_round.specs.printed_text.specs.declared.exit_status.ExitStatus.{ExitStatus}
+use Rattle.weighed_round.specs.printed_text.specs.Texts.{verdict_text, verdict_status}
+use Rattle.weighed_round.specs.printed_text.specs.Writing.{IsWritten}
 use Rattle.bureau_reports.specs.Inputs.{IsInputDue, reported}
 use Rattle.bureau_reports.proofs.Written.{wrote_text}
 use Rattle.bureau_reports.proofs.check.check_statement.Goals as goal

@@ -1,9 +1,9 @@
 use Rattle.std.proofs.Common.{refl}
-use Rattle.printed_text.specs.Writing.{broken, whole}
+use Rattle.weighed_round.specs.printed_text.specs.Writing.{broken, whole}
 use Rattle.chain_text.specs.Texts.{chains_text}
-use Rattle.printed_text.specs.declared.exit_status.ExitStatus.TheVariants as statuses
+use Rattle.weighed_round.specs.printed_text.specs.declared.exit_status.ExitStatus.TheVariants as statuses
 use Rattle.bureau_reports.proofs.Explained.{explained_due}
-use Rattle.printed_text.proofs.Statuses.{none_told, sink_told}
+use Rattle.weighed_round.specs.printed_text.proofs.Statuses.{none_told, sink_told}
 use Rattle.bureau_reports.proofs.explain.explain_checked.Goals as goal
 
 pub returns-in-Ok-print_chains-clause-wrote : goal.returns-in-Ok-print_chains-clause-wrote

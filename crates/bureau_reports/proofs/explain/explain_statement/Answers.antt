@@ -1,9 +1,9 @@
 use Rattle.std.proofs.Common.{◌≡◌, ℕ, List, ◌++◌, ap, ◌∙◌, inl, refl, subst}
 use Rattle.setoff_model.specs.CutView.{CutView}
 use Rattle.command_words.specs.declared.input_report.InputReport.TheVariants as inputs
-use Rattle.printed_text.specs.declared.exit_status.ExitStatus.{ExitStatus}
-use Rattle.printed_text.specs.Texts.{verdict_text, verdict_status}
-use Rattle.printed_text.specs.Writing.{IsWritten}
+use Rattle.weighed_round.specs.printed_text.specs.declared.exit_status.ExitStatus.{ExitStatus}
+use Rattle.weighed_round.specs.printed_text.specs.Texts.{verdict_text, verdict_status}
+use Rattle.weighed_round.specs.printed_text.specs.Writing.{IsWritten}
 use Rattle.bureau_reports.specs.Inputs.{IsInputDue, IsJudged, reported}
 use Rattle.bureau_reports.proofs.Verdicts.{unproved_no}
 use Rattle.bureau_reports.proofs.Written.{wrote_text}

@@ -1,7 +1,7 @@
 use Rattle.std.proofs.Common.{◌≡◌, ◌∙◌, refl}
-use Rattle.firm_notices.specs.Invoices.{import_text}
+use Rattle.weighed_round.specs.firm_notices.specs.Invoices.{import_text}
 use Rattle.command_words.specs.declared.input_report.InputReport.TheVariants as inputs
-use Rattle.printed_text.specs.declared.exit_status.ExitStatus.TheVariants as statuses
+use Rattle.weighed_round.specs.printed_text.specs.declared.exit_status.ExitStatus.TheVariants as statuses
 use Rattle.bureau_reports.specs.Inputs.{IsInputDue, reported}
 use Rattle.bureau_reports.proofs.Written.{wrote_text}
 use Rattle.bureau_reports.proofs.import.import_input.Goals as goal

@@ -1,7 +1,7 @@
 use Rattle.std.proofs.Common.{◌≡◌, ℕ, List, ◌++◌, ap, ◌∙◌, refl}
-use Rattle.firm_notices.proofs.OneReading.{one_reading_law}
-use Rattle.printed_text.specs.declared.exit_status.ExitStatus.TheVariants as statuses
-use Rattle.printed_text.specs.Texts.{bad_row_text}
+use Rattle.weighed_round.specs.firm_notices.proofs.OneReading.{one_reading_law}
+use Rattle.weighed_round.specs.printed_text.specs.declared.exit_status.ExitStatus.TheVariants as statuses
+use Rattle.weighed_round.specs.printed_text.specs.Texts.{bad_row_text}
 use Rattle.command_words.specs.declared.input_report.InputReport.TheVariants as inputs
 use Rattle.bureau_reports.specs.Inputs.{IsBadRowTold, IsInForm, IsInputDue, out_of_form}
 use Rattle.bureau_reports.proofs.Written.{wrote_text}

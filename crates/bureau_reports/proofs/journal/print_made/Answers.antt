@@ -1,6 +1,6 @@
 use Rattle.std.proofs.Common.{List, ℕ, subst, sym}
-use Rattle.printed_text.specs.declared.exit_status.ExitStatus.TheVariants as statuses
-use Rattle.printed_text.specs.Texts.{memory_text}
+use Rattle.weighed_round.specs.printed_text.specs.declared.exit_status.ExitStatus.TheVariants as statuses
+use Rattle.weighed_round.specs.printed_text.specs.Texts.{memory_text}
 use Rattle.bureau_reports.specs.Journals.{IsBookDue, IsTextOf, no_text_memory}
 use Rattle.bureau_reports.proofs.Held.{wrote_made}
 use Rattle.bureau_reports.proofs.Written.{wrote_line}

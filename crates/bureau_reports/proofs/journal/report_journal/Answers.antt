@@ -1,8 +1,8 @@
 use Rattle.std.proofs.Common.{◌∙◌, ◌∷◌, [], refl, sym, arith}
 use Rattle.disk_model.proofs.Moments.{passes_still}
-use Rattle.printed_text.specs.declared.exit_status.ExitStatus.TheVariants as statuses
-use Rattle.printed_text.specs.Texts.{memory_text}
-use Rattle.printed_text.proofs.Statuses.{other_than}
+use Rattle.weighed_round.specs.printed_text.specs.declared.exit_status.ExitStatus.TheVariants as statuses
+use Rattle.weighed_round.specs.printed_text.specs.Texts.{memory_text}
+use Rattle.weighed_round.specs.printed_text.proofs.Statuses.{other_than}
 use Rattle.bureau_reports.specs.Journals.{IsJournalDue, no_view_memory, unviewed, unviewed_status, unviewed_text}
 use Rattle.bureau_reports.proofs.Viewed.{as_opening, book_due, journal_among, journal_rose, tellable, unviewed_among}
 use Rattle.bureau_reports.proofs.Written.{written_as, wrote_for, wrote_line}

@@ -1,7 +1,7 @@
 use Rattle.std.specs.Vec.{vec_len}
 use Rattle.std.proofs.Common.{◌≡◌, ◌∙◌, ℕ, List, [], ◌∷◌, ◌++◌, length, ap, refl, sym, arith}
-use Rattle.printed_text.specs.declared.exit_status.ExitStatus.TheVariants as statuses
-use Rattle.printed_text.proofs.Statuses.{other_than}
+use Rattle.weighed_round.specs.printed_text.specs.declared.exit_status.ExitStatus.TheVariants as statuses
+use Rattle.weighed_round.specs.printed_text.proofs.Statuses.{other_than}
 use Rattle.bureau_reports.specs.DiskTexts.{opening_status, opening_text}
 use Rattle.bureau_reports.proofs.Viewed.{opening_among}
 use Rattle.bureau_reports.proofs.Written.{written_as}

@@ -1,8 +1,8 @@
 use Rattle.std.specs.Prelude.{cond}
 use Rattle.std.proofs.Common.{◌≡◌, ◌∙◌, ℕ, Bool, ap, sym, arith}
-use Rattle.claim_history.specs.declared.call.PoolEntry.{PoolEntry}
-use Rattle.claim_history.specs.Acts.{is_publication}
-use Rattle.claim_history.specs.Pools.{member_of}
+use Rattle.weighed_round.specs.claim_history.specs.declared.call.PoolEntry.{PoolEntry}
+use Rattle.weighed_round.specs.claim_history.specs.Acts.{is_publication}
+use Rattle.weighed_round.specs.claim_history.specs.Pools.{member_of}
 use Rattle.bureau_reports.proofs.Counted.{counted_more}
 use Rattle.bureau_reports.proofs.sound_line.rounds_in.Goals as goal
 use Rattle.bureau_reports.proofs.sound_line.rounds_in.Goals.{then-publishes, else-publishes}

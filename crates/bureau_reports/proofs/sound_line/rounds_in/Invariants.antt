@@ -1,6 +1,6 @@
 use Rattle.std.specs.Prelude.{count_by}
 use Rattle.std.proofs.Common.{◌≡◌, take}
-use Rattle.claim_history.specs.Acts.{is_publication}
+use Rattle.weighed_round.specs.claim_history.specs.Acts.{is_publication}
 use Rattle.bureau_reports.proofs.sound_line.rounds_in.Given as goal
 
 abbrev pub invariant-loop-place : goal.invariant-loop-place

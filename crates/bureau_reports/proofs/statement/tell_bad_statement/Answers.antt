@@ -1,7 +1,7 @@
 use Rattle.std.proofs.Common.{◌≡◌, ℕ, List, ◌++◌, ap, ◌∙◌, refl}
 use Rattle.command_words.specs.declared.input_report.InputReport.TheVariants as inputs
-use Rattle.printed_text.specs.declared.exit_status.ExitStatus.TheVariants as statuses
-use Rattle.printed_text.specs.Texts.{bad_statement_text}
+use Rattle.weighed_round.specs.printed_text.specs.declared.exit_status.ExitStatus.TheVariants as statuses
+use Rattle.weighed_round.specs.printed_text.specs.Texts.{bad_statement_text}
 use Rattle.bureau_reports.specs.Inputs.{IsBadStatementTold, IsInputDue, IsStated, out_of_form}
 use Rattle.bureau_reports.proofs.Written.{wrote_text}
 use Rattle.bureau_reports.proofs.statement.tell_bad_statement.Goals as goal

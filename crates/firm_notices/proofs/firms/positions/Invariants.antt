@@ -1,6 +1,6 @@
 use Rattle.std.proofs.Common.{take, ◌∷◌, map}
 use Rattle.claim_book.specs.Book.{ledger_of}
-use Rattle.claim_history.specs.Facts.{position_of}
+use Rattle.claim_book.specs.claim_history.specs.Facts.{position_of}
 use Rattle.firm_notices.specs.Tables.{HoldsText, csv_text}
 use Rattle.firm_notices.specs.Positions.{position_names, position_fields}
 use Rattle.firm_notices.proofs.firms.positions.Given as goal

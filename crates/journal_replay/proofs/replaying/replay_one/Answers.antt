@@ -1,4 +1,4 @@
-use Rattle.act_bodies.proofs.Keepable.{act_valid}
+use Rattle.limited_book.specs.act_bodies.proofs.Keepable.{act_valid}
 use Rattle.journal_replay.specs.Replays.{recorded_call}
 use Rattle.journal_replay.proofs.replaying.replay_one.Goals as goal
 

@@ -1,9 +1,9 @@
 use Rattle.std.proofs.Common.{◌≡◌, ◌≤◌, ◌++◌, ◌∷◌, [], List, sym, ap, subst, ◌∙◌}
-use Rattle.claim_history.specs.declared.call.PoolEntry.{PoolEntry}
-use Rattle.claim_history.specs.Pools.{IsLegal, answered, state_in}
-use Rattle.claim_book.specs.Book.{room_for}
-use Rattle.claim_book.specs.Pools.{BooksView, room_in}
-use Rattle.claim_book.proofs.Kept.{needed_by_any}
+use Rattle.limited_book.specs.claim_history.specs.declared.call.PoolEntry.{PoolEntry}
+use Rattle.limited_book.specs.claim_history.specs.Pools.{IsLegal, answered, state_in}
+use Rattle.limited_book.specs.claim_book.specs.Book.{room_for}
+use Rattle.limited_book.specs.claim_book.specs.Pools.{BooksView, room_in}
+use Rattle.limited_book.specs.claim_book.proofs.Kept.{needed_by_any}
 use Rattle.journal_replay.proofs.Replays.{published_so}
 use Rattle.journal_replay.proofs.replaying.replay_publication.Goals as goal
 

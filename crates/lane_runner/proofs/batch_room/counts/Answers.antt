@@ -1,8 +1,8 @@
 use Rattle.std.proofs.Common.{rules, ◌+◌, ◌-◌, ◌^◌, ◌<◌, ◌≤◌, take, sym, subst, arith}
 use Rattle.std.proofs.lemmas.List.{length-take-le}
 use Rattle.setoff_model.specs.declared.limits.TheConstants.{MOST_LANES}
-use Rattle.request_text.specs.declared.request.Request.{Request}
-use Rattle.lane_runner.proofs.OfLanes.{few_of_lane}
+use Rattle.served_lines.specs.request_text.specs.declared.request.Request.{Request}
+use Rattle.served_lines.proofs.OfLane.{few_of_lane}
 use Rattle.lane_runner.proofs.batch_room.counts.Goals as goal
 
 pub overflow_add-counts : goal.overflow_add-counts

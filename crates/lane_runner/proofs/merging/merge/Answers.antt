@@ -1,12 +1,12 @@
 use Rattle.std.proofs.Common.{rules, ◌≡◌, ◌∙◌, ◌+◌, ◌-◌, ◌^◌, ◌<◌, ◌≤◌, ℕ, List, [], ◌∷◌, ◌++◌, length, map, take, get_or, slice_index_or, vec_len, sym, ap, subst, arith}
 use Rattle.std.proofs.Math.ListN.{length-set}
 use Rattle.std.proofs.lemmas.List.{get_or_default}
-use Rattle.request_text.specs.declared.request.Request.{Request}
+use Rattle.served_lines.specs.request_text.specs.declared.request.Request.{Request}
 use Rattle.served_lines.specs.declared.answer.Answer.{Answer}
 use Rattle.lane_runner.specs.declared.lane.Lane.{Lane}
-use Rattle.lane_runner.specs.Lanes.{of_lane}
+use Rattle.served_lines.specs.Served.{of_lane}
 use Rattle.lane_runner.proofs.Merged.{Agree, agree_more, answered_more, answer_of, next_more, next_there}
-use Rattle.lane_runner.proofs.OfLanes.{fewer_before, one_more}
+use Rattle.served_lines.proofs.OfLane.{fewer_before, one_more}
 use Rattle.lane_runner.proofs.merging.merge.Goals as goal
 
 pub index-end-requires : goal.index-end-requires

@@ -1,5 +1,5 @@
 use Rattle.std.proofs.Common.{◌∙◌, ap}
-use Rattle.live_intake.specs.Live.{is_fence}
+use Rattle.live_intake.specs.live_reading.specs.Fronts.{is_fence}
 use Rattle.lane_tests.proofs.live.served.Goals as goal
 
 pub returns : goal.returns

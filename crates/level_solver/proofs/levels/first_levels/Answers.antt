@@ -1,4 +1,4 @@
-use Rattle.residual_state.proofs.Carried.{worse_never}
+use Rattle.flow_solver.specs.residual_state.proofs.Carried.{worse_never}
 use Rattle.level_solver.proofs.levels.first_levels.Goals as goal
 
 pub loop-preserved : goal.loop-preserved

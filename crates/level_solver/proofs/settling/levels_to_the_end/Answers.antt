@@ -1,6 +1,6 @@
 use Rattle.std.proofs.Common.{ap, arith}
-use Rattle.residual_state.specs.States.{surplus}
-use Rattle.residual_state.proofs.Measured.{at_rest}
+use Rattle.flow_solver.specs.residual_state.specs.States.{surplus}
+use Rattle.flow_solver.specs.residual_state.proofs.Measured.{at_rest}
 use Rattle.level_solver.proofs.settling.levels_to_the_end.Goals as goal
 
 pub returns-then-surplus_of-eq0-clause-rest : goal.returns-then-surplus_of-eq0-clause-rest

@@ -1,9 +1,9 @@
 use Rattle.std.proofs.Common.{sym, ◌∙◌, ap, subst}
 use Rattle.setoff_model.specs.CutView.{WellFormed}
 use Rattle.claim_book.specs.Book.{open_cut_of}
-use Rattle.claim_history.specs.Pools.{entries_in}
-use Rattle.claim_history.specs.States.{state_of}
-use Rattle.claim_history.proofs.Open.{open_of}
+use Rattle.claim_book.specs.claim_history.specs.Pools.{entries_in}
+use Rattle.claim_book.specs.claim_history.specs.States.{state_of}
+use Rattle.claim_book.specs.claim_history.proofs.Open.{open_of}
 use Rattle.limited_book.proofs.need.endings_in.Goals as goal
 
 pub endings_of-requires : goal.endings_of-requires

@@ -2,10 +2,10 @@ use Rattle.std.specs.Prelude.{None, Some}
 use Rattle.std.proofs.Common.{List, arith, refl, sym, subst}
 use Rattle.turn_lock.specs.Seats.{registrar_view}
 use Rattle.lane_runner.proofs.Ran.{IsCleared, not_run, run}
-use Rattle.served_lines.specs.declared.answer.Answer.{Answer}
+use Rattle.lane_runner.specs.served_lines.specs.declared.answer.Answer.{Answer}
 use Rattle.lane_runner.specs.declared.batch.BatchEnd.{BatchEnd}
 use Rattle.live_intake.specs.Live.{HasRunLive}
-use Rattle.live_intake.proofs.Spared.{spare_start}
+use Rattle.live_reading.proofs.Spared.{spare_start}
 use Rattle.live_intake.proofs.OneBatch.{has_run}
 use Rattle.live_intake.proofs.live.run_live.Goals as goal
 

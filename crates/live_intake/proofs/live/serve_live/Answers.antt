@@ -1,16 +1,16 @@
 use Rattle.std.proofs.Common.{rules, ◌≡◌, ◌∙◌, ◌≤◌, List, ◌++◌, All, length, map, reverse, refl, take, drop, sym, ap, subst}
-use Rattle.claim_history.specs.declared.call.PoolEntry.{PoolEntry}
+use Rattle.lane_runner.specs.claim_history.specs.declared.call.PoolEntry.{PoolEntry}
 use Rattle.turn_lock.specs.declared.turn.Seat.{Seat}
 use Rattle.turn_lock.specs.Turns.{EachOf}
 use Rattle.turn_lock.specs.Seats.{registrar_view}
-use Rattle.bureau_desk.specs.declared.base.DeskBase.{DeskBase}
-use Rattle.bureau_desk.specs.Desks.{DeskView}
-use Rattle.shared_bureau.specs.Adding.{IsReady}
-use Rattle.shared_bureau.specs.Finishing.{HasFinished}
+use Rattle.lane_runner.specs.bureau_desk.specs.declared.base.DeskBase.{DeskBase}
+use Rattle.lane_runner.specs.bureau_desk.specs.Desks.{DeskView}
+use Rattle.lane_runner.specs.shared_bureau.specs.Adding.{IsReady}
+use Rattle.lane_runner.specs.shared_bureau.specs.Finishing.{HasFinished}
 use Rattle.lane_runner.proofs.AllLanes.{left_whole}
 use Rattle.live_intake.specs.declared.lane.LiveLane.{LiveLane}
 use Rattle.live_intake.specs.Batching.{AreReady, IsNewLane}
-use Rattle.live_intake.specs.Rings.{Ring}
+use Rattle.live_reading.specs.Rings.{Ring}
 use Rattle.live_intake.proofs.Served.{all_lanes_served, all_ready}
 use Rattle.live_intake.proofs.live.serve_live.Goals as goal
 

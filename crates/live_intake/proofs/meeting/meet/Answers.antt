@@ -3,7 +3,7 @@ use Rattle.std.proofs.Math.ListN.{length-set}
 use Rattle.std.proofs.lemmas.List.{get_or_default}
 use Rattle.live_intake.specs.declared.lane.LiveLane.{LiveLane}
 use Rattle.live_intake.specs.Meeting.{HasMet, HasMetLane}
-use Rattle.live_intake.specs.Rings.{Ring}
+use Rattle.live_reading.specs.Rings.{Ring}
 use Rattle.live_intake.proofs.Meets.{done_more, met_here, rest_less}
 use Rattle.live_intake.proofs.meeting.meet.Goals as goal
 

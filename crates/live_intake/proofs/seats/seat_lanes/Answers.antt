@@ -1,15 +1,15 @@
 use Rattle.std.proofs.Common.{◌≡◌, ◌∙◌, ◌+◌, ℕ, [], ◌∷◌, ◌++◌, length, refl, ap, sym, subst, arith, length-append}
-use Rattle.claim_history.specs.declared.call.PoolEntry.{PoolEntry}
+use Rattle.lane_runner.specs.claim_history.specs.declared.call.PoolEntry.{PoolEntry}
 use Rattle.turn_lock.specs.declared.view.View.{View}
 use Rattle.turn_lock.specs.Turns.{EachOf}
 use Rattle.turn_lock.specs.Seats.{number, registrar_view}
 use Rattle.turn_lock.proofs.Views.{each_pushed}
-use Rattle.bureau_desk.specs.declared.base.DeskBase.{DeskBase}
+use Rattle.lane_runner.specs.bureau_desk.specs.declared.base.DeskBase.{DeskBase}
 use Rattle.lane_runner.proofs.Places.{each_front, each_last}
 use Rattle.live_intake.specs.declared.lane.LiveLane.{LiveLane}
 use Rattle.live_intake.specs.declared.room.Place.{Place}
 use Rattle.live_intake.specs.Batching.{IsNewLane}
-use Rattle.live_intake.specs.Handing.{lines_since}
+use Rattle.live_reading.specs.Handing.{lines_since}
 use Rattle.live_intake.specs.Joining.{AreJoined}
 use Rattle.live_intake.specs.Rooms.{IsPlace}
 use Rattle.live_intake.proofs.Seating.{joined_more, joined_place}

@@ -1,6 +1,6 @@
 use denote.Param.Send.{param_send, sendable}
 use Rattle.std.proofs.Crossing.{crosses, sync}
-use Rattle.shared_bureau.proofs.Threads.{desk_is_shared}
+use Rattle.lane_runner.specs.shared_bureau.proofs.Threads.{desk_is_shared}
 use Rattle.live_intake.proofs.Threads.{lane_is_sent}
 use Rattle.live_intake.proofs.segment.run_both.Lts.{arg-0-1}
 use Rattle.live_intake.proofs.segment.run_both.Goals as goal

@@ -1,5 +1,5 @@
 use Rattle.std.proofs.Common.{rules, ◌≡◌, ◌∙◌, ◌≤◌, List, ◌++◌, All, arith, length, sym, ap, subst, vec_len}
-use Rattle.request_text.specs.declared.request.Request.{Request}
+use Rattle.lane_runner.specs.request_text.specs.declared.request.Request.{Request}
 use Rattle.live_intake.specs.Batching.{HasMergedMore, HaveEnds}
 use Rattle.live_intake.proofs.Served.{all_among, have_ends, ready_again, served_so}
 use Rattle.live_intake.proofs.segments.serve_next.Goals as goal

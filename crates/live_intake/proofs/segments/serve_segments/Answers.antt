@@ -1,7 +1,7 @@
 use Rattle.std.specs.Prelude.{None, Some}
 use Rattle.std.proofs.Common.{rules, ◌≡◌, arith}
 use Rattle.live_intake.specs.Batching.{HasServedMore}
-use Rattle.live_intake.proofs.InReading.{none_taken, taken_twice}
+use Rattle.live_reading.proofs.InReading.{none_taken, taken_twice}
 use Rattle.live_intake.proofs.Served.{batch_more, batch_none}
 use Rattle.live_intake.proofs.segments.serve_segments.Goals as goal
 

@@ -1,8 +1,8 @@
 use Rattle.std.proofs.Common.{◌≡◌, ◌+◌, ◌-◌, ◌*◌, ◌≤◌, None, false, length, vec_capacity}
-use Rattle.live_intake.specs.declared.reading.TheConstants.{MOST_ASKED}
+use Rattle.live_reading.specs.declared.reading.TheConstants.{MOST_ASKED}
 use Rattle.live_intake.specs.Batching.{AreReady, HasServedBatch}
-use Rattle.live_intake.specs.Reading.{HasTaken}
-use Rattle.live_intake.specs.Sparing.{HasSpare}
+use Rattle.live_reading.specs.Reading.{HasTaken}
+use Rattle.live_reading.specs.Sparing.{HasSpare}
 use Rattle.live_intake.proofs.segments.serve_segments.Given as goal
 
 abbrev pub invariant-loop-stop : goal.invariant-loop-stop

@@ -3,10 +3,10 @@ use Rattle.std.proofs.Common.{◌≡◌, ◌∙◌, true, false, [], sym, arith,
 use Rattle.bureau_edge.specs.Streams.{AppendsPart}
 use Rattle.batch_runs.specs.Serving.{text_between}
 use Rattle.batch_runs.proofs.Printed.{at_err, at_ok, run_among}
-use Rattle.live_intake.specs.Live.{is_fence}
+use Rattle.live_intake.specs.live_reading.specs.Fronts.{is_fence}
 use Rattle.live_runs.proofs.Going.{fence_only, serving_breaks, serving_ends, serving_more}
-use Rattle.printed_text.specs.declared.exit_status.ExitStatus.TheVariants as statuses
-use Rattle.printed_text.proofs.Statuses.{sink_told, told_behind, none_told, other_than}
+use Rattle.batch_runs.specs.printed_text.specs.declared.exit_status.ExitStatus.TheVariants as statuses
+use Rattle.batch_runs.specs.printed_text.proofs.Statuses.{sink_told, told_behind, none_told, other_than}
 use Rattle.live_runs.proofs.serving.serve_input.Goals as goal
 
 -- ---- the sink failed

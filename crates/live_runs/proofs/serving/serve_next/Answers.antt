@@ -3,11 +3,11 @@ use Rattle.std.specs.Io.KnownBytes.{Appends}
 use Rattle.std.proofs.Common.{◌≡◌, ◌∙◌, ◌+◌, ◌||◌, ℕ, Bool, List, length, ap, refl, subst, sym, arith, length-append}
 use Rattle.std.specs.Prelude.{drop, take}
 use Rattle.bureau_edge.specs.Streams.{AppendsPart}
-use Rattle.claim_history.specs.declared.call.PoolEntry.{PoolEntry}
-use Rattle.claim_history.specs.PoolRounds.{cuts_after}
-use Rattle.served_lines.specs.declared.answer.Answer.{Answer}
-use Rattle.served_lines.specs.Ends.{has_line_end, is_full_end, is_memory_end}
-use Rattle.printed_text.specs.Printing.{printed_of}
+use Rattle.batch_runs.specs.claim_history.specs.declared.call.PoolEntry.{PoolEntry}
+use Rattle.batch_runs.specs.claim_history.specs.PoolRounds.{cuts_after}
+use Rattle.batch_runs.specs.served_lines.specs.declared.answer.Answer.{Answer}
+use Rattle.batch_runs.specs.served_lines.specs.Ends.{has_line_end, is_full_end, is_memory_end}
+use Rattle.batch_runs.specs.printed_text.specs.Printing.{printed_of}
 use Rattle.batch_runs.specs.Serving.{answers_of, counted_answers}
 use Rattle.batch_runs.proofs.Batches.{unasked_adds}
 use Rattle.batch_runs.proofs.Told.{tells}

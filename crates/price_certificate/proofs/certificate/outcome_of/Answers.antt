@@ -3,7 +3,7 @@ use Rattle.std.proofs.Common.{ℕ, List, subst, sym, ◌∙◌}
 use Rattle.setoff_model.specs.CutView.{OutcomeView, obligations}
 use Rattle.setoff_model.specs.Setoff.{Proves}
 use Rattle.setoff_model.specs.Squeezing.{IsSqueezed}
-use Rattle.netting_graph.specs.Merging.{IsSpread}
+use Rattle.flow_solver.specs.netting_graph.specs.Merging.{IsSpread}
 use Rattle.price_certificate.proofs.Proved.{proved}
 use Rattle.price_certificate.proofs.certificate.outcome_of.Goals as goal
 

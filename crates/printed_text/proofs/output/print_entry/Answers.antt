@@ -1,5 +1,5 @@
 use Rattle.setoff_model.proofs.Lists.{on_err}
-use Rattle.claim_history.specs.Pools.{member_of}
+use Rattle.served_lines.specs.claim_history.specs.Pools.{member_of}
 use Rattle.entry_text.specs.Entries.{entry_line}
 use Rattle.printed_text.proofs.Passing.{part_more, pass_line}
 use Rattle.printed_text.proofs.output.print_entry.Goals as goal

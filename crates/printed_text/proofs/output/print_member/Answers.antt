@@ -1,5 +1,5 @@
 use Rattle.std.specs.Prelude.{slice_get}
-use Rattle.claim_history.specs.Pools.{member_of}
+use Rattle.served_lines.specs.claim_history.specs.Pools.{member_of}
 use Rattle.entry_text.specs.Entries.{entry_line}
 use Rattle.printed_text.specs.Printing.{statement_of}
 use Rattle.setoff_model.proofs.Lists.{on_err}

@@ -2,9 +2,9 @@ use Rattle.std.proofs.Common.{◌≡◌, ◌+◌, ◌++◌, ◌∙◌, ℕ, List
 use Rattle.std.proofs.lemmas.List.{drop_all}
 use Rattle.setoff_model.specs.CutView.{CutView}
 use Rattle.setoff_model.proofs.Lists.{on_err}
-use Rattle.claim_history.specs.declared.call.PoolEntry.{PoolEntry}
-use Rattle.claim_history.specs.declared.entry.Reply.TheVariants as reply
-use Rattle.claim_history.specs.Pools.{member_of}
+use Rattle.served_lines.specs.claim_history.specs.declared.call.PoolEntry.{PoolEntry}
+use Rattle.served_lines.specs.claim_history.specs.declared.entry.Reply.TheVariants as reply
+use Rattle.served_lines.specs.claim_history.specs.Pools.{member_of}
 use Rattle.bureau_edge.specs.Streams.{AppendsPart}
 use Rattle.printed_text.specs.Writing.{GoesThrough}
 use Rattle.printed_text.specs.Printing.{added_text, member_text, rounds_in}

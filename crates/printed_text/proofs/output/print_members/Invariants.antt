@@ -1,6 +1,6 @@
 use Rattle.std.proofs.Common.{◌≡◌, ◌≤◌, drop, length, take, vec_capacity}
 use Rattle.setoff_model.specs.declared.limits.TheConstants.{OUTPUT_BYTES}
-use Rattle.claim_history.specs.PoolRounds.{cuts_after}
+use Rattle.served_lines.specs.claim_history.specs.PoolRounds.{cuts_after}
 use Rattle.printed_text.specs.Printing.{added_text}
 use Rattle.printed_text.proofs.Passing.{GoesThroughUpTo}
 use Rattle.printed_text.proofs.output.print_members.Given as goal

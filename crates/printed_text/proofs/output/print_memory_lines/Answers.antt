@@ -1,6 +1,6 @@
 use Rattle.std.proofs.Common.{◌≡◌, ◌∙◌, ◌+◌, ◌++◌, List, ℕ, ap, subst, sym, drop, arith}
 use Rattle.std.proofs.lemmas.List.{drop_all}
-use Rattle.request_text.specs.declared.request.Request.{Request}
+use Rattle.served_lines.specs.request_text.specs.declared.request.Request.{Request}
 use Rattle.served_lines.specs.declared.line_end.LineEnd.TheVariants as ends
 use Rattle.printed_text.specs.Printing.{end_text, ends_text, unanswered}
 use Rattle.setoff_model.proofs.Lists.{on_err}

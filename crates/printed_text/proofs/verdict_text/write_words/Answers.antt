@@ -1,6 +1,6 @@
 use Rattle.std.proofs.Common.{List, ℕ, ◌++◌, ap, sym, ◌∙◌}
 use Rattle.std.specs.Prelude.{codes}
-use Rattle.setoff_checker.specs.declared.verdict.Verdict.{Verdict}
+use Rattle.served_lines.specs.setoff_checker.specs.declared.verdict.Verdict.{Verdict}
 use Rattle.printed_text.specs.Texts.{verdict_words}
 use Rattle.printed_text.proofs.verdict_text.write_words.Goals as goal
 

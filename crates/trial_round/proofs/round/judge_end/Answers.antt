@@ -1,9 +1,9 @@
 use Rattle.std.specs.Prelude.{Option, Some, MatchOption}
 use Rattle.std.proofs.Common.{◌≡◌, ◌∙◌, List, [], ap, sym, subst}
-use Rattle.claim_history.specs.declared.call.PoolEntry.{PoolEntry}
-use Rattle.claim_history.specs.PoolRounds.{cuts_after}
-use Rattle.served_lines.specs.declared.answer.Answer.{Answer}
-use Rattle.served_lines.specs.Served.{IsServed}
+use Rattle.lane_runner.specs.claim_history.specs.declared.call.PoolEntry.{PoolEntry}
+use Rattle.lane_runner.specs.claim_history.specs.PoolRounds.{cuts_after}
+use Rattle.lane_runner.specs.served_lines.specs.declared.answer.Answer.{Answer}
+use Rattle.lane_runner.specs.served_lines.specs.Served.{IsServed}
 use Rattle.trial_round.specs.Trial.{trial_batch}
 use Rattle.trial_round.proofs.round.judge_end.Goals as goal
 

@@ -1,10 +1,10 @@
 use Rattle.std.specs.Prelude.{Option, Some, None, MatchOption}
 use Rattle.std.proofs.Common.{◌≡◌, ◌∙◌, List, [], ◌++◌, length, ap, sym, subst}
-use Rattle.claim_history.specs.declared.call.PoolEntry.{PoolEntry}
-use Rattle.claim_history.specs.PoolRounds.{cuts_after}
-use Rattle.request_text.specs.declared.request.Request.{Request}
-use Rattle.served_lines.specs.declared.answer.Answer.{Answer}
-use Rattle.served_lines.specs.Served.{IsServed}
+use Rattle.lane_runner.specs.claim_history.specs.declared.call.PoolEntry.{PoolEntry}
+use Rattle.lane_runner.specs.claim_history.specs.PoolRounds.{cuts_after}
+use Rattle.lane_runner.specs.request_text.specs.declared.request.Request.{Request}
+use Rattle.lane_runner.specs.served_lines.specs.declared.answer.Answer.{Answer}
+use Rattle.lane_runner.specs.served_lines.specs.Served.{IsServed}
 use Rattle.trial_round.proofs.round.serve_alone.Goals as goal
 
 served_by : (batch : List Request) (answers : Option (List Answer)) (old new added : List PoolEntry) → old ≡ [] → new ≡ old ++ added → MatchOption answers (added ≡ []) (λ list. IsServed batch list old added) → MatchOption answers (Unit {0}) (λ list. IsServed batch list [] new)

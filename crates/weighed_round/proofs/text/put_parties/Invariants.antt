@@ -1,5 +1,5 @@
 use Rattle.std.proofs.Common.{◌≡◌, ◌++◌, drop}
-use Rattle.statement_text.specs.Statements.{party_lines}
+use Rattle.printed_text.specs.statement_text.specs.Statements.{party_lines}
 use Rattle.printed_text.specs.Printing.{lines_bytes}
 use Rattle.weighed_round.proofs.text.put_parties.Given as goal
 

@@ -2,7 +2,7 @@ use Rattle.std.proofs.lemmas.Result.{IfOk-weaker}
 use Rattle.std.proofs.Common.{◌∙◌, ℕ, List, subst, sym}
 use Rattle.setoff_model.specs.CutView.{obligations}
 use Rattle.setoff_model.specs.Weighted.{ProvesWeighted}
-use Rattle.claim_book.specs.Book.{ledger_of}
+use Rattle.printed_text.specs.claim_book.specs.Book.{ledger_of}
 use Rattle.weighed_round.proofs.Overdue.{cut_is, text_is, weights_fit, weights_is}
 use Rattle.weighed_round.proofs.weighing.weigh.Goals as goal
 

@@ -1,5 +1,5 @@
 use Rattle.std.proofs.Common.{◌≡◌, map, take}
-use Rattle.round_cut.specs.CutOfFacts.{claims_due}
+use Rattle.printed_text.specs.round_cut.specs.CutOfFacts.{claims_due}
 use Rattle.weighed_round.specs.Weighed.{weight_at}
 use Rattle.weighed_round.proofs.weights.weights_of.Given as goal
 

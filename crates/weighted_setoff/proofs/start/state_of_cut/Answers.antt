@@ -3,8 +3,8 @@ use Rattle.std.proofs.Common.{List, length, subst, sym}
 use Rattle.std.proofs.lemmas.Result.{IfOk-weaker}
 use Rattle.setoff_model.specs.declared.cut.Party.{Party}
 use Rattle.setoff_model.specs.declared.cut.CutClaim.{CutClaim}
-use Rattle.residual_state.specs.declared.state.State.{State}
-use Rattle.residual_state.specs.Edges.{IsClaimEdge}
+use Rattle.level_solver.specs.residual_state.specs.declared.state.State.{State}
+use Rattle.level_solver.specs.residual_state.specs.Edges.{IsClaimEdge}
 use Rattle.weighted_setoff.specs.Starts.{AreEdgesOf}
 use Rattle.weighted_setoff.proofs.Solved.{begins_by, claim_edges_are}
 use Rattle.weighted_setoff.proofs.start.state_of_cut.Goals as goal

@@ -1,5 +1,5 @@
 use Rattle.std.proofs.Common.{sym, ap, subst, arith}
-use Rattle.claim_history.specs.History.{MayFollow}
+use Rattle.round_cut.specs.claim_history.specs.History.{MayFollow}
 use Rattle.claim_book.specs.Book.{BookView}
 use Rattle.claim_book.proofs.Parts.{may_stand, are_accounts, book_grows}
 use Rattle.claim_book.proofs.Kept.{keeps_room}

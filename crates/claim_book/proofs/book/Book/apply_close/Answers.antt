@@ -1,10 +1,10 @@
 use Rattle.std.proofs.Common.{◌≡◌, sym, subst}
-use Rattle.claim_history.specs.History.{MayFollow}
+use Rattle.round_cut.specs.claim_history.specs.History.{MayFollow}
 use Rattle.std.proofs.Common.{ℕ, ◌+◌}
 use Rattle.setoff_model.specs.declared.kind.Kind.{Kind}
-use Rattle.claim_history.specs.declared.act.Act.TheVariants as act
-use Rattle.claim_history.specs.Cut.{cut_of}
-use Rattle.claim_history.specs.States.{state_of}
+use Rattle.round_cut.specs.claim_history.specs.declared.act.Act.TheVariants as act
+use Rattle.round_cut.specs.claim_history.specs.Cut.{cut_of}
+use Rattle.round_cut.specs.claim_history.specs.States.{state_of}
 use Rattle.claim_book.specs.Book.{BookView, ledger_of}
 use Rattle.claim_book.proofs.Parts.{is_close, close_grows}
 use Rattle.claim_book.proofs.book.Book.apply_close.Goals as goal

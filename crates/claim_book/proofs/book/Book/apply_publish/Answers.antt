@@ -1,8 +1,8 @@
 use Rattle.std.proofs.Common.{◌<◌, ◌≤◌, ◌++◌, ◌∷◌, [], length, sym, ◌∙◌, ap, subst, arith}
 use Rattle.setoff_model.specs.declared.limits.TheConstants.{SUM_LIMIT}
 use Rattle.setoff_model.specs.Setoff.{total_of}
-use Rattle.claim_history.specs.States.{state_of}
-use Rattle.claim_history.specs.History.{MayFollow}
+use Rattle.round_cut.specs.claim_history.specs.States.{state_of}
+use Rattle.round_cut.specs.claim_history.specs.History.{MayFollow}
 use Rattle.claim_book.specs.Book.{BookView}
 use Rattle.claim_book.proofs.Parts.{refused_grows, are_accounts, settles, round_there}
 use Rattle.claim_book.proofs.Kept.{one_needed, keeps_room, need_of_other}

@@ -1,8 +1,8 @@
 use Rattle.std.specs.Prelude.{position}
 use Rattle.std.proofs.Common.{Bool, List, ◌∙◌, ap, ap₂}
 use Rattle.setoff_model.specs.Same.{same_key}
-use Rattle.claim_history.specs.declared.fact.ClaimFact.{ClaimFact}
-use Rattle.claim_history.specs.States.{is_in_cut, state_of}
+use Rattle.round_cut.specs.claim_history.specs.declared.fact.ClaimFact.{ClaimFact}
+use Rattle.round_cut.specs.claim_history.specs.States.{is_in_cut, state_of}
 use Rattle.fact_tables.specs.Marks.{mark_at}
 use Rattle.claim_book.specs.Book.{BookView}
 use Rattle.claim_book.proofs.Marks.{claim_mark}

@@ -1,8 +1,8 @@
 use Rattle.std.specs.Prelude.{position}
 use Rattle.std.proofs.Common.{Bool, true, List, ◌&&◌, ◌≡◌, sym, ◌∙◌, ap, ap₂}
 use Rattle.setoff_model.specs.Same.{same_name}
-use Rattle.claim_history.specs.declared.fact.AccountFact.{AccountFact}
-use Rattle.claim_history.specs.States.{is_held, state_of}
+use Rattle.round_cut.specs.claim_history.specs.declared.fact.AccountFact.{AccountFact}
+use Rattle.round_cut.specs.claim_history.specs.States.{is_held, state_of}
 use Rattle.fact_tables.specs.Marks.{mark_at}
 use Rattle.claim_book.specs.Book.{BookView, is_funded_round, is_party}
 use Rattle.claim_book.proofs.Marks.{account_mark, held_by}

@@ -1,8 +1,8 @@
 use Rattle.std.specs.Prelude.{OnOk, OnErr}
 use Rattle.std.proofs.Common.{◌≤◌, ◌<◌, ◌∙◌, ℕ, List, sym, subst₂, arith}
 use Rattle.std.proofs.lemmas.List.Quantifiers.{position-Some}
-use Rattle.claim_history.specs.declared.entry.Entry.{Entry}
-use Rattle.claim_history.specs.States.{state_of}
+use Rattle.round_cut.specs.claim_history.specs.declared.entry.Entry.{Entry}
+use Rattle.round_cut.specs.claim_history.specs.States.{state_of}
 use Rattle.claim_book.specs.Book.{room_for}
 use Rattle.claim_book.specs.Pools.{is_book, no_book}
 use Rattle.claim_book.proofs.Applied.{history_is, kept_at, room_is, roomy_are, roomy_members, roomy_room, roomy_rooms, rooms_place}

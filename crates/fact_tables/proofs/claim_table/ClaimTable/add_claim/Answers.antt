@@ -22,11 +22,8 @@ invariant_of-self c =
     let claim = new_claim c.args.key.now c.args.debtor.now c.args.amount c.args.due.now in
     let facts = c.self.inside.facts.items in
     let stand = subst (λ (t : ClaimsView). MayStand (t.facts ++ claim ∷ [])) (sym c.self.view_is) c.requires.stand in
-    let room = subst (λ (t : ClaimsView). 0 < t.room) (sym c.self.view_is) c.requires.room in
-    let pushed = c.push-2.ensures.items ∙ ap (λ (b : Bool). if b then facts ++ claim ∷ [] else facts) (c.push-2.ensures.succeeds (omega (arith, room))) in
     let marks = c.self.inside.marks.items in
-    let marked = c.push.ensures.items ∙ ap (λ (b : Bool). if b then marks ++ false ∷ [] else marks) (c.push.ensures.succeeds (omega (arith, room))) in
-    rw (pushed, marked, c.add.ensures.keys)
+    rw (c.push_reserved-2.ensures.items, c.push_reserved.ensures.items, c.add.ensures.keys)
     (record {
       keys_are = longer (λ (r : ClaimFact). r.key) c.self.inside.keys.keys facts c.self.invariant.keys_are claim;
       one_each = one_longer marks facts false claim c.self.invariant.one_each;

@@ -23,11 +23,9 @@ pub returns-then-is_none-clause-sums : goal.returns-then-is_none-clause-sums
 returns-then-is_none-clause-sums c =
     let firms = c.self.inside.firms.names in
     let sums = c.self.inside.sums.items in
-    let room = subst (λ (v : SumsView). 0 < v.room) (sym c.self.view_is) c.requires in
-    let pushed = c.push.ensures.items ∙ ap (λ (b : Bool). if b then sums ++ 0 ∷ [] else sums) (c.push.ensures.succeeds (omega (arith, room))) in
     let none = none_yet (same_name c.args.firm.now) firms c.place.result c.place.ensures (c.is_none.ensures ∙ ap not c.if-is_none.true) in
     λ other.
-    ap₂ (λ (fs : List (List ℕ)) (ss : List ℕ). at_place ss (position (same_name other) fs)) c.add.ensures.names pushed
+    ap₂ (λ (fs : List (List ℕ)) (ss : List ℕ). at_place ss (position (same_name other) fs)) c.add.ensures.names c.push_reserved.ensures.items
     ∙ sum_begun firms sums c.args.firm.now other c.self.invariant none
     ∙ ap (λ (v : SumsView). sum_of v other) c.self.view_is
 

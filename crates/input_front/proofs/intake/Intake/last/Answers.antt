@@ -3,7 +3,7 @@ use Rattle.std.specs.Prelude.{Some}
 use Rattle.std.specs.Str.Lines.{lines}
 use Rattle.input_front.specs.Front.{Says}
 use Rattle.input_front.specs.Taken.{HasLast, HasNoFeed, IntakeView}
-use Rattle.text_lines.proofs.Cutting.{some_bytes}
+use Rattle.request_text.specs.text_lines.proofs.Cutting.{some_bytes}
 use Rattle.input_front.proofs.Parts.{rest_alone}
 use Rattle.input_front.proofs.Reading.{last_says}
 use Rattle.input_front.proofs.intake.Intake.last.Goals as goal

@@ -1,9 +1,9 @@
 use Rattle.std.proofs.Common.{◌+◌, ◌++◌, ◌∷◌, [], ◌∙◌, sym, ap}
 use Rattle.std.specs.Prelude.{Option, ◌-◌}
-use Rattle.claim_history.specs.States.{OpenRound}
-use Rattle.claim_history.specs.Needs.{endings_entries}
-use Rattle.claim_history.specs.Pools.{member_of, open_round_in}
-use Rattle.claim_history.specs.PoolNeeds.{pool_endings_bytes, reserved_bytes_of, reserved_entries_of}
+use Rattle.claim_book.specs.claim_history.specs.States.{OpenRound}
+use Rattle.claim_book.specs.claim_history.specs.Needs.{endings_entries}
+use Rattle.claim_book.specs.claim_history.specs.Pools.{member_of, open_round_in}
+use Rattle.claim_book.specs.claim_history.specs.PoolNeeds.{pool_endings_bytes, reserved_bytes_of, reserved_entries_of}
 use Rattle.claim_book.specs.Pools.{BooksView}
 use Rattle.limited_book.proofs.Needs.{open_then}
 use Rattle.limited_book.proofs.Limits.{limited_grows}

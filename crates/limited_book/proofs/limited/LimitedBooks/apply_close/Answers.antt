@@ -1,8 +1,8 @@
 use Rattle.std.proofs.Common.{◌++◌, ◌∷◌, [], List, ◌∙◌, ap, arith}
-use Rattle.claim_history.specs.declared.call.PoolEntry.{PoolEntry}
-use Rattle.claim_history.specs.Needs.{endings_entries}
-use Rattle.claim_history.specs.Pools.{member_of, open_round_in}
-use Rattle.claim_history.specs.PoolNeeds.{pool_endings_bytes}
+use Rattle.claim_book.specs.claim_history.specs.declared.call.PoolEntry.{PoolEntry}
+use Rattle.claim_book.specs.claim_history.specs.Needs.{endings_entries}
+use Rattle.claim_book.specs.claim_history.specs.Pools.{member_of, open_round_in}
+use Rattle.claim_book.specs.claim_history.specs.PoolNeeds.{pool_endings_bytes}
 use Rattle.claim_book.specs.Pools.{BooksView}
 use Rattle.limited_book.proofs.Limits.{limited_grows}
 use Rattle.limited_book.proofs.limited.LimitedBooks.apply_close.Goals as goal

@@ -1,9 +1,9 @@
 use Rattle.std.proofs.Common.{◌≡◌, ℕ, ◌+◌, ◌∙◌, sym, ap, subst, arith}
 use Rattle.setoff_model.specs.CutView.{WellFormed}
-use Rattle.claim_history.specs.declared.record_bytes.TheConstants.{RECORD_HEAD, CLOSE_BODY}
-use Rattle.claim_history.specs.Needs.{endings_entries}
-use Rattle.claim_history.specs.Pools.{entries_in, open_round_in, state_in}
-use Rattle.claim_history.specs.PoolNeeds.{needed_bytes_of, needed_entries_of, pool_bytes, pool_endings_bytes}
+use Rattle.claim_book.specs.claim_history.specs.declared.record_bytes.TheConstants.{RECORD_HEAD, CLOSE_BODY}
+use Rattle.claim_book.specs.claim_history.specs.Needs.{endings_entries}
+use Rattle.claim_book.specs.claim_history.specs.Pools.{entries_in, open_round_in, state_in}
+use Rattle.claim_book.specs.claim_history.specs.PoolNeeds.{needed_bytes_of, needed_entries_of, pool_bytes, pool_endings_bytes}
 use Rattle.claim_book.specs.Pools.{BooksView}
 use Rattle.limited_book.proofs.Needs.{cut_is, fits_so, full_so, opening, opening_bytes, opening_entries}
 use Rattle.limited_book.proofs.limited.LimitedBooks.fits_opening.Goals as goal

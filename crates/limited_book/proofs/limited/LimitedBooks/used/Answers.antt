@@ -1,8 +1,8 @@
 use Rattle.std.proofs.Common.{◌≤◌, subst, arith}
 use Rattle.claim_book.specs.Pools.{BooksView}
-use Rattle.claim_history.specs.PoolNeeds.{HasRoom}
-use Rattle.claim_history.specs.Pools.{state_in}
-use Rattle.claim_history.proofs.PoolRoom.{room_law}
+use Rattle.claim_book.specs.claim_history.specs.PoolNeeds.{HasRoom}
+use Rattle.claim_book.specs.claim_history.specs.Pools.{state_in}
+use Rattle.claim_book.specs.claim_history.proofs.PoolRoom.{room_law}
 use Rattle.limited_book.proofs.Limits.{few_openings}
 use Rattle.limited_book.proofs.limited.LimitedBooks.used.Goals as goal
 

@@ -1,0 +1,229 @@
+//! A state whose net is in parts.
+ghost use Rattle.std.specs.Prelude.{◌<◌, ◌≤◌, ◌↔◌, All, IsTrue, OnOk, length};
+ghost use Rattle.setoff_model.specs.declared.limits.TheConstants.{MOST_CLAIMS, MOST_FIRMS, MOST_WINDOW};
+ghost use Rattle.flow_solver.specs.residual_state.specs.Edges.{IsClaimEdge};
+ghost use Rattle.flow_solver.specs.residual_state.specs.States.{IsState, StaysOn};
+
+use crate::settling::settle_whole;
+use flow_solver::residual_state::{State, adopt, state_at_start, surplus_of};
+use net_presolve::{Inner, Parts, Series, Unused, Window, risen};
+use setoff_model::limits::{MOST_AMOUNT, MOST_CLAIMS, MOST_FIRMS, MOST_WEIGHT, MOST_WINDOW};
+use setoff_model::{Name, Party};
+use simplex_engine::level_engine::Halves;
+use simplex_engine::residual_network::Edge;
+use simplex_engine::{Solution, Start, seek_alone, seek_from};
+use std::alloc::{AllocError, Global};
+
+// Where there are more halves of arcs at a node, the net is hardly in parts.
+const DENSE: usize = 128;
+
+// Takes a whole solution that the shape of the net leads to, where it is not dense, any excess is left, and there are turns.
+pub(crate) fn take_parts(
+    alloc: Global,
+    state: &mut State,
+    halves: &Halves,
+    windows: &[u64],
+    turns: u32,
+) -> Result<(), AllocError>
+    requires { IsState state.old }
+    ensures { OnOk result (StaysOn state.old state.new) }
+{
+    if turns == 0 || halves.len() / DENSE > windows.len() || surplus_of(&state.excess) == 0 {
+        return Ok(());
+    }
+    if let Some(Solution { flows, prices }) = found_in_parts(
+        alloc, state, halves, windows, turns,
+    )? {
+        let _ = adopt(alloc, state, flows, prices)?;
+    }
+    Ok(())
+}
+
+// A whole solution that is put together of those of the parts, where a tenth of the claims is between parts, or else of series, or one from
+// risen prices.
+fn found_in_parts(
+    alloc: Global,
+    state: &State,
+    halves: &Halves,
+    windows: &[u64],
+    turns: u32,
+) -> Result<Option<Solution>, AllocError> {
+    let net = Unused {
+        edges: &state.edges,
+        halves,
+        windows,
+    };
+    let parts = Parts::of(alloc, &net)?;
+    if parts.are_apart(&net) {
+        return found_apart(alloc, &net, &parts, turns);
+    }
+    let in_series = found_in_series(alloc, &net, &parts)?;
+    if in_series.is_some() {
+        return Ok(in_series);
+    }
+    found_risen(alloc, state, &net, &parts)
+}
+
+// A whole solution by that of the series, where there are many.
+fn found_in_series(
+    alloc: Global,
+    net: &Unused,
+    parts: &Parts,
+) -> Result<Option<Solution>, AllocError> {
+    if !net.is_sparse() {
+        return Ok(None);
+    }
+    let inner = Inner::of(alloc, net, parts)?;
+    match solved_by_series(alloc, &inner)? {
+        Some(found) => put_together(alloc, net, parts, &inner, &found),
+        None => Ok(None),
+    }
+}
+
+// A whole solution that a simplex finds from risen prices, where few claims lead back.
+fn found_risen(
+    alloc: Global,
+    state: &State,
+    net: &Unused,
+    parts: &Parts,
+) -> Result<Option<Solution>, AllocError> {
+    let Some(prices) = risen(alloc, net, parts)? else {
+        return Ok(None);
+    };
+    let start = Start {
+        edges: &state.edges,
+        flows: &state.flows,
+        prices: &state.prices,
+        excess: &state.excess,
+        windows: net.windows,
+    };
+    seek_from(alloc, &start, net.halves, &prices)
+}
+
+// A whole solution that is put together of those of the parts.
+fn found_apart(
+    alloc: Global,
+    net: &Unused,
+    parts: &Parts,
+    turns: u32,
+) -> Result<Option<Solution>, AllocError> {
+    let inner = Inner::of(alloc, net, parts)?;
+    match solved_inside(alloc, &inner, turns)? {
+        Some(found) => put_together(alloc, net, parts, &inner, &found),
+        None => Ok(None),
+    }
+}
+
+// The whole solution of which this is the one inside the parts.
+fn put_together(
+    alloc: Global,
+    net: &Unused,
+    parts: &Parts,
+    inner: &Inner,
+    found: &Solution,
+) -> Result<Option<Solution>, AllocError> {
+    let flows = inner.flows(alloc, net, parts, &found.flows)?;
+    let prices = inner.prices(alloc, net, parts, &found.prices)?;
+    Ok(Some(Solution { flows, prices }))
+}
+
+// The solution inside the parts.
+fn solved_inside(alloc: Global, inner: &Inner, turns: u32) -> Result<Option<Solution>, AllocError> {
+    let by_series = solved_by_series(alloc, inner)?;
+    if by_series.is_some() {
+        return Ok(by_series);
+    }
+    let parties = parties_of(alloc, &inner.windows)?;
+    let claims = Vec::from_slice(alloc, &inner.claims)?;
+    solved(alloc, &parties, claims, turns)
+}
+
+// The solution by that of the net of series, where there are many.
+fn solved_by_series(alloc: Global, inner: &Inner) -> Result<Option<Solution>, AllocError> {
+    match Series::of(alloc, inner)? {
+        Some(series) => solved_over(alloc, inner, &series),
+        None => Ok(None),
+    }
+}
+
+fn solved_over(
+    alloc: Global,
+    inner: &Inner,
+    series: &Series,
+) -> Result<Option<Solution>, AllocError> {
+    let spends = series.spends(alloc)?;
+    if series.claims.is_empty() {
+        let (flows, prices) = series.spread(alloc, inner, &spends, &[])?;
+        return Ok(Some(Solution { flows, prices }));
+    }
+    let edges = series.edges(alloc)?;
+    match seek_alone(alloc, &edges, &spends)? {
+        Some(found) => {
+            let (flows, prices) = series.spread(alloc, inner, &found.flows, &found.prices)?;
+            Ok(Some(Solution { flows, prices }))
+        }
+        None => Ok(None),
+    }
+}
+
+// The solution for claims among parties, where they are such.
+fn solved(
+    alloc: Global,
+    parties: &[Party],
+    claims: Vec<Edge>,
+    turns: u32,
+) -> Result<Option<Solution>, AllocError> {
+    if MOST_FIRMS < parties.len() || MOST_CLAIMS < claims.len() {
+        return Ok(None);
+    }
+    if !are_among(parties, &claims) || !are_within(parties) {
+        return Ok(None);
+    }
+    let mut state = state_at_start(alloc, parties, claims)?;
+    settle_whole(alloc, &mut state, turns)?;
+    Ok(Some(Solution {
+        flows: state.flows,
+        prices: state.prices,
+    }))
+}
+
+// Parties with these windows, whose names are all the same.
+fn parties_of(alloc: Global, windows: &[Window]) -> Result<Vec<Party>, AllocError> {
+    let mut parties = Vec::with_capacity(alloc, windows.len())?;
+    if let Some(firm) = Name::of(b"F") {
+        for window in windows {
+            parties.push(Party {
+                firm,
+                spend: window.spend,
+                room: window.room,
+            })?;
+        }
+    }
+    Ok(parties)
+}
+
+// Whether the arcs are those of claims among the parties.
+fn are_among(parties: &[Party], claims: &[Edge]) -> bool
+    ensures { IsTrue result ↔ All (IsClaimEdge (length parties.now)) claims.now }
+{
+    let many = parties.len();
+    claims.iter().all(|claim| is_between(many, claim))
+}
+
+fn is_between(parties: usize, claim: &Edge) -> bool
+    ensures { IsTrue result ↔ IsClaimEdge parties claim.now }
+{
+    if parties <= claim.tail || parties <= claim.head || claim.tail == claim.head {
+        return false;
+    }
+    claim.capacity <= MOST_CLAIMS as u64 * MOST_AMOUNT && claim.reward <= MOST_WEIGHT
+}
+
+// Whether no balance can fall or rise by more than in a round.
+fn are_within(parties: &[Party]) -> bool
+    ensures spends { IsTrue result → All (λ f. f.spend ≤ MOST_WINDOW) parties.now }
+    ensures rooms { IsTrue result → All (λ f. f.room ≤ MOST_WINDOW) parties.now }
+{
+    parties.iter().all(|party| party.spend <= MOST_WINDOW)
+        && parties.iter().all(|party| party.room <= MOST_WINDOW)
+}

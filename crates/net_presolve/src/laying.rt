@@ -1,0 +1,51 @@
+//! Parts laid behind one another.
+use crate::parts::Parts;
+use crate::unused::{Unused, edge_at};
+use level_engine::Half;
+use level_engine::loose_places::{at, put};
+use std::alloc::{AllocError, Global};
+
+// The price of each party, by those that the nodes have inside their parts. Each part is raised so far that no half that leads into it
+// from another gains.
+pub(crate) fn laid(
+    alloc: Global,
+    net: &Unused,
+    parts: &Parts,
+    own: &[i64],
+) -> Result<Vec<i64>, AllocError> {
+    let mut bases = vec![in alloc; 0i64; parts.count()]?;
+    for &node in parts.order.iter().rev() {
+        raise_before(net, parts, own, &mut bases, node as usize);
+    }
+    let ground = price_at(parts, own, &bases, net.ground());
+    let mut prices = Vec::with_capacity(alloc, net.ground())?;
+    for party in 0..net.ground() {
+        let price = price_at(parts, own, &bases, party);
+        prices.push(price.wrapping_sub(ground))?;
+    }
+    Ok(prices)
+}
+
+// Raises the parts that the halves of a node lead to. Its own part has its place.
+fn raise_before(net: &Unused, parts: &Parts, own: &[i64], bases: &mut [i64], node: usize) {
+    let price = price_at(parts, own, bases, node);
+    for half in net.halves.around(node) {
+        let far = half.far() as usize;
+        let part = parts.part(far);
+        if part != parts.part(node) && net.passes(*half) {
+            let least = price.wrapping_add(gain_of(net, *half));
+            let base = least.wrapping_sub(at(own, far, 0));
+            put(bases, part as usize, base.max(at(bases, part as usize, 0)));
+        }
+    }
+}
+
+// The price of a node, where its part stands.
+fn price_at(parts: &Parts, own: &[i64], bases: &[i64], node: usize) -> i64 {
+    at(own, node, 0).wrapping_add(at(bases, parts.part(node) as usize, 0))
+}
+
+// What a cent moved over a half counts. Over those of claims flow is only moved along.
+fn gain_of(net: &Unused, half: Half) -> i64 {
+    i64::from(edge_at(net.edges, (half.code / 2) as usize).reward)
+}

@@ -1,0 +1,57 @@
+//! A net where nothing is set off.
+use level_engine::loose_places::at;
+use level_engine::residual_network::Edge;
+use level_engine::{Half, Halves};
+
+const NO_EDGE: Edge = Edge {
+    tail: 0,
+    head: 0,
+    capacity: 0,
+    reward: 0,
+};
+
+/// A net where nothing is set off, and no balance changes.
+#[derive(Clone, Copy)]
+pub struct Unused<'a> {
+    /// The arcs: those of claims, and then one from each party to the ground.
+    pub edges: &'a [Edge],
+    /// The halves of the arcs.
+    pub halves: &'a Halves,
+    /// The flows of the windows' arcs at which no balance changes.
+    pub windows: &'a [u64],
+}
+
+impl Unused<'_> {
+    /// Whether a party has at most two claims on average, as where series may be.
+    pub fn is_sparse(&self) -> bool {
+        self.claims() / 2 <= self.ground()
+    }
+
+    // How many arcs of claims there are.
+    pub(crate) fn claims(&self) -> usize {
+        self.edges.len().saturating_sub(self.windows.len())
+    }
+
+    // The node after the parties.
+    pub(crate) fn ground(&self) -> usize {
+        self.windows.len()
+    }
+
+    // Whether flow can be moved over a half.
+    #[inline(always)]
+    pub(crate) fn passes(&self, half: Half) -> bool {
+        let window = ((half.code / 2) as usize).wrapping_sub(self.claims());
+        let flow = at(self.windows, window, 0);
+        if half.code % 2 == 0 {
+            flow < half.capacity
+        } else {
+            0 < flow
+        }
+    }
+}
+
+// The arc at a place.
+#[inline(always)]
+pub(crate) fn edge_at(edges: &[Edge], place: usize) -> Edge {
+    at(edges, place, NO_EDGE)
+}

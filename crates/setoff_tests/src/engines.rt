@@ -1,0 +1,137 @@
+//! What is found at once of whole nets.
+use crate::hard_nets::{Net, chain, comb, drawn_claims, firms, kind_of, ladder};
+use crate::solvers::{Owed, Window, cut_of, total_of};
+use flow_solver::state_of_net;
+use level_engine::Halves;
+use residual_state::{State, adopt};
+use setoff_model::Kind;
+use std::alloc::Global;
+use std::process::Abort;
+use weighted_setoff::net_presolve::{Inner, Parts, Unused};
+use weighted_setoff::simplex_engine::{Solution, Start, seek_solution};
+
+// The flows of the windows' arcs at the beginning of a search, and the halves of all arcs.
+#[derive(Drop)]
+struct Beginning {
+    windows: Vec<u64>,
+    halves: Halves,
+}
+
+fn state_of(
+    rt: &impl Abort,
+    alloc: Global,
+    kind: Kind,
+    windows: &[Window],
+    owed: &[Owed],
+) -> State {
+    let cut = cut_of(rt, alloc, kind, windows, owed);
+    assert!(rt; cut.well_formed());
+    let net = netting_graph::Net::of(alloc, &cut).expect(rt, "memory");
+    state_of_net(alloc, &net).expect(rt, "memory")
+}
+
+fn beginning_of(rt: &impl Abort, alloc: Global, state: &State) -> Beginning {
+    let claims = state.flows.len().saturating_sub(state.prices.len());
+    let mut windows = Vec::new(alloc);
+    for (place, &flow) in state.flows.iter().enumerate() {
+        if claims <= place {
+            windows.push(flow).expect(rt, "memory");
+        }
+    }
+    let halves = Halves::of(alloc, &state.edges, state.excess.len()).expect(rt, "memory");
+    Beginning { windows, halves }
+}
+
+// What the simplex finds where nothing was done before.
+fn found_from(rt: &impl Abort, alloc: Global, state: &State) -> Solution {
+    let begun = beginning_of(rt, alloc, state);
+    let start = Start {
+        edges: &state.edges,
+        flows: &state.flows,
+        prices: &state.prices,
+        excess: &state.excess,
+        windows: &begun.windows,
+    };
+    let found = seek_solution(alloc, &start, &begun.halves, 8).expect(rt, "memory");
+    found.expect(rt, "a solution")
+}
+
+// Whether it is taken.
+fn is_taken(rt: &impl Abort, alloc: Global, net: &netting_graph::Net) -> bool {
+    let mut state = state_of_net(alloc, net).expect(rt, "memory");
+    let Solution { flows, prices } = found_from(rt, alloc, &state);
+    adopt(alloc, &mut state, flows, prices).expect(rt, "memory")
+}
+
+fn is_answered(rt: &impl Abort, alloc: Global, net: &Net) -> bool {
+    let cut = cut_of(rt, alloc, kind_of(net), &net.windows, &net.owed);
+    assert!(rt; cut.well_formed());
+    let merged = netting_graph::Net::of(alloc, &cut).expect(rt, "memory");
+    is_taken(rt, alloc, &merged)
+}
+
+#[test]
+fn the_simplex_is_taken(rt: HostRuntime) {
+    let alloc = rt.alloc();
+    let mut laddered = firms(&rt, alloc, 61, None);
+    ladder(&rt, &mut laddered, 60, false);
+    assert!(rt; is_answered(&rt, alloc, &laddered));
+    let mut combed = firms(&rt, alloc, 121, None);
+    comb(&rt, &mut combed);
+    assert!(rt; is_answered(&rt, alloc, &combed));
+    let mut tight = firms(&rt, alloc, 140, Some(1));
+    chain(&rt, &mut tight, 0, 80, 1_000_000);
+    drawn_claims(&rt, &mut tight, 80, 400, 1);
+    assert!(rt; is_answered(&rt, alloc, &tight));
+}
+
+// Two rings, and a claim from one to the other, of which nothing can be set off.
+const RINGS: [Owed; 7] = [
+    (0, 1, 500),
+    (1, 2, 400),
+    (2, 0, 300),
+    (0, 3, 1_000),
+    (3, 4, 70),
+    (4, 5, 80),
+    (5, 3, 90),
+];
+
+#[test]
+fn parts_are_solved_apart(rt: HostRuntime) {
+    let alloc = rt.alloc();
+    assert!(rt; total_of(&rt, alloc, Kind::Plain, &[(0, 0); 6], &RINGS) == 1_110);
+    let mut windows = [(0, 0); 6];
+    windows[0] = (600, 0);
+    windows[4] = (0, 200);
+    let _total = total_of(&rt, alloc, Kind::Funded, &windows, &RINGS);
+    windows[0] = (0, 600);
+    windows[4] = (200, 0);
+    let total = total_of(&rt, alloc, Kind::Funded, &windows, &RINGS);
+    assert!(rt; total == 1_110);
+    let state = state_of(&rt, alloc, Kind::Plain, &[(0, 0); 6], &RINGS);
+    let begun = beginning_of(&rt, alloc, &state);
+    let net = Unused {
+        edges: &state.edges,
+        halves: &begun.halves,
+        windows: &begun.windows,
+    };
+    let parts = Parts::of(alloc, &net).expect(&rt, "memory");
+    assert!(rt; parts.are_apart(&net));
+    let inner = Inner::of(alloc, &net, &parts).expect(&rt, "memory");
+    assert!(rt; inner.claims.len() == 6 && inner.windows.len() == 6);
+}
+
+// A ring of two firms that owe each other, one of them by way of 50 more.
+#[test]
+fn a_series_of_firms(rt: HostRuntime) {
+    let alloc = rt.alloc();
+    let mut owed = Vec::new(alloc);
+    for firm in 0..51u32 {
+        let claim = (firm, firm + 1, 1_000 + u64::from(firm * 7 % 51));
+        owed.push(claim).expect(&rt, "memory");
+    }
+    owed.push((51, 0, 1_020)).expect(&rt, "memory");
+    owed.push((0, 51, 15)).expect(&rt, "memory");
+    let total = total_of(&rt, alloc, Kind::Plain, &[(0, 0); 52], &owed);
+    assert!(rt; total == 51 * 1_000 + 1_015 + 15);
+}

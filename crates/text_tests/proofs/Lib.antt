@@ -1,0 +1,4 @@
+mod Worked
+mod WorkedRounds
+mod WorkedNeeds
+mod WorkedPools
