@@ -21,7 +21,7 @@ mod reading;
 mod tag;
 mod writing;
 
-pub use claim_history;
+pub use claim_history::{Act, Call, record_bytes};
 pub use kept::can_be_kept;
 pub use laws::{bodies_have_their_lengths, each_body_is_of_one_call};
 pub use length::{body_length, publication_length};

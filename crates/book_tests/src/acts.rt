@@ -3,10 +3,10 @@ ghost use Rattle.std.specs.Prelude.{◌≡◌, ◌<◌, ◌≤◌, true, false};
 ghost use Rattle.setoff_model.specs.declared.limits.TheConstants.{MOST_ROUNDS};
 ghost use Rattle.claim_history.specs.Acts.{is_valid, is_publication};
 ghost use Rattle.claim_history.specs.States.{state_of};
-ghost use Rattle.limited_book.specs.claim_book.specs.Book.{room_for};
+ghost use Rattle.claim_book.specs.Book.{room_for};
 
+use claim_book::Book;
 use claim_history::{Act, Day, Entry, Reply};
-use limited_book::claim_book::Book;
 use setoff_model::{Key, Name};
 use std::process::Abort;
 

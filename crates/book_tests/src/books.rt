@@ -2,8 +2,8 @@
 use crate::acts::{
     confirm, dispute, draw, due_day, file, fund, is_answered, key, limit, name, receive, replies,
 };
+use claim_book::Book;
 use claim_history::{AccountFact, Act, Day, Position, Reply, Status, Why};
-use limited_book::claim_book::Book;
 use setoff_model::{Key, Name};
 use std::alloc::Global;
 use std::process::Abort;

@@ -2,8 +2,8 @@
 ghost use Rattle.std.specs.Prelude.{◌≡◌, ◌≤◌, true};
 ghost use Rattle.claim_history.specs.Acts.{is_valid};
 ghost use Rattle.claim_history.specs.Pools.{state_in};
-ghost use Rattle.limited_book.specs.claim_book.specs.Book.{room_for};
-ghost use Rattle.limited_book.specs.claim_book.specs.Pools.{room_in};
+ghost use Rattle.claim_book.specs.Book.{room_for};
+ghost use Rattle.claim_book.specs.Pools.{room_in};
 
 use crate::acts::name;
 use crate::rounds::{circle_acts, make_circle};

@@ -2,9 +2,9 @@
 use crate::acts::{agree, confirm, dispute, due_day, file, key, name, receive};
 use crate::books::{Stage, are_registered, goes_through, make_parts};
 use crate::limits::{is_done, opens, publication, publishes};
+use claim_book::Book;
 use claim_history::{Act, Call, Position, Reply, Status, Why, main_pool_name};
 use limited_book::LimitedBooks;
-use limited_book::claim_book::Book;
 use setoff_model::{Key, Kind, Name};
 use std::alloc::Global;
 use std::process::Abort;

@@ -3,13 +3,13 @@ ghost use Rattle.std.specs.Prelude.{◌≡◌, ◌<◌, ◌≤◌, true, false};
 ghost use Rattle.setoff_model.specs.declared.limits.TheConstants.{MOST_ROUNDS};
 ghost use Rattle.claim_history.specs.Acts.{is_valid, is_publication};
 ghost use Rattle.claim_history.specs.Pools.{state_in};
-ghost use Rattle.limited_book.specs.claim_book.specs.Book.{room_for};
-ghost use Rattle.limited_book.specs.claim_book.specs.Pools.{room_in};
+ghost use Rattle.claim_book.specs.Book.{room_for};
+ghost use Rattle.claim_book.specs.Pools.{room_in};
 
 use crate::acts::name;
 use crate::books::numbered;
+use claim_book::Books;
 use claim_history::{Act, Entry, Position, Reply, Why, main_pool_name};
-use limited_book::claim_book::Books;
 use setoff_model::Name;
 use std::process::Abort;
 

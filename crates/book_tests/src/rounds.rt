@@ -3,8 +3,8 @@ use crate::acts::{
     confirm, dispute, due_day, file, fund, is_answered, key, make_room, name, receive, replies,
 };
 use crate::books::stands_at;
+use claim_book::Book;
 use claim_history::{Act, Day, Entry, Reply, Status, Why};
-use limited_book::claim_book::Book;
 use setoff_model::{Key, Kind, Name};
 use std::alloc::Global;
 use std::process::Abort;

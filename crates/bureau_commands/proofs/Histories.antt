@@ -5,17 +5,17 @@ use Rattle.std.proofs.lemmas.List.{append-nil, reverse-append}
 use Rattle.std.proofs.lemmas.List.Elements.{All-append, All-drop, All-filter, All-head, All-map, All-push, All-tail, All-weaker, filter_passes}
 use Rattle.std.proofs.Math.Seq.{drop-append_seam}
 use Rattle.disk_model.specs.Calls.{Seen}
-use Rattle.claim_history.specs.declared.call.Call.{Call}
-use Rattle.claim_history.specs.declared.call.PoolEntry.{PoolEntry}
-use Rattle.claim_history.specs.declared.entry.Reply.{Reply}
-use Rattle.claim_history.specs.declared.entry.Reply.TheVariants as reply
-use Rattle.claim_history.specs.States.{OpenRound}
-use Rattle.claim_history.specs.History.{is_accepted, is_no_refusal}
-use Rattle.claim_history.specs.Pools.{IsLegal, accepted_calls, accepted_members, answered, call_of, due_member, due_of_past, due_reply, open_round_in, replay_after, replay_of}
-use Rattle.claim_history.specs.PoolRounds.{ending_of, ending_reply, is_left_open, left_open, opened}
-use Rattle.claim_history.proofs.Kept.{kept_append, kept_step, replay_append, replayed_past, same_due}
-use Rattle.claim_history.proofs.PoolRoom.{due_is}
-use Rattle.claim_history.proofs.Pools.{pool_replay_law}
+use Rattle.live_runs.specs.claim_history.specs.declared.call.Call.{Call}
+use Rattle.live_runs.specs.claim_history.specs.declared.call.PoolEntry.{PoolEntry}
+use Rattle.live_runs.specs.claim_history.specs.declared.entry.Reply.{Reply}
+use Rattle.live_runs.specs.claim_history.specs.declared.entry.Reply.TheVariants as reply
+use Rattle.live_runs.specs.claim_history.specs.States.{OpenRound}
+use Rattle.live_runs.specs.claim_history.specs.History.{is_accepted, is_no_refusal}
+use Rattle.live_runs.specs.claim_history.specs.Pools.{IsLegal, accepted_calls, accepted_members, answered, call_of, due_member, due_of_past, due_reply, open_round_in, replay_after, replay_of}
+use Rattle.live_runs.specs.claim_history.specs.PoolRounds.{ending_of, ending_reply, is_left_open, left_open, opened}
+use Rattle.live_runs.specs.claim_history.proofs.Kept.{kept_append, kept_step, replay_append, replayed_past, same_due}
+use Rattle.live_runs.specs.claim_history.proofs.PoolRoom.{due_is}
+use Rattle.live_runs.specs.claim_history.proofs.Pools.{pool_replay_law}
 use Rattle.live_runs.specs.act_bodies.specs.Bodies.{body_of, is_keepable}
 use Rattle.live_runs.specs.act_bodies.proofs.Calls.{one_call_law}
 use Rattle.live_runs.specs.round_journal.specs.Records.{AreKeepable, bodies_of, recorded_call}

@@ -4,12 +4,12 @@ use Rattle.std.proofs.Common.{◌≡◌, ◌∙◌, ◌⊎◌, ⊎_elim, inl, in
 use Rattle.std.specs.Io.KnownBytes.{Consumes}
 use Rattle.setoff_model.specs.declared.limits.TheConstants.{MOST_INPUT_BYTES}
 use Rattle.disk_model.specs.Calls.{Seen}
-use Rattle.live_runs.specs.request_text.specs.Grammar.{AreBatches, IsRequestText}
+use Rattle.request_text.specs.Grammar.{AreBatches, IsRequestText}
 use Rattle.live_runs.specs.input_front.specs.Front.{whole_lines}
 use Rattle.live_runs.specs.live_reading.specs.declared.stop.Stop.{Stop}
 use Rattle.live_runs.specs.live_reading.specs.declared.stop.Stop.TheVariants as stop
 use Rattle.live_runs.specs.live_reading.specs.Fronts.{is_fence}
-use Rattle.bureau_reports.specs.command_words.specs.declared.command.Command.TheVariants as commands
+use Rattle.command_words.specs.declared.command.Command.TheVariants as commands
 use Rattle.live_runs.specs.printed_text.specs.declared.exit_status.ExitStatus.{ExitStatus}
 use Rattle.live_runs.specs.printed_text.specs.declared.exit_status.ExitStatus.TheVariants as statuses
 use Rattle.live_runs.specs.printed_text.specs.Statuses.{IsOneOf}

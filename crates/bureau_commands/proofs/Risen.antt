@@ -1,11 +1,11 @@
 -- Where a status tells of the disk, its count rose.
 use Rattle.std.specs.Prelude.{Option}
 use Rattle.std.proofs.Common.{◌≡◌, ◌∙◌, ⊎_elim, ℕ, ◌≤◌, Bool, List, [], ◌∷◌, refl, subst, sym, arith}
-use Rattle.fault_count.specs.Counts.{HasRisen}
-use Rattle.fault_count.proofs.Rising.{risen_within}
+use Rattle.live_runs.specs.fault_count.specs.Counts.{HasRisen}
+use Rattle.live_runs.specs.fault_count.proofs.Rising.{risen_within}
 use Rattle.disk_model.specs.Calls.{Seen}
-use Rattle.claim_history.specs.Pools.{IsLegal}
-use Rattle.live_runs.specs.request_text.specs.declared.request.Request.{Request}
+use Rattle.live_runs.specs.claim_history.specs.Pools.{IsLegal}
+use Rattle.request_text.specs.declared.request.Request.{Request}
 use Rattle.live_runs.specs.recorded_book.specs.Devices.{AreBetween}
 use Rattle.live_runs.specs.bureau_desk.specs.declared.desk_refused.DeskCause.{DeskCause}
 use Rattle.live_runs.specs.bureau_desk.specs.declared.desk_refused.DeskCause.TheVariants.{Memory, Device, BadHeader, BadRecord, BadAct, Overfull}
@@ -14,8 +14,8 @@ use Rattle.live_runs.specs.served_lines.specs.Ends.{is_memory_end, is_full_end}
 use Rattle.live_runs.specs.printed_text.specs.declared.exit_status.ExitStatus.{ExitStatus}
 use Rattle.live_runs.specs.printed_text.specs.declared.exit_status.ExitStatus.TheVariants as statuses
 use Rattle.live_runs.specs.printed_text.proofs.Statuses.{other_than}
-use Rattle.bureau_reports.specs.command_words.specs.declared.command.Command.{Command}
-use Rattle.bureau_reports.specs.command_words.specs.declared.command.Command.TheVariants as commands
+use Rattle.command_words.specs.declared.command.Command.{Command}
+use Rattle.command_words.specs.declared.command.Command.TheVariants as commands
 use Rattle.bureau_reports.specs.DiskTexts.{opening_status}
 use Rattle.bureau_reports.specs.Inputs.{IsInputDue}
 use Rattle.bureau_reports.proofs.Verdicts.{input_one}

@@ -9,25 +9,25 @@ use Rattle.bureau_edge.specs.Streams.{AppendsPart}
 use Rattle.bureau_edge.proofs.Known.{Appends-then, AppendsPart-front}
 use Rattle.setoff_model.specs.CutView.{CutView}
 use Rattle.disk_model.specs.Calls.{Seen, GoesOn}
-use Rattle.claim_history.specs.declared.call.PoolEntry.{PoolEntry}
-use Rattle.claim_history.specs.declared.entry.Entry.{Entry}
-use Rattle.claim_history.specs.declared.entry.Reply.{Reply}
-use Rattle.claim_history.specs.declared.entry.Reply.TheVariants as reply
-use Rattle.claim_history.specs.History as one
-use Rattle.claim_history.specs.History.{is_opening}
-use Rattle.claim_history.specs.Laws.{IsGreatestPublication}
-use Rattle.claim_history.specs.Pools.{AreValid, IsLegal, call_of, entries_in, open_round_in}
-use Rattle.claim_history.specs.PoolRounds.{cuts_after, cuts_of, ending_of, ending_reply, is_left_open, left_open}
-use Rattle.claim_history.specs.Rounds.{cut_published}
-use Rattle.claim_history.specs.States.{OpenRound}
-use Rattle.claim_history.proofs.Greatest.{greatest_law}
-use Rattle.claim_history.proofs.PoolCuts.{cuts_law}
-use Rattle.claim_history.proofs.PoolEnds.{opens_so}
-use Rattle.claim_history.proofs.Pools.{in_append, legal_in, past_own}
+use Rattle.live_runs.specs.claim_history.specs.declared.call.PoolEntry.{PoolEntry}
+use Rattle.live_runs.specs.claim_history.specs.declared.entry.Entry.{Entry}
+use Rattle.live_runs.specs.claim_history.specs.declared.entry.Reply.{Reply}
+use Rattle.live_runs.specs.claim_history.specs.declared.entry.Reply.TheVariants as reply
+use Rattle.live_runs.specs.claim_history.specs.History as one
+use Rattle.live_runs.specs.claim_history.specs.History.{is_opening}
+use Rattle.live_runs.specs.claim_history.specs.Laws.{IsGreatestPublication}
+use Rattle.live_runs.specs.claim_history.specs.Pools.{AreValid, IsLegal, call_of, entries_in, open_round_in}
+use Rattle.live_runs.specs.claim_history.specs.PoolRounds.{cuts_after, cuts_of, ending_of, ending_reply, is_left_open, left_open}
+use Rattle.live_runs.specs.claim_history.specs.Rounds.{cut_published}
+use Rattle.live_runs.specs.claim_history.specs.States.{OpenRound}
+use Rattle.live_runs.specs.claim_history.proofs.Greatest.{greatest_law}
+use Rattle.live_runs.specs.claim_history.proofs.PoolCuts.{cuts_law}
+use Rattle.live_runs.specs.claim_history.proofs.PoolEnds.{opens_so}
+use Rattle.live_runs.specs.claim_history.proofs.Pools.{in_append, legal_in, past_own}
 use Rattle.setoff_model.proofs.SameNames.{name_same}
 use Rattle.setoff_model.proofs.Lists.{All-first}
 use Rattle.live_runs.specs.act_bodies.specs.Bodies.{is_keepable}
-use Rattle.live_runs.specs.request_text.specs.declared.request.Request.{Request}
+use Rattle.request_text.specs.declared.request.Request.{Request}
 use Rattle.live_runs.specs.journal_replay.specs.Replays.{history_of}
 use Rattle.live_runs.specs.recorded_book.specs.Acting.{IsOpenedHistory}
 use Rattle.live_runs.specs.recorded_book.specs.Calls.{CanBeKept}

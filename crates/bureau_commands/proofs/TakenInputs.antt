@@ -5,11 +5,11 @@ use Rattle.std.specs.Io.KnownBytes.{Consumes, IsAtEnd}
 use Rattle.std.proofs.lemmas.List.{append-nil, length-append}
 use Rattle.std.proofs.Math.Seq.{take-append-add, take-append_seam}
 use Rattle.setoff_model.specs.declared.limits.TheConstants.{MOST_INPUT_BYTES}
-use Rattle.live_runs.specs.request_text.specs.declared.error.LineCause.{LineCause}
-use Rattle.live_runs.specs.request_text.specs.declared.request.Request.{Request}
-use Rattle.live_runs.specs.request_text.specs.Causes.{IsBadLine}
-use Rattle.live_runs.specs.request_text.specs.Grammar.{AreBatches, IsFirstBadLine, IsNoRequestText}
-use Rattle.live_runs.specs.request_text.proofs.Causes.{asks_nothing}
+use Rattle.request_text.specs.declared.error.LineCause.{LineCause}
+use Rattle.request_text.specs.declared.request.Request.{Request}
+use Rattle.request_text.specs.Causes.{IsBadLine}
+use Rattle.request_text.specs.Grammar.{AreBatches, IsFirstBadLine, IsNoRequestText}
+use Rattle.request_text.proofs.Causes.{asks_nothing}
 use Rattle.live_runs.specs.input_front.specs.Front.{whole_lines}
 use Rattle.live_runs.specs.live_reading.specs.Fronts.{IsBadLineOf}
 

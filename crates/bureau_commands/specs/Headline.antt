@@ -1,12 +1,12 @@
 -- What a run of batches is.
 use Rattle.std.specs.Prelude.{◌≡◌, ℕ, Bool, false, List, [], ◌∷◌, ◌++◌, length, drop, IsTrue}
 use Rattle.disk_model.specs.Calls.{Seen, GoesOn, IsPresent}
-use Rattle.claim_history.specs.declared.call.PoolEntry.{PoolEntry}
-use Rattle.claim_history.specs.declared.entry.Reply.TheVariants as reply
-use Rattle.claim_history.specs.Pools.{AreValid, IsLegal, accepted_calls, entries_in}
-use Rattle.claim_history.specs.Laws.{IsGreatestPublication}
-use Rattle.claim_history.specs.PoolNeeds.{IsWithinLimits}
-use Rattle.live_runs.specs.request_text.specs.declared.request.Request.{Request}
+use Rattle.live_runs.specs.claim_history.specs.declared.call.PoolEntry.{PoolEntry}
+use Rattle.live_runs.specs.claim_history.specs.declared.entry.Reply.TheVariants as reply
+use Rattle.live_runs.specs.claim_history.specs.Pools.{AreValid, IsLegal, accepted_calls, entries_in}
+use Rattle.live_runs.specs.claim_history.specs.Laws.{IsGreatestPublication}
+use Rattle.live_runs.specs.claim_history.specs.PoolNeeds.{IsWithinLimits}
+use Rattle.request_text.specs.declared.request.Request.{Request}
 use Rattle.live_runs.specs.round_journal.specs.declared.record.Record.{Record}
 use Rattle.live_runs.specs.round_journal.specs.Opened.{AreFound}
 use Rattle.live_runs.specs.journal_replay.specs.Replays.{history_of, AreSound}

@@ -3,10 +3,10 @@ use Rattle.std.specs.Prelude.{◌≡◌, ℕ, ◌+◌, ◌*◌, ◌≤◌, List,
 use Rattle.std.specs.List.{sum_by}
 use Rattle.setoff_model.specs.declared.limits.TheConstants.{MOST_ENTRIES, MOST_JOURNAL_BYTES}
 use Rattle.disk_model.specs.Calls.{Seen}
-use Rattle.claim_history.specs.Acts.{is_filing, is_registration}
-use Rattle.claim_history.specs.PoolNeeds.{call_bytes}
-use Rattle.claim_history.specs.PoolRounds.{left_open}
-use Rattle.live_runs.specs.request_text.specs.declared.request.Request.{Request}
+use Rattle.live_runs.specs.claim_history.specs.Acts.{is_filing, is_registration}
+use Rattle.live_runs.specs.claim_history.specs.PoolNeeds.{call_bytes}
+use Rattle.live_runs.specs.claim_history.specs.PoolRounds.{left_open}
+use Rattle.request_text.specs.declared.request.Request.{Request}
 use Rattle.live_runs.specs.round_journal.specs.declared.record.Record.{Record}
 use Rattle.live_runs.specs.round_journal.specs.Opened.{AreFound}
 use Rattle.live_runs.specs.journal_replay.specs.Replays.{AreSound, history_of, recorded_call}

@@ -1,12 +1,12 @@
 -- What the promise of a run comes to: of each moment after a crash, of the next call, and of what `history` prints later.
 use Rattle.std.specs.Prelude.{◌≡◌, ◌<◌, ◌≤◌, ◌⊎◌, ℕ, true, List, [], ◌∷◌, ◌++◌, All, length, drop, Option, None, IsTrue}
 use Rattle.disk_model.specs.Calls.{Seen, IsPresent}
-use Rattle.claim_history.specs.declared.call.Call.{Call}
-use Rattle.claim_history.specs.declared.call.PoolEntry.{PoolEntry}
-use Rattle.claim_history.specs.History.{is_accepted}
-use Rattle.claim_history.specs.Pools.{accepted_members, answered, due_reply}
-use Rattle.claim_history.specs.PoolRounds.{open_cut_in}
-use Rattle.live_runs.specs.request_text.specs.declared.request.Request.{Request}
+use Rattle.live_runs.specs.claim_history.specs.declared.call.Call.{Call}
+use Rattle.live_runs.specs.claim_history.specs.declared.call.PoolEntry.{PoolEntry}
+use Rattle.live_runs.specs.claim_history.specs.History.{is_accepted}
+use Rattle.live_runs.specs.claim_history.specs.Pools.{accepted_members, answered, due_reply}
+use Rattle.live_runs.specs.claim_history.specs.PoolRounds.{open_cut_in}
+use Rattle.request_text.specs.declared.request.Request.{Request}
 use Rattle.live_runs.specs.printed_text.specs.declared.exit_status.ExitStatus.{ExitStatus}
 use Rattle.live_runs.specs.printed_text.specs.Printing.{added_text, ends_text, statement_of}
 use Rattle.bureau_reports.specs.history_text.specs.Histories.{IsRoundText, history_text, publishes_round}

@@ -1,7 +1,7 @@
 //! The words `live`: the requests of a source, served on a desk while they are read.
 ghost use Rattle.std.specs.Prelude.{◌≡◌, ◌≢◌, ◌≤◌, true, false, [], vec_capacity};
 ghost use Rattle.setoff_model.specs.declared.limits.TheConstants.{OUTPUT_BYTES};
-ghost use Rattle.fault_count.specs.Counts.{HasRisen};
+ghost use Rattle.live_runs.specs.fault_count.specs.Counts.{HasRisen};
 ghost use Rattle.live_runs.specs.printed_text.specs.declared.exit_status.ExitStatus.TheVariants as statuses;
 ghost use Rattle.live_runs.specs.printed_text.specs.Statuses.{TellsSinkFault};
 ghost use Rattle.live_runs.specs.printed_text.specs.Texts.{bad_line_text};
@@ -11,15 +11,11 @@ ghost use Rattle.bureau_commands.specs.Due.{IsLiveDue, WroteTaking, stop_status,
 use crate::opening::{Begun, NotBegun, begin};
 use bureau_edge::{Sink, Source};
 use disk_model::Disk;
-use live_runs::input_front::Intake;
-use live_runs::lane_runner::Gate;
-use live_runs::live_intake::Stop;
-use live_runs::printed_text::{
-    ExitStatus, end_with, tell_no_memory, tell_read_fault, tell_too_long, write_bad_line,
+use live_runs::{
+    ExitStatus, Gate, Intake, Pause, Stop, end_with, serve_input, tell_no_memory, tell_read_fault,
+    tell_too_long, write_bad_line,
 };
-use live_runs::request_text::LineCause;
-use live_runs::serve_input;
-use live_runs::shared_bureau::Pause;
+use request_text::LineCause;
 use setoff_model::limits::MOST_INPUT_BYTES;
 use std::alloc::Global;
 use std::sync::Wait;

@@ -7,9 +7,7 @@ ghost use Rattle.bureau_commands.specs.Due.{HasBegun, IsNotBegunDue, WroteTaking
 use bureau_edge::Sink;
 use bureau_reports::tell_refused;
 use disk_model::Disk;
-use live_runs::batch_runs::print_added;
-use live_runs::bureau_desk::{Desk, DeskRefused};
-use live_runs::printed_text::{ExitStatus, output_buffer, tell_no_memory};
+use live_runs::{Desk, DeskRefused, ExitStatus, output_buffer, print_added, tell_no_memory};
 use std::alloc::Global;
 
 /// A desk on which no batch was served yet, and the buffer of the output.

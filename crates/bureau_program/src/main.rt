@@ -5,9 +5,7 @@
 //! journal, and nothing else. Where the words are no command's, it tells the commands on the error stream.
 #![tactic(auto)]
 
-use bureau_commands::lane_runner::Unhindered;
-use bureau_commands::printed_text::ExitStatus;
-use bureau_commands::{bureau, without_words};
+use bureau_commands::{ExitStatus, Unhindered, bureau, without_words};
 use bureau_edge::{StandardIn, StandardOut};
 use command_words::USAGE;
 use disk_model::FileDisk;

@@ -1,7 +1,7 @@
 -- What is told of a disk that was read.
 use Rattle.std.specs.Prelude.{Option, if◌then◌else◌}
 use Rattle.std.proofs.Common.{◌≡◌, ◌∙◌, ◌⊎◌, ⊎_elim, inl, inr, ℕ, ◌≤◌, Bool, true, false, List, [], ◌∷◌, refl, subst, sym, true≢false, arith}
-use Rattle.fault_count.specs.Counts.{HasRisen}
+use Rattle.weighed_round.specs.fault_count.specs.Counts.{HasRisen}
 use Rattle.weighed_round.specs.claim_history.specs.declared.call.PoolEntry.{PoolEntry}
 use Rattle.weighed_round.specs.claim_history.specs.declared.entry.Reply.{Reply}
 use Rattle.weighed_round.specs.claim_history.specs.declared.entry.Reply.TheVariants as reply

@@ -1,5 +1,4 @@
 pub mod DiskTexts
 pub mod Inputs
 pub mod Journals
-pub use Rattle.command_words as command_words
 pub use Rattle.history_text as history_text

@@ -12,10 +12,10 @@ use setoff_checker::Checker;
 use setoff_model::limits::LINE_BYTES;
 use setoff_model::{Cut, Outcome};
 use std::alloc::Global;
-use weighed_round::printed_text::{
-    ExitStatus, end_with, status_of_verdict, tell_no_memory, write_verdict,
+use weighed_round::{
+    ExitStatus, StatementError, end_with, read_statement, status_of_verdict, tell_no_memory,
+    write_verdict,
 };
-use weighed_round::statement_text::{StatementError, read_statement};
 
 // Judges a statement that was read.
 #[tactic(auto, using(crate::proofs::Written::input_memory))]

@@ -10,15 +10,14 @@ ghost use Rattle.bureau_reports.specs.Inputs.{IsInputDue};
 
 use crate::statement::tell_bad_statement;
 use bureau_edge::Sink;
-use chain_text::chain_explain::{Explainer, chains_explain};
-use chain_text::print_chains;
+use chain_text::{Explainer, chains_explain, print_chains};
 use setoff_checker::{Checked, Checker, Refusal};
 use setoff_model::{Cut, Outcome};
 use std::alloc::Global;
-use weighed_round::printed_text::{
-    ExitStatus, end_with, output_buffer, status_of_verdict, tell_no_memory, write_verdict,
+use weighed_round::{
+    ExitStatus, StatementError, end_with, output_buffer, read_statement, status_of_verdict,
+    tell_no_memory, write_verdict,
 };
-use weighed_round::statement_text::{StatementError, read_statement};
 
 // Prints the chains of an outcome that is proved, through an empty buffer.
 #[tactic(auto, using(crate::proofs::Written::input_memory))]

@@ -4,11 +4,9 @@ ghost use Rattle.setoff_model.specs.declared.limits.TheConstants.{LINE_BYTES};
 ghost use Rattle.bureau_reports.specs.DiskTexts.{offset_of, record_why, fault_of, told_fault};
 ghost use Rattle.bureau_reports.specs.DiskTexts.{told_counts, opening_text, opening_status, IsTellable};
 
-use bureau_desk::DeskCause;
-use bureau_desk::round_journal::RecordWhy;
+use bureau_desk::{DeskCause, RecordWhy};
 use setoff_model::{put, write_whole};
-use weighed_round::entry_text::write_reply;
-use weighed_round::printed_text::ExitStatus;
+use weighed_round::{ExitStatus, write_reply};
 
 fn offset_of(cause: DeskCause) -> u64
     ensures { result ≡ offset_of cause }

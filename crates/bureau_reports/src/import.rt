@@ -9,8 +9,9 @@ ghost use Rattle.bureau_reports.specs.Inputs.{IsInputDue};
 use bureau_edge::Sink;
 use setoff_model::limits::LINE_BYTES;
 use std::alloc::Global;
-use weighed_round::firm_notices::{ImportError, RowCause, import};
-use weighed_round::printed_text::{ExitStatus, end_with, tell_no_memory, write_bad_row};
+use weighed_round::{
+    ExitStatus, ImportError, RowCause, end_with, import, tell_no_memory, write_bad_row,
+};
 
 // Tells the first row that is not in the grammar of invoices.
 #[tactic(auto, using(crate::proofs::Written::input_memory))]

@@ -11,7 +11,7 @@ use crate::import::import_input;
 use bureau_edge::Sink;
 use command_words::InputReport;
 use std::alloc::Global;
-use weighed_round::printed_text::ExitStatus;
+use weighed_round::ExitStatus;
 
 /// Reads an input, and prints the report on it. Gives the status: `Done`; `No` where a statement's prices do not prove its
 /// discharges; `Form` where the input is not in form; `Memory` where there was none; `Sink` where the sink failed.

@@ -1,6 +1,6 @@
 //! Reports on a journal.
 ghost use Rattle.std.specs.Prelude.{◌≡◌, ◌≤◌, [], IfOk, vec_len, vec_capacity};
-ghost use Rattle.fault_count.specs.Counts.{HasRisen};
+ghost use Rattle.weighed_round.specs.fault_count.specs.Counts.{HasRisen};
 ghost use Rattle.bureau_desk.specs.round_journal.specs.Opened.{IsQuiet};
 ghost use Rattle.weighed_round.specs.printed_text.specs.declared.exit_status.ExitStatus.TheVariants as statuses;
 ghost use Rattle.weighed_round.specs.printed_text.specs.Statuses.{IsOneOf, TellsSinkFault};
@@ -18,10 +18,9 @@ use disk_model::Disk;
 use history_text::{print_history, print_round};
 use setoff_model::limits::LINE_BYTES;
 use std::alloc::{AllocError, Global};
-use weighed_round::claim_book::Books;
-use weighed_round::firm_notices::{notices, positions};
-use weighed_round::printed_text::{ExitStatus, end_with, output_buffer, tell_no_memory};
-use weighed_round::weigh;
+use weighed_round::{
+    Books, ExitStatus, end_with, notices, output_buffer, positions, tell_no_memory, weigh,
+};
 
 // The line of an audit of a sound journal.
 fn sound_line(alloc: Global, books: &Books) -> Result<Vec<u8>, AllocError>

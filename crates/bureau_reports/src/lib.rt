@@ -20,8 +20,7 @@ mod refused;
 mod sound_line;
 mod statement;
 
-pub use command_words;
 pub use input::report_input;
 pub use journal::report_journal;
 pub use refused::tell_refused;
-pub use weighed_round::printed_text;
+pub use weighed_round::ExitStatus;

@@ -8,7 +8,7 @@ ghost use Rattle.weighed_round.specs.printed_text.specs.Writing.{IsWritten};
 use crate::fault_line::{status_of_opening, write_opening_fault};
 use bureau_desk::DeskCause;
 use bureau_edge::Sink;
-use weighed_round::printed_text::{ExitStatus, end_with};
+use weighed_round::{ExitStatus, end_with};
 
 /// Tells why no desk was opened on a disk, or no books made of it, and says the status. The buffer is empty and has room for
 /// `LINE_BYTES`.

@@ -7,8 +7,7 @@ ghost use Rattle.bureau_reports.specs.DiskTexts.{sound_text, unsound_text, unsou
 use crate::fault_line::{status_of_opening, write_opening_fault, write_told};
 use bureau_desk::DeskCause;
 use setoff_model::{put, write_whole};
-use weighed_round::claim_book::Books;
-use weighed_round::printed_text::ExitStatus;
+use weighed_round::{Books, ExitStatus};
 
 // How many acts of all pools publish a round.
 fn rounds_in(books: &Books) -> u64

@@ -10,8 +10,7 @@ ghost use Rattle.bureau_reports.specs.Inputs.{IsInputDue};
 use bureau_edge::Sink;
 use setoff_model::limits::LINE_BYTES;
 use std::alloc::Global;
-use weighed_round::printed_text::{ExitStatus, end_with, tell_no_memory, write_bad_statement};
-use weighed_round::statement_text::StatementCause;
+use weighed_round::{ExitStatus, StatementCause, end_with, tell_no_memory, write_bad_statement};
 
 /// Tells the first line that is not in the grammar of statements.
 #[tactic(auto, using(crate::proofs::Written::input_memory))]

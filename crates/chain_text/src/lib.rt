@@ -7,5 +7,5 @@
 mod line;
 mod printing;
 
-pub use chain_explain;
+pub use chain_explain::{Explainer, chains_explain};
 pub use printing::print_chains;

@@ -25,10 +25,10 @@ use crate::round::{
 };
 use crate::round_answer::{answer_abandon, answer_close};
 use fact_tables::{AccountTable, ClaimTable};
-use round_cut::claim_history::{
-    AccountFact, Act, ClaimFact, Day, Entry, Position, Reply, accepted,
+use round_cut::{
+    AccountFact, Act, ClaimFact, Day, Entry, Position, Reply, accepted, build_cut,
+    cut_of_a_history_is_of_its_facts,
 };
-use round_cut::{build_cut, cut_of_a_history_is_of_its_facts};
 use setoff_model::{Cut, Key, Kind, Name};
 use std::alloc::{AllocError, Global};
 use std::marker::Model;

@@ -13,8 +13,7 @@ ghost use Rattle.claim_book.specs.Pools.{KeepsRooms, is_book, room_in, rooms_of,
 
 use crate::book::Book;
 use crate::pool_book::{Place, PoolBook, apply_in, close_in, make_room, publish_in};
-use round_cut::claim_history::{Act, Entry, Reply, each_pool_has_its_history};
-use round_cut::name_index::NameIndex;
+use round_cut::{Act, Entry, NameIndex, Reply, each_pool_has_its_history};
 use setoff_model::{Cut, Name};
 use std::alloc::{AllocError, Global};
 use std::marker::Model;

@@ -20,5 +20,9 @@ mod round_answer;
 
 pub use book::Book;
 pub use books::Books;
-pub use round_cut;
-pub use round_cut::claim_history;
+pub use round_cut::{
+    AccountFact, Act, Call, ClaimFact, Day, Entry, PoolEntry, Position, Reply, Status, Why,
+    accepted, build_cut, cut_of_a_history_is_of_its_facts, each_pool_has_its_history, is_due,
+    main_pool_name, open_cut_is_well_formed, pool_bytes, record_bytes, tells_of_device,
+    use_is_counted,
+};

@@ -11,7 +11,7 @@ ghost use Rattle.claim_book.specs.Book.{ledger_of, room_for, room_needed, GivesC
 ghost use Rattle.claim_book.specs.Changes.{HasGrown, HasRoomMade};
 
 use crate::book::Book;
-use round_cut::claim_history::{Act, Entry};
+use round_cut::{Act, Entry};
 use setoff_model::{Cut, Name};
 use std::alloc::AllocError;
 

@@ -14,3 +14,4 @@ pub mod Pools
 pub mod PoolNeeds
 pub mod PoolLaws
 pub mod PoolRounds
+pub use Rattle.fault_count as fault_count

@@ -2,7 +2,7 @@
 ghost use Rattle.std.specs.Prelude.{◌≡◌};
 ghost use Rattle.command_words.specs.Words.{pool_of};
 
-use request_text::claim_history::{Day, main_pool_name};
+use request_text::{Day, main_pool_name};
 use setoff_model::{Kind, Name};
 
 /// What tells of the disk's journal: it is read and not written, and the source is not called.

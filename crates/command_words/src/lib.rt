@@ -26,7 +26,7 @@ pub use error::WordsError;
 pub use input_report::InputReport;
 pub use journal_report::JournalReport;
 pub use reading::command_of;
-use request_text::claim_history::days_are_civil_dates;
+use request_text::days_are_civil_dates;
 pub use usage::USAGE;
 
 /// Two commands with the same words are one. A law, which does nothing when it is called.

@@ -20,7 +20,7 @@ use crate::journal_report::JournalReport;
 use crate::program::program;
 use clap::error::ErrorKind;
 use clap::{ArgMatches, Error};
-use request_text::claim_history::Day;
+use request_text::Day;
 use setoff_model::limits::{MOST_CLAIMS, MOST_FIRMS, MOST_LANES};
 use setoff_model::{Kind, Name, read_kind, read_number};
 use std::alloc::Global;

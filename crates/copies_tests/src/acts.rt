@@ -7,8 +7,7 @@ ghost use Rattle.limited_book.specs.claim_book.specs.Book.{room_for};
 ghost use mathlib.Core.List.{IsPrefix};
 
 use claim_history::{Act, Day, Entry, Reply};
-use limited_book::claim_book::Book;
-use limited_book::publication_reply;
+use limited_book::{Book, publication_reply};
 use read_copies::Row;
 use setoff_model::{Key, Kind, Name, Outcome};
 use std::alloc::Global;

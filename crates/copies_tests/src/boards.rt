@@ -4,7 +4,7 @@ ghost use mathlib.Core.List.{IsPrefix};
 
 use crate::acts::{fill, firm, put_any, row_in};
 use claim_history::{Act, Position};
-use limited_book::claim_book::Book;
+use limited_book::Book;
 use read_copies::{Board, BoardReader};
 use std::alloc::Global;
 use std::process::Abort;

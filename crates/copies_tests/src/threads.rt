@@ -3,7 +3,7 @@ ghost use Rattle.std.specs.Prelude.{◌≡◌, length, All};
 
 use crate::acts::{firm, put_any, row_in, triangle};
 use crate::boards::{made, put_and_show};
-use limited_book::claim_book::Book;
+use limited_book::Book;
 use read_copies::{Board, BoardReader, Row};
 use setoff_model::Name;
 use std::alloc::Global;

@@ -5,22 +5,22 @@ use Rattle.std.proofs.Common.{◌≡◌, ◌∙◌, ℕ, Bool, true, false, List
 use Rattle.std.proofs.lemmas.Bool.{ne_eqb}
 use Rattle.std.proofs.lemmas.List.Elements.{All-append, All-cons}
 use Rattle.std.proofs.lemmas.List.Splits.{join_with_byte-slice_split, slice_split_at}
-use Rattle.setoff_model.specs.Names.{is_name}
-use Rattle.setoff_model.proofs.SameNames.{same_name_is}
-use Rattle.setoff_model.proofs.Spelling.{spelling_law}
-use Rattle.claim_history.specs.declared.act.Act.{Act}
-use Rattle.claim_history.specs.declared.call.PoolEntry.{PoolEntry}
-use Rattle.claim_history.specs.declared.entry.Reply.{Reply}
-use Rattle.claim_history.specs.Acts.{act_fields, act_text}
-use Rattle.claim_history.specs.Pools.{is_main, main_pool}
-use Rattle.text_lines.specs.Fields.{HasNoSpace, IsVisible, fields, line_of}
-use Rattle.text_lines.proofs.Cutting.{feed}
-use Rattle.text_lines.proofs.Joining.{join_law}
-use Rattle.text_lines.proofs.Spaces.{no_space_of}
-use Rattle.text_lines.proofs.Visible.{join, known, visible_law}
-use Rattle.request_text.specs.Pools.{pool_field, pool_fields, pool_text}
-use Rattle.request_text.proofs.Words.{has_verb}
-use Rattle.entry_text.specs.Entries.{entry_line, entry_text, reply_text}
+use Rattle.batch_runs.specs.setoff_model.specs.Names.{is_name}
+use Rattle.batch_runs.specs.setoff_model.proofs.SameNames.{same_name_is}
+use Rattle.batch_runs.specs.setoff_model.proofs.Spelling.{spelling_law}
+use Rattle.batch_runs.specs.claim_history.specs.declared.act.Act.{Act}
+use Rattle.batch_runs.specs.claim_history.specs.declared.call.PoolEntry.{PoolEntry}
+use Rattle.batch_runs.specs.claim_history.specs.declared.entry.Reply.{Reply}
+use Rattle.batch_runs.specs.claim_history.specs.Acts.{act_fields, act_text}
+use Rattle.batch_runs.specs.claim_history.specs.Pools.{is_main, main_pool}
+use Rattle.batch_runs.specs.text_lines.specs.Fields.{HasNoSpace, IsVisible, fields, line_of}
+use Rattle.batch_runs.specs.text_lines.proofs.Cutting.{feed}
+use Rattle.batch_runs.specs.text_lines.proofs.Joining.{join_law}
+use Rattle.batch_runs.specs.text_lines.proofs.Spaces.{no_space_of}
+use Rattle.batch_runs.specs.text_lines.proofs.Visible.{join, known, visible_law}
+use Rattle.batch_runs.specs.request_text.specs.Pools.{pool_field, pool_fields, pool_text}
+use Rattle.batch_runs.specs.request_text.proofs.Words.{has_verb}
+use Rattle.batch_runs.specs.entry_text.specs.Entries.{entry_line, entry_text, reply_text}
 use Rattle.entry_reading.specs.Shown.{IsEntry, LineLaw, ShowSame}
 use Rattle.entry_reading.proofs.Replies.{reply_line, reply_visible, reply_words, same_reply, some_words, word_at}
 use Rattle.entry_reading.proofs.Words.{IsNoSign, act_no_sign, act_visible, no_pool, same_act}

@@ -5,17 +5,17 @@ use Rattle.std.proofs.Common.{◌≡◌, ◌∙◌, ℕ, suc, ◌+◌, ◌/◌, 
 use Rattle.std.specs.List.{AllByRecursion}
 use Rattle.std.proofs.lemmas.Fmt.{decimal_by_steps}
 use Rattle.std.proofs.lemmas.List.Elements.{All-append, All-cons, All-head, All-nil, All-tail}
-use Rattle.setoff_model.specs.declared.limits.TheConstants.{SUM_LIMIT}
-use Rattle.setoff_model.specs.Texts.{cents_text, signed_cents_text}
-use Rattle.setoff_model.proofs.Spelling.{spelling_law}
-use Rattle.claim_history.specs.declared.entry.Reply.{Reply}
-use Rattle.claim_history.specs.declared.entry.Reply.TheVariants as reply
-use Rattle.claim_history.specs.declared.entry.Why.{Why}
-use Rattle.claim_history.specs.declared.entry.Why.TheVariants as why
-use Rattle.claim_history.specs.declared.fact.Position.{Position}
-use Rattle.text_lines.specs.Fields.{IsVisible, line_of}
-use Rattle.text_lines.proofs.Visible.{join, known, one, visible_law}
-use Rattle.entry_text.specs.Entries.{reply_text, why_text}
+use Rattle.batch_runs.specs.setoff_model.specs.declared.limits.TheConstants.{SUM_LIMIT}
+use Rattle.batch_runs.specs.setoff_model.specs.Texts.{cents_text, signed_cents_text}
+use Rattle.batch_runs.specs.setoff_model.proofs.Spelling.{spelling_law}
+use Rattle.batch_runs.specs.claim_history.specs.declared.entry.Reply.{Reply}
+use Rattle.batch_runs.specs.claim_history.specs.declared.entry.Reply.TheVariants as reply
+use Rattle.batch_runs.specs.claim_history.specs.declared.entry.Why.{Why}
+use Rattle.batch_runs.specs.claim_history.specs.declared.entry.Why.TheVariants as why
+use Rattle.batch_runs.specs.claim_history.specs.declared.fact.Position.{Position}
+use Rattle.batch_runs.specs.text_lines.specs.Fields.{IsVisible, line_of}
+use Rattle.batch_runs.specs.text_lines.proofs.Visible.{join, known, one, visible_law}
+use Rattle.batch_runs.specs.entry_text.specs.Entries.{reply_text, why_text}
 use Rattle.entry_reading.specs.Shown.{HasRanges, told_by}
 
 -- ---- refusals

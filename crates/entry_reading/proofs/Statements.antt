@@ -5,17 +5,17 @@ use Rattle.std.proofs.Common.{◌≡◌, ◌∙◌, ℕ, ◌<◌, ◌^◌, List,
 use Rattle.std.proofs.lemmas.List.{append_cancel_left}
 use Rattle.std.proofs.lemmas.List.Elements.{All-head, All-tail}
 use Rattle.std.proofs.lemmas.List.Splits.{join_with_byte-slice_split, slice_split_at}
-use Rattle.setoff_model.specs.declared.limits.TheConstants.{SUM_LIMIT}
-use Rattle.setoff_model.specs.declared.cut.Party.{Party}
-use Rattle.setoff_model.specs.declared.cut.CutClaim.{CutClaim}
-use Rattle.setoff_model.specs.CutView.{CutView, OutcomeView}
-use Rattle.setoff_model.specs.Texts.{cents_text, integer_text}
-use Rattle.setoff_model.proofs.Spelling.{spelling_law}
-use Rattle.text_lines.specs.Fields.{line_of}
-use Rattle.text_lines.proofs.Cutting.{feed}
-use Rattle.text_lines.proofs.Visible.{visible_law}
-use Rattle.statement_text.specs.declared.line.Line.TheVariants as line
-use Rattle.statement_text.specs.Statements.{claim_line, claim_lines, firm_at, party_lines, statement_bytes}
+use Rattle.batch_runs.specs.setoff_model.specs.declared.limits.TheConstants.{SUM_LIMIT}
+use Rattle.batch_runs.specs.setoff_model.specs.declared.cut.Party.{Party}
+use Rattle.batch_runs.specs.setoff_model.specs.declared.cut.CutClaim.{CutClaim}
+use Rattle.batch_runs.specs.setoff_model.specs.CutView.{CutView, OutcomeView}
+use Rattle.batch_runs.specs.setoff_model.specs.Texts.{cents_text, integer_text}
+use Rattle.batch_runs.specs.setoff_model.proofs.Spelling.{spelling_law}
+use Rattle.batch_runs.specs.text_lines.specs.Fields.{line_of}
+use Rattle.batch_runs.specs.text_lines.proofs.Cutting.{feed}
+use Rattle.batch_runs.specs.text_lines.proofs.Visible.{visible_law}
+use Rattle.batch_runs.specs.statement_text.specs.declared.line.Line.TheVariants as line
+use Rattle.batch_runs.specs.statement_text.specs.Statements.{claim_line, claim_lines, firm_at, party_lines, statement_bytes}
 use Rattle.batch_runs.specs.printed_text.specs.Printing.{IsPrintable, line_bytes, lines_bytes}
 use Rattle.batch_runs.specs.printed_text.proofs.Printing.{discharge_each, discharges_fit, price_each, prices_fit, statement_of_lists}
 use Rattle.entry_reading.proofs.Lines.{NoFeed, line_both, parts_at, word_no_feed}

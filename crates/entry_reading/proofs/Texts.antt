@@ -9,35 +9,35 @@ use Rattle.std.proofs.lemmas.List.Elements.{All-append, All-head, All-tail}
 use Rattle.std.proofs.lemmas.List.Sums.{AllPass-from_list_all}
 use Rattle.std.proofs.lemmas.Option.{same_Some, slice_get-get_or}
 use Rattle.std.proofs.Math.Seq.{get_or-append_seam, take-append_seam}
-use Rattle.setoff_model.specs.CutView.{CutView, OutcomeView}
-use Rattle.setoff_model.specs.Same.{same_name}
-use Rattle.setoff_model.specs.Setoff.{total_of}
-use Rattle.setoff_model.proofs.SameNames.{name_same}
-use Rattle.claim_history.specs.declared.act.Act.{Act}
-use Rattle.claim_history.specs.declared.act.Act.TheVariants as act
-use Rattle.claim_history.specs.declared.call.PoolEntry.{PoolEntry}
-use Rattle.claim_history.specs.declared.entry.Entry.{Entry}
-use Rattle.claim_history.specs.declared.entry.Reply.{Reply}
-use Rattle.claim_history.specs.declared.entry.Reply.TheVariants as reply
-use Rattle.claim_history.specs.Acts.{is_publication}
-use Rattle.claim_history.specs.States.{OpenRound, State, after, state, state_of}
-use Rattle.claim_history.specs.History as one
-use Rattle.claim_history.specs.History.{IsReply, answer, is_accepted, is_no_refusal}
-use Rattle.claim_history.specs.Pools.{AreValid, IsLegal, entries_in, entries_of, is_in, state_in}
-use Rattle.claim_history.specs.PoolRounds.{open_cut_in}
-use Rattle.claim_history.proofs.Pasts.{legal_first}
-use Rattle.claim_history.proofs.Pools.{in_append, legal_in, past_own}
-use Rattle.claim_history.proofs.Replies.{publishes}
+use Rattle.batch_runs.specs.setoff_model.specs.CutView.{CutView, OutcomeView}
+use Rattle.batch_runs.specs.setoff_model.specs.Same.{same_name}
+use Rattle.batch_runs.specs.setoff_model.specs.Setoff.{total_of}
+use Rattle.batch_runs.specs.setoff_model.proofs.SameNames.{name_same}
+use Rattle.batch_runs.specs.claim_history.specs.declared.act.Act.{Act}
+use Rattle.batch_runs.specs.claim_history.specs.declared.act.Act.TheVariants as act
+use Rattle.batch_runs.specs.claim_history.specs.declared.call.PoolEntry.{PoolEntry}
+use Rattle.batch_runs.specs.claim_history.specs.declared.entry.Entry.{Entry}
+use Rattle.batch_runs.specs.claim_history.specs.declared.entry.Reply.{Reply}
+use Rattle.batch_runs.specs.claim_history.specs.declared.entry.Reply.TheVariants as reply
+use Rattle.batch_runs.specs.claim_history.specs.Acts.{is_publication}
+use Rattle.batch_runs.specs.claim_history.specs.States.{OpenRound, State, after, state, state_of}
+use Rattle.batch_runs.specs.claim_history.specs.History as one
+use Rattle.batch_runs.specs.claim_history.specs.History.{IsReply, answer, is_accepted, is_no_refusal}
+use Rattle.batch_runs.specs.claim_history.specs.Pools.{AreValid, IsLegal, entries_in, entries_of, is_in, state_in}
+use Rattle.batch_runs.specs.claim_history.specs.PoolRounds.{open_cut_in}
+use Rattle.batch_runs.specs.claim_history.proofs.Pasts.{legal_first}
+use Rattle.batch_runs.specs.claim_history.proofs.Pools.{in_append, legal_in, past_own}
+use Rattle.batch_runs.specs.claim_history.proofs.Replies.{publishes}
 use Rattle.batch_runs.specs.limited_book.specs.declared.room.Room.{Room}
 use Rattle.batch_runs.specs.limited_book.specs.declared.room.Room.TheVariants.{Entries, Bytes}
-use Rattle.text_lines.proofs.Cutting.{feed}
-use Rattle.text_lines.proofs.Visible.{visible_law}
-use Rattle.statement_text.specs.Statements.{statement_bytes}
+use Rattle.batch_runs.specs.text_lines.proofs.Cutting.{feed}
+use Rattle.batch_runs.specs.text_lines.proofs.Visible.{visible_law}
+use Rattle.batch_runs.specs.statement_text.specs.Statements.{statement_bytes}
 use Rattle.batch_runs.specs.served_lines.specs.declared.answer.Answer.{Answer}
 use Rattle.batch_runs.specs.served_lines.specs.declared.line_end.LineEnd.{LineEnd}
 use Rattle.batch_runs.specs.served_lines.specs.declared.line_end.LineEnd.TheVariants as ends
-use Rattle.entry_text.specs.Entries.{entry_line, entry_text}
-use Rattle.request_text.specs.Pools.{pool_text}
+use Rattle.batch_runs.specs.entry_text.specs.Entries.{entry_line, entry_text}
+use Rattle.batch_runs.specs.request_text.specs.Pools.{pool_text}
 use Rattle.batch_runs.specs.printed_text.specs.Printing.{IsPrintable, added_text, end_text, ends_text, member_text, rounds_in, statement_of}
 use Rattle.batch_runs.specs.printed_text.specs.Texts.{room_text}
 use Rattle.batch_runs.specs.printed_text.proofs.Printing.{none_stated}

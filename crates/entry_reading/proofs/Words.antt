@@ -6,21 +6,21 @@ use Rattle.std.proofs.Common.{◌≡◌, ◌∙◌, ⊎_elim, inl, inr, ℕ, ◌
 use Rattle.std.specs.Prelude.{◌⊎◌}
 use Rattle.std.proofs.lemmas.Bool.{and_parts, ltb-true}
 use Rattle.std.proofs.lemmas.List.Elements.{All-head}
-use Rattle.setoff_model.specs.declared.kind.Kind.{Kind}
-use Rattle.setoff_model.specs.declared.kind.Kind.TheVariants.{Plain, Funded}
-use Rattle.setoff_model.specs.declared.name.Key.{Key}
-use Rattle.setoff_model.specs.CutView.{OutcomeView}
-use Rattle.setoff_model.specs.Names.{is_name}
-use Rattle.setoff_model.specs.Texts.{cents_text, kind_text}
-use Rattle.setoff_model.proofs.Spelling.{spelling_law}
-use Rattle.claim_history.specs.declared.act.Act.{Act}
-use Rattle.claim_history.specs.declared.act.Act.TheVariants as act
-use Rattle.claim_history.specs.Days.{day_text}
-use Rattle.claim_history.specs.Acts.{act_fields, agreed_fields, is_agreed, is_claim_amount, is_amount, is_day, is_key, is_outcome, is_publication, is_request, is_round, is_valid}
-use Rattle.claim_history.proofs.Shapes.{act_texts_law}
-use Rattle.text_lines.specs.Fields.{IsVisible}
-use Rattle.text_lines.proofs.Visible.{known, visible_law}
-use Rattle.request_text.proofs.Words.{fields_visible}
+use Rattle.batch_runs.specs.setoff_model.specs.declared.kind.Kind.{Kind}
+use Rattle.batch_runs.specs.setoff_model.specs.declared.kind.Kind.TheVariants.{Plain, Funded}
+use Rattle.batch_runs.specs.setoff_model.specs.declared.name.Key.{Key}
+use Rattle.batch_runs.specs.setoff_model.specs.CutView.{OutcomeView}
+use Rattle.batch_runs.specs.setoff_model.specs.Names.{is_name}
+use Rattle.batch_runs.specs.setoff_model.specs.Texts.{cents_text, kind_text}
+use Rattle.batch_runs.specs.setoff_model.proofs.Spelling.{spelling_law}
+use Rattle.batch_runs.specs.claim_history.specs.declared.act.Act.{Act}
+use Rattle.batch_runs.specs.claim_history.specs.declared.act.Act.TheVariants as act
+use Rattle.batch_runs.specs.claim_history.specs.Days.{day_text}
+use Rattle.batch_runs.specs.claim_history.specs.Acts.{act_fields, agreed_fields, is_agreed, is_claim_amount, is_amount, is_day, is_key, is_outcome, is_publication, is_request, is_round, is_valid}
+use Rattle.batch_runs.specs.claim_history.proofs.Shapes.{act_texts_law}
+use Rattle.batch_runs.specs.text_lines.specs.Fields.{IsVisible}
+use Rattle.batch_runs.specs.text_lines.proofs.Visible.{known, visible_law}
+use Rattle.batch_runs.specs.request_text.proofs.Words.{fields_visible}
 use Rattle.entry_reading.specs.Shown.{shown_act}
 use Rattle.entry_reading.proofs.Replies.{Digit, digits, word_at}
 

@@ -1,16 +1,16 @@
 -- What the line of an entry shows of it.
 use Rattle.std.specs.Prelude.{◌≡◌, ◌<◌, ◌^◌, ℕ, true, List, [], ◌∷◌, ◌++◌, All}
-use Rattle.setoff_model.specs.Names.{is_name}
-use Rattle.claim_history.specs.declared.act.Act.{Act}
-use Rattle.claim_history.specs.declared.act.Act.TheVariants as act
-use Rattle.claim_history.specs.declared.call.PoolEntry.{PoolEntry}
-use Rattle.claim_history.specs.declared.entry.Reply.{Reply}
-use Rattle.claim_history.specs.declared.entry.Reply.TheVariants as reply
-use Rattle.claim_history.specs.declared.entry.Why.{Why}
-use Rattle.claim_history.specs.declared.entry.Why.TheVariants as why
-use Rattle.claim_history.specs.Acts.{is_valid}
-use Rattle.claim_history.specs.Laws.{IsReplyInRange}
-use Rattle.entry_text.specs.Entries.{entry_line}
+use Rattle.batch_runs.specs.setoff_model.specs.Names.{is_name}
+use Rattle.batch_runs.specs.claim_history.specs.declared.act.Act.{Act}
+use Rattle.batch_runs.specs.claim_history.specs.declared.act.Act.TheVariants as act
+use Rattle.batch_runs.specs.claim_history.specs.declared.call.PoolEntry.{PoolEntry}
+use Rattle.batch_runs.specs.claim_history.specs.declared.entry.Reply.{Reply}
+use Rattle.batch_runs.specs.claim_history.specs.declared.entry.Reply.TheVariants as reply
+use Rattle.batch_runs.specs.claim_history.specs.declared.entry.Why.{Why}
+use Rattle.batch_runs.specs.claim_history.specs.declared.entry.Why.TheVariants as why
+use Rattle.batch_runs.specs.claim_history.specs.Acts.{is_valid}
+use Rattle.batch_runs.specs.claim_history.specs.Laws.{IsReplyInRange}
+use Rattle.batch_runs.specs.entry_text.specs.Entries.{entry_line}
 
 -- the act, of a publication its round alone
 abbrev pub shown_act : Act → Act

@@ -1,11 +1,11 @@
 -- What the printed text of batches shows of their entries.
 use Rattle.std.specs.Prelude.{◌≡◌, ◌<◌, ◌^◌, ℕ, Bool, false, not, ◌&&◌, List, ◌++◌, All}
 use Rattle.std.specs.List.{AllZip}
-use Rattle.claim_history.specs.declared.call.PoolEntry.{PoolEntry}
-use Rattle.claim_history.specs.declared.entry.Entry.{Entry}
-use Rattle.claim_history.specs.Acts.{is_publication}
-use Rattle.claim_history.specs.History.{is_accepted}
-use Rattle.claim_history.specs.Pools.{AreValid, IsLegal}
+use Rattle.batch_runs.specs.claim_history.specs.declared.call.PoolEntry.{PoolEntry}
+use Rattle.batch_runs.specs.claim_history.specs.declared.entry.Entry.{Entry}
+use Rattle.batch_runs.specs.claim_history.specs.Acts.{is_publication}
+use Rattle.batch_runs.specs.claim_history.specs.History.{is_accepted}
+use Rattle.batch_runs.specs.claim_history.specs.Pools.{AreValid, IsLegal}
 use Rattle.batch_runs.specs.served_lines.specs.declared.line_end.LineEnd.{LineEnd}
 use Rattle.batch_runs.specs.served_lines.specs.declared.line_end.LineEnd.TheVariants as ends
 use Rattle.batch_runs.specs.Runs.{Done, all_added, text_of}

@@ -7,8 +7,7 @@ ghost use Rattle.request_text.specs.claim_history.specs.Laws.{IsReplyInRange};
 ghost use Rattle.request_text.specs.claim_history.specs.Pools.{member_of};
 ghost use Rattle.entry_text.specs.Entries.{why_name, why_numbers, why_text, spaced, position_text, reply_text, entry_line, entry_text};
 
-use request_text::claim_history::{Entry, PoolEntry, Position, Reply, Why, write_act};
-use request_text::write_pool;
+use request_text::{Entry, PoolEntry, Position, Reply, Why, write_act, write_pool};
 use setoff_model::{Name, put, write_sum, write_whole};
 
 // The number and name of a refusal.

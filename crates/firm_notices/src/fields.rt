@@ -4,7 +4,7 @@ ghost use Rattle.setoff_model.specs.Texts.{cents_text, signed_cents_text};
 ghost use Rattle.claim_book.specs.claim_history.specs.Days.{day_text};
 ghost use Rattle.firm_notices.specs.Notices.{status_text};
 
-use claim_book::claim_history::{Day, Status};
+use claim_book::{Day, Status};
 use setoff_model::{write_cents, write_signed, write_whole};
 use std::alloc::{AllocError, Global};
 

@@ -7,8 +7,7 @@ ghost use Rattle.firm_notices.specs.Positions.{position_fields, positions_text};
 
 use crate::fields::{cents_field, signed_field};
 use crate::table::{new_table, put_row, text_of};
-use claim_book::Book;
-use claim_book::claim_history::{AccountFact, Position};
+use claim_book::{AccountFact, Book, Position};
 use csv::Writer;
 use std::alloc::{AllocError, Global};
 

@@ -4,7 +4,7 @@ ghost use Rattle.csv.specs.Records.{fields_of};
 ghost use Rattle.firm_notices.specs.Invoices.{IsInvoice, HasCause, invoice_names};
 
 use crate::error::RowCause;
-use claim_book::claim_history::{Act, Day};
+use claim_book::{Act, Day};
 use csv::ByteRecord;
 use setoff_model::{Key, Name, read_claim_amount};
 

@@ -9,7 +9,7 @@ ghost use Rattle.firm_notices.specs.Invoices.{invoice_names, IsInvoiceText, IsFi
 use crate::error::{ImportError, RowCause};
 use crate::invoice::{has_names, invoice_of};
 use crate::rows::{next_row, reader_of};
-use claim_book::claim_history::main_pool_name;
+use claim_book::main_pool_name;
 use csv::{ByteRecord, Reader};
 use request_text::write_request;
 use setoff_model::limits::LINE_BYTES;

@@ -17,7 +17,7 @@ mod open_claims;
 mod rows;
 mod table;
 
-pub use claim_book;
+pub use claim_book::Book;
 pub use error::{ImportError, RowCause};
 pub use firms::positions;
 pub use invoices::{filed_invoices_are_read_back, import, invoices_have_one_reading};

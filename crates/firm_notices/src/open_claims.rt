@@ -7,8 +7,7 @@ ghost use Rattle.firm_notices.specs.Notices.{is_open, notice_fields, notices_tex
 
 use crate::fields::{cents_field, day_field, overdue_field, status_field};
 use crate::table::{new_table, put_row, text_of};
-use claim_book::Book;
-use claim_book::claim_history::{ClaimFact, Day, Status};
+use claim_book::{Book, ClaimFact, Day, Status};
 use csv::Writer;
 use std::alloc::{AllocError, Global};
 

@@ -4,9 +4,9 @@ use Rattle.std.specs.List.{All}
 use Rattle.std.proofs.Common.{◌≡◌, ℕ, ◌<◌, List, [], ◌∷◌, length, get_or, refl, sym, ◌∙◌, ap, arith}
 use Rattle.std.proofs.lemmas.List.{length-map, get_or-map}
 use Rattle.std.proofs.lemmas.List.Elements.{All-get_or, All-from_get_or}
-use Rattle.setoff_model.specs.declared.cut.Party.{Party}
-use Rattle.setoff_model.specs.CutView.{spends, rooms}
-use Rattle.setoff_model.proofs.Weighed.{total_of_ones, bound_of_ones}
+use Rattle.residual_state.specs.setoff_model.specs.declared.cut.Party.{Party}
+use Rattle.residual_state.specs.setoff_model.specs.CutView.{spends, rooms}
+use Rattle.residual_state.specs.setoff_model.proofs.Weighed.{total_of_ones, bound_of_ones}
 use Rattle.netting_graph.specs.declared.arc.Arc.{Arc}
 use Rattle.netting_graph.specs.NetView.{NetView, IsNet, IsArcAmong, obligations_of_net, arc_debtors, arc_creditors, arc_amounts}
 use Rattle.residual_state.specs.residual_network.specs.declared.edge.Edge.{Edge}

@@ -4,8 +4,7 @@ ghost use Rattle.residual_state.specs.States.{IsStateOf};
 ghost use Rattle.flow_solver.specs.Starts.{claim_edge, unweighed};
 
 use netting_graph::{Arc, Net};
-use residual_state::residual_network::Edge;
-use residual_state::{State, state_at_start};
+use residual_state::{Edge, State, state_at_start};
 use std::alloc::{AllocError, Global};
 
 /// The state at the beginning of a search on a net, where a cent counts 1 on each arc. The one error is want of memory.

@@ -2,8 +2,8 @@
 use Rattle.std.proofs.Common.{◌≡◌, inl, inr, ⊎_elim, ℕ, ◌+◌, ◌<◌, ◌≤◌, Bool, if◌then◌else◌, nat_le, List, [], ◌∷◌, ◌++◌, length, get_or, sym, ◌∙◌, ap, subst, arith, length-append}
 use Rattle.std.proofs.lemmas.List.{append-nil, flat_map_more, get_or_append_left, get_or_push, take-append-le, take_all}
 use Rattle.std.proofs.lemmas.Bool.{cases_lt, le-leb, lt-leb}
-use Rattle.round_journal.specs.disk_model.specs.Calls.{Seen, Passes}
-use Rattle.limited_book.specs.claim_history.specs.declared.call.Call.{Call}
+use Rattle.disk_model.specs.Calls.{Seen, Passes}
+use Rattle.claim_history.specs.declared.call.Call.{Call}
 use Rattle.group_loader.specs.Groups.{HasGroupMoments, StandsForCalls, StandsForWhole, calls_after, joined}
 
 pub calls_whole : (base : List Call) (groups : List (List Call)) → calls_after base groups (length groups) ≡ base ++ joined groups

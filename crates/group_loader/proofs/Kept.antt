@@ -1,15 +1,15 @@
 -- What a keeping leaves.
 use Rattle.std.proofs.Common.{◌≡◌, inl, inr, ⊎_elim, ℕ, ◌+◌, ◌<◌, ◌≤◌, true, List, [], ◌∷◌, ◌++◌, length, take, drop, All, IsTrue, refl, sym, ◌∙◌, ap, subst, arith}
 use Rattle.std.proofs.lemmas.List.{append-nil, drop_all, map-append, take-append-drop, take_all}
-use Rattle.setoff_model.specs.declared.limits.TheConstants.{MOST_JOURNAL_BYTES}
-use Rattle.limited_book.specs.claim_history.specs.PoolNeeds.{used_bytes_of}
-use Rattle.round_journal.specs.disk_model.specs.Calls.{Seen, IsPresent, Passes}
-use Rattle.round_journal.specs.disk_model.proofs.Moments.{passes_still, passes_wide, present_has}
-use Rattle.limited_book.specs.claim_history.specs.declared.call.Call.{Call}
-use Rattle.limited_book.specs.claim_history.specs.declared.call.PoolEntry.{PoolEntry}
-use Rattle.limited_book.specs.claim_history.specs.Pools.{accepted_calls, call_of}
-use Rattle.limited_book.specs.claim_history.proofs.Calls.{accepted_append}
-use Rattle.limited_book.specs.act_bodies.specs.Bodies.{body_of, is_keepable}
+use Rattle.limited_book.specs.setoff_model.specs.declared.limits.TheConstants.{MOST_JOURNAL_BYTES}
+use Rattle.claim_history.specs.PoolNeeds.{used_bytes_of}
+use Rattle.disk_model.specs.Calls.{Seen, IsPresent, Passes}
+use Rattle.disk_model.proofs.Moments.{passes_still, passes_wide, present_has}
+use Rattle.claim_history.specs.declared.call.Call.{Call}
+use Rattle.claim_history.specs.declared.call.PoolEntry.{PoolEntry}
+use Rattle.claim_history.specs.Pools.{accepted_calls, call_of}
+use Rattle.claim_history.proofs.Calls.{accepted_append}
+use Rattle.act_bodies.specs.Bodies.{body_of, is_keepable}
 use Rattle.limited_book.specs.claim_book.specs.Pools.{BooksView}
 use Rattle.round_journal.specs.Bytes.{StandsFor}
 use Rattle.round_journal.specs.Kept.{JournalView, HoldsMore, IsGroup, IsKept}

@@ -3,19 +3,19 @@ use Rattle.std.proofs.Common.{◌≡◌, ⊎_elim, true≢false, ℕ, ◌+◌, �
 use Rattle.std.proofs.lemmas.List.{drop-append-le, map-append, take-append-le}
 use Rattle.std.proofs.lemmas.List.Elements.{All-push}
 use Rattle.std.proofs.lemmas.Bool.{cases_Bool, false_from_ne_true}
-use Rattle.setoff_model.specs.declared.limits.TheConstants.{MOST_JOURNAL_BYTES}
-use Rattle.round_journal.specs.disk_model.specs.Calls.{Seen}
-use Rattle.limited_book.specs.claim_history.specs.declared.call.Call.{Call}
-use Rattle.limited_book.specs.claim_history.specs.declared.call.PoolEntry.{PoolEntry}
-use Rattle.limited_book.specs.claim_history.specs.declared.entry.Reply.{Reply}
-use Rattle.limited_book.specs.claim_history.specs.Pools.{accepted_calls, answered, call_of, due_of_past, due_reply, state_in}
-use Rattle.limited_book.specs.claim_history.specs.PoolNeeds.{is_full, own_bytes, used_bytes_of}
-use Rattle.limited_book.specs.claim_history.specs.History.{is_no_refusal, is_opening, replied}
-use Rattle.limited_book.specs.claim_history.specs.Acts.{is_close}
-use Rattle.limited_book.specs.claim_history.proofs.Replies.{opens}
-use Rattle.limited_book.specs.claim_history.proofs.Calls.{accepted_more, accepted_same}
-use Rattle.limited_book.specs.claim_history.proofs.PoolRoom.{accepted_owns, due_is, full_law, use_law}
-use Rattle.limited_book.specs.act_bodies.specs.Bodies.{body_of, is_keepable}
+use Rattle.limited_book.specs.setoff_model.specs.declared.limits.TheConstants.{MOST_JOURNAL_BYTES}
+use Rattle.disk_model.specs.Calls.{Seen}
+use Rattle.claim_history.specs.declared.call.Call.{Call}
+use Rattle.claim_history.specs.declared.call.PoolEntry.{PoolEntry}
+use Rattle.claim_history.specs.declared.entry.Reply.{Reply}
+use Rattle.claim_history.specs.Pools.{accepted_calls, answered, call_of, due_of_past, due_reply, state_in}
+use Rattle.claim_history.specs.PoolNeeds.{is_full, own_bytes, used_bytes_of}
+use Rattle.claim_history.specs.History.{is_no_refusal, is_opening, replied}
+use Rattle.claim_history.specs.Acts.{is_close}
+use Rattle.claim_history.proofs.Replies.{opens}
+use Rattle.claim_history.proofs.Calls.{accepted_more, accepted_same}
+use Rattle.claim_history.proofs.PoolRoom.{accepted_owns, due_is, full_law, use_law}
+use Rattle.act_bodies.specs.Bodies.{body_of, is_keepable}
 use Rattle.limited_book.specs.claim_book.specs.Pools.{BooksView}
 use Rattle.round_journal.specs.Kept.{IsGroup}
 use Rattle.round_journal.specs.Records.{bodies_of_calls}

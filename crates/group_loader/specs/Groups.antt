@@ -1,8 +1,8 @@
 -- What a crash may leave of calls that are kept in groups.
 use Rattle.std.specs.Prelude.{◌≡◌, ◌⊎◌, ◌+◌, ◌<◌, ◌≤◌, ℕ, List, [], ◌++◌, length, take, get_or}
 use Rattle.std.specs.List.{flat_map}
-use Rattle.round_journal.specs.disk_model.specs.Calls.{Seen}
-use Rattle.limited_book.specs.claim_history.specs.declared.call.Call.{Call}
+use Rattle.disk_model.specs.Calls.{Seen}
+use Rattle.claim_history.specs.declared.call.Call.{Call}
 use Rattle.round_journal.specs.Bytes.{StandsFor}
 use Rattle.round_journal.specs.Records.{bodies_of_calls}
 

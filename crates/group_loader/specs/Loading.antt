@@ -1,13 +1,13 @@
 -- What a load keeps of its journal and its books.
 use Rattle.std.specs.Prelude.{◌≡◌, ◌+◌, ◌≤◌, ℕ, true, List, [], ◌∷◌, ◌++◌, length, take, drop, All, IsTrue}
-use Rattle.setoff_model.specs.declared.limits.TheConstants.{MOST_JOURNAL_BYTES}
-use Rattle.round_journal.specs.disk_model.specs.Calls.{Seen, IsPresent, Passes}
-use Rattle.limited_book.specs.claim_history.specs.declared.call.Call.{Call}
-use Rattle.limited_book.specs.claim_history.specs.declared.call.PoolEntry.{PoolEntry}
-use Rattle.limited_book.specs.claim_history.specs.PoolNeeds.{call_bytes, used_bytes_of}
-use Rattle.limited_book.specs.claim_history.specs.Pools.{accepted_calls, call_of}
+use Rattle.limited_book.specs.setoff_model.specs.declared.limits.TheConstants.{MOST_JOURNAL_BYTES}
+use Rattle.disk_model.specs.Calls.{Seen, IsPresent, Passes}
+use Rattle.claim_history.specs.declared.call.Call.{Call}
+use Rattle.claim_history.specs.declared.call.PoolEntry.{PoolEntry}
+use Rattle.claim_history.specs.PoolNeeds.{call_bytes, used_bytes_of}
+use Rattle.claim_history.specs.Pools.{accepted_calls, call_of}
 use Rattle.limited_book.specs.claim_book.specs.Pools.{BooksView}
-use Rattle.limited_book.specs.act_bodies.specs.Bodies.{body_of, is_keepable}
+use Rattle.act_bodies.specs.Bodies.{body_of, is_keepable}
 use Rattle.round_journal.specs.Bytes.{Header}
 use Rattle.round_journal.specs.Kept.{JournalView, IsGroup, IsKept}
 use Rattle.round_journal.specs.Records.{bodies_of_calls}

@@ -1,21 +1,20 @@
 //! A load.
 ghost use Rattle.std.specs.Prelude.{◌≡◌, ◌+◌, ◌<◌, ◌≤◌, ◌++◌, ◌∷◌, [], length, true, false, All, IsTrue, IfOk, IfErr, OnOk, OnErr, vec_capacity};
-ghost use Rattle.limited_book.specs.claim_history.specs.Acts.{is_valid, is_publication, is_close};
-ghost use Rattle.limited_book.specs.claim_history.specs.History.{is_no_refusal};
-ghost use Rattle.limited_book.specs.claim_history.specs.Pools.{AreValid, IsLegal, accepted_calls, answered, call_of, due_reply};
-ghost use Rattle.limited_book.specs.claim_history.specs.Needs.{body_length_of};
-ghost use Rattle.limited_book.specs.claim_history.specs.PoolNeeds.{IsWithinLimits, is_full, pool_bytes, used_bytes_of};
+ghost use Rattle.claim_history.specs.Acts.{is_valid, is_publication, is_close};
+ghost use Rattle.claim_history.specs.History.{is_no_refusal};
+ghost use Rattle.claim_history.specs.Pools.{AreValid, IsLegal, accepted_calls, answered, call_of, due_reply};
+ghost use Rattle.claim_history.specs.Needs.{body_length_of};
+ghost use Rattle.claim_history.specs.PoolNeeds.{IsWithinLimits, is_full, pool_bytes, used_bytes_of};
 ghost use Rattle.limited_book.specs.Limited.{IsFull};
 ghost use Rattle.round_journal.specs.Appends.{IsFaultOf};
-ghost use Rattle.limited_book.specs.act_bodies.specs.Bodies.{is_keepable};
+ghost use Rattle.act_bodies.specs.Bodies.{is_keepable};
 ghost use Rattle.group_loader.specs.Groups.{HasGroupMoments};
 ghost use Rattle.group_loader.specs.Loading.{HasKept, HasStopped, Holding, IsLoadError, KeepsCalls, kept_calls, pending_calls};
 
-use limited_book::act_bodies::{body_length, encode};
-use limited_book::claim_book::Books;
-use limited_book::claim_history::{Call, Entry, Reply};
-use limited_book::{Full, LimitedBooks};
-use round_journal::disk_model::Disk;
+use act_bodies::{body_length, encode};
+use claim_history::{Call, Entry, Reply};
+use disk_model::Disk;
+use limited_book::{Books, Full, LimitedBooks};
 use round_journal::{Device, Group, Journal};
 use std::alloc::{AllocError, Global};
 use std::marker::Model;

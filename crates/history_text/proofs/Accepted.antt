@@ -9,25 +9,25 @@ use Rattle.std.proofs.lemmas.List.Elements.{All-nil, All-cons, All-head, All-tai
 use Rattle.std.proofs.lemmas.List.Folds.{list_any-append}
 use Rattle.std.proofs.lemmas.Option.{same_Some, slice_get-get_or}
 use Rattle.std.proofs.Math.Seq.{get_or-append_seam, take-append_seam}
-use Rattle.printed_text.specs.claim_history.specs.declared.act.Act.{Act}
-use Rattle.printed_text.specs.claim_history.specs.declared.act.Act.TheVariants as act
-use Rattle.printed_text.specs.claim_history.specs.declared.call.PoolEntry.{PoolEntry}
-use Rattle.printed_text.specs.claim_history.specs.declared.entry.Entry.{Entry}
-use Rattle.printed_text.specs.claim_history.specs.declared.entry.Reply.{Reply}
-use Rattle.printed_text.specs.claim_history.specs.declared.entry.Reply.TheVariants as reply
-use Rattle.printed_text.specs.claim_history.specs.Acts.{is_abandonment, is_publication}
-use Rattle.printed_text.specs.claim_history.specs.States.{OpenRound, State, number_of, state, state_of}
-use Rattle.printed_text.specs.claim_history.specs.History as one
-use Rattle.printed_text.specs.claim_history.specs.History.{is_accepted, is_no_refusal}
-use Rattle.printed_text.specs.claim_history.specs.Rounds.{ends_round, has_end, open_cut_of}
-use Rattle.printed_text.specs.claim_history.specs.Pools.{IsLegal, accepted_members, entries_in}
-use Rattle.printed_text.specs.claim_history.specs.PoolRounds.{open_cut_in}
-use Rattle.printed_text.specs.claim_history.proofs.Kept.{kept_append, kept_reverse, kept_step, replayed_past, same_state}
-use Rattle.printed_text.specs.claim_history.proofs.Agreement.{cut_law}
-use Rattle.printed_text.specs.claim_history.proofs.Greatest.{greatest_law}
-use Rattle.printed_text.specs.claim_history.proofs.Open.{open_law}
-use Rattle.printed_text.specs.claim_history.proofs.Pasts.{legal_first}
-use Rattle.printed_text.specs.claim_history.proofs.Pools.{in_append, in_reverse, legal_in, past_own}
+use Rattle.claim_history.specs.declared.act.Act.{Act}
+use Rattle.claim_history.specs.declared.act.Act.TheVariants as act
+use Rattle.claim_history.specs.declared.call.PoolEntry.{PoolEntry}
+use Rattle.claim_history.specs.declared.entry.Entry.{Entry}
+use Rattle.claim_history.specs.declared.entry.Reply.{Reply}
+use Rattle.claim_history.specs.declared.entry.Reply.TheVariants as reply
+use Rattle.claim_history.specs.Acts.{is_abandonment, is_publication}
+use Rattle.claim_history.specs.States.{OpenRound, State, number_of, state, state_of}
+use Rattle.claim_history.specs.History as one
+use Rattle.claim_history.specs.History.{is_accepted, is_no_refusal}
+use Rattle.claim_history.specs.Rounds.{ends_round, has_end, open_cut_of}
+use Rattle.claim_history.specs.Pools.{IsLegal, accepted_members, entries_in}
+use Rattle.claim_history.specs.PoolRounds.{open_cut_in}
+use Rattle.claim_history.proofs.Kept.{kept_append, kept_reverse, kept_step, replayed_past, same_state}
+use Rattle.claim_history.proofs.Agreement.{cut_law}
+use Rattle.claim_history.proofs.Greatest.{greatest_law}
+use Rattle.claim_history.proofs.Open.{open_law}
+use Rattle.claim_history.proofs.Pasts.{legal_first}
+use Rattle.claim_history.proofs.Pools.{in_append, in_reverse, legal_in, past_own}
 use Rattle.setoff_model.specs.CutView.{CutView, OutcomeView}
 use Rattle.setoff_model.proofs.SameNames.{name_same}
 use Rattle.printed_text.specs.entry_text.specs.Entries.{entry_line}

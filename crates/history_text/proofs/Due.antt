@@ -2,9 +2,9 @@
 use Rattle.std.specs.Prelude.{Option}
 use Rattle.std.proofs.Common.{◌≡◌, ℕ, Bool, true, List, ◌++◌, subst}
 use Rattle.std.specs.Io.KnownBytes.{Appends}
-use Rattle.printed_text.specs.bureau_edge.specs.Streams.{AppendsPart}
-use Rattle.printed_text.specs.bureau_edge.proofs.Known.{Appends-then, AppendsPart-after}
-use Rattle.printed_text.specs.claim_history.specs.declared.call.PoolEntry.{PoolEntry}
+use Rattle.bureau_edge.specs.Streams.{AppendsPart}
+use Rattle.bureau_edge.proofs.Known.{Appends-then, AppendsPart-after}
+use Rattle.claim_history.specs.declared.call.PoolEntry.{PoolEntry}
 use Rattle.printed_text.specs.declared.exit_status.ExitStatus.{ExitStatus}
 use Rattle.printed_text.specs.declared.exit_status.ExitStatus.TheVariants as statuses
 use Rattle.printed_text.specs.Texts.{memory_text}

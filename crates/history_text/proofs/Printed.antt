@@ -5,13 +5,13 @@ use Rattle.std.specs.Io.KnownBytes.{Appends}
 use Rattle.std.proofs.lemmas.List.{append-nil, append_cancel_right}
 use Rattle.std.proofs.lemmas.Option.{slice_get-get_or, slice_get_within}
 use Rattle.setoff_model.specs.CutView.{CutView}
-use Rattle.printed_text.specs.bureau_edge.specs.Streams.{AppendsPart}
-use Rattle.printed_text.specs.claim_history.specs.declared.call.PoolEntry.{PoolEntry}
-use Rattle.printed_text.specs.claim_history.specs.declared.act.Act.{Act}
-use Rattle.printed_text.specs.claim_history.specs.declared.act.Act.TheVariants as act
-use Rattle.printed_text.specs.claim_history.specs.declared.entry.Reply.TheVariants as reply
-use Rattle.printed_text.specs.claim_history.specs.Pools.{main_pool, member_of}
-use Rattle.printed_text.specs.claim_history.specs.PoolRounds.{open_cut_in}
+use Rattle.bureau_edge.specs.Streams.{AppendsPart}
+use Rattle.claim_history.specs.declared.call.PoolEntry.{PoolEntry}
+use Rattle.claim_history.specs.declared.act.Act.{Act}
+use Rattle.claim_history.specs.declared.act.Act.TheVariants as act
+use Rattle.claim_history.specs.declared.entry.Reply.TheVariants as reply
+use Rattle.claim_history.specs.Pools.{main_pool, member_of}
+use Rattle.claim_history.specs.PoolRounds.{open_cut_in}
 use Rattle.printed_text.specs.entry_text.specs.Entries.{entry_line}
 use Rattle.printed_text.specs.Printing.{IsPrintableAt, added_text, member_text, statement_of}
 use Rattle.printed_text.specs.Writing.{GoesThrough}

@@ -4,20 +4,20 @@ use Rattle.std.proofs.Common.{◌≡◌, ◌∙◌, ℕ, ◌+◌, ◌≤◌, ◌
 use Rattle.setoff_model.specs.declared.kind.Kind.{Kind}
 use Rattle.setoff_model.specs.CutView.{CutView}
 use Rattle.setoff_model.specs.declared.limits.TheConstants.{MOST_ROUNDS}
-use Rattle.printed_text.specs.claim_history.specs.declared.call.PoolEntry.{PoolEntry}
-use Rattle.printed_text.specs.claim_history.specs.declared.entry.Entry.{Entry}
-use Rattle.printed_text.specs.claim_history.specs.declared.act.Act.TheVariants as act
-use Rattle.printed_text.specs.claim_history.specs.declared.entry.Reply.{Reply}
-use Rattle.printed_text.specs.claim_history.specs.declared.entry.Reply.TheVariants as reply
-use Rattle.printed_text.specs.claim_history.specs.Acts.{is_close}
-use Rattle.printed_text.specs.claim_history.specs.Cut.{cut_of}
-use Rattle.printed_text.specs.claim_history.specs.History.{IsReply, is_opening, last_count}
-use Rattle.printed_text.specs.claim_history.specs.States.{state_of}
-use Rattle.printed_text.specs.claim_history.specs.Pools.{IsLegal, IsLegalPast, MayFollow, call_of, entries_in, entries_of, ledger_in, state_in}
-use Rattle.printed_text.specs.claim_history.specs.PoolRounds.{IsCutDue}
-use Rattle.printed_text.specs.claim_history.proofs.Pasts.{reverse_parts}
-use Rattle.printed_text.specs.claim_history.proofs.PoolRoom.{due_is}
-use Rattle.printed_text.specs.claim_history.proofs.Replies.{IsOpening, opens}
+use Rattle.claim_history.specs.declared.call.PoolEntry.{PoolEntry}
+use Rattle.claim_history.specs.declared.entry.Entry.{Entry}
+use Rattle.claim_history.specs.declared.act.Act.TheVariants as act
+use Rattle.claim_history.specs.declared.entry.Reply.{Reply}
+use Rattle.claim_history.specs.declared.entry.Reply.TheVariants as reply
+use Rattle.claim_history.specs.Acts.{is_close}
+use Rattle.claim_history.specs.Cut.{cut_of}
+use Rattle.claim_history.specs.History.{IsReply, is_opening, last_count}
+use Rattle.claim_history.specs.States.{state_of}
+use Rattle.claim_history.specs.Pools.{IsLegal, IsLegalPast, MayFollow, call_of, entries_in, entries_of, ledger_in, state_in}
+use Rattle.claim_history.specs.PoolRounds.{IsCutDue}
+use Rattle.claim_history.proofs.Pasts.{reverse_parts}
+use Rattle.claim_history.proofs.PoolRoom.{due_is}
+use Rattle.claim_history.proofs.Replies.{IsOpening, opens}
 use Rattle.printed_text.proofs.Members.{one_more, whole}
 use Rattle.history_text.specs.Histories.{AreFirst}
 

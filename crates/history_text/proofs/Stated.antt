@@ -6,17 +6,17 @@ use Rattle.std.proofs.lemmas.List.{take-map}
 use Rattle.std.proofs.lemmas.List.Quantifiers.{position-Some}
 use Rattle.std.proofs.lemmas.Option.{slice_get-get_or}
 use Rattle.setoff_model.specs.CutView.{CutView}
-use Rattle.printed_text.specs.claim_history.specs.declared.act.Act.{Act}
-use Rattle.printed_text.specs.claim_history.specs.declared.act.Act.TheVariants as act
-use Rattle.printed_text.specs.claim_history.specs.declared.call.PoolEntry.{PoolEntry}
-use Rattle.printed_text.specs.claim_history.specs.declared.entry.Entry.{Entry}
-use Rattle.printed_text.specs.claim_history.specs.declared.entry.Reply.{Reply}
-use Rattle.printed_text.specs.claim_history.specs.declared.entry.Reply.TheVariants as reply
-use Rattle.printed_text.specs.claim_history.specs.States.{OpenRound}
-use Rattle.printed_text.specs.claim_history.specs.Rounds.{open_cut_of}
-use Rattle.printed_text.specs.claim_history.specs.Pools.{AreValid, IsLegal, entries_in, main_pool, member_of}
-use Rattle.printed_text.specs.claim_history.specs.PoolRounds.{cuts_after, open_cut_in}
-use Rattle.printed_text.specs.claim_history.proofs.Pools.{main_law}
+use Rattle.claim_history.specs.declared.act.Act.{Act}
+use Rattle.claim_history.specs.declared.act.Act.TheVariants as act
+use Rattle.claim_history.specs.declared.call.PoolEntry.{PoolEntry}
+use Rattle.claim_history.specs.declared.entry.Entry.{Entry}
+use Rattle.claim_history.specs.declared.entry.Reply.{Reply}
+use Rattle.claim_history.specs.declared.entry.Reply.TheVariants as reply
+use Rattle.claim_history.specs.States.{OpenRound}
+use Rattle.claim_history.specs.Rounds.{open_cut_of}
+use Rattle.claim_history.specs.Pools.{AreValid, IsLegal, entries_in, main_pool, member_of}
+use Rattle.claim_history.specs.PoolRounds.{cuts_after, open_cut_in}
+use Rattle.claim_history.proofs.Pools.{main_law}
 use Rattle.printed_text.specs.declared.exit_status.ExitStatus.TheVariants as statuses
 use Rattle.printed_text.specs.Printing.{IsPrintable, IsPrintableAt, statement_of}
 use Rattle.printed_text.proofs.Members.{published_at}

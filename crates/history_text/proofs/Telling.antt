@@ -4,11 +4,11 @@ use Rattle.std.specs.Option.{option_map}
 use Rattle.std.proofs.Common.{◌≡◌, ◌∙◌, ℕ, ◌<◌, List, [], ◌∷◌, get_or, map, length, refl, sym, ap, subst, arith}
 use Rattle.std.proofs.lemmas.List.{length-map}
 use Rattle.std.proofs.lemmas.Option.{slice_get-get_or, slice_get-map}
-use Rattle.printed_text.specs.claim_history.specs.declared.call.PoolEntry.{PoolEntry}
-use Rattle.printed_text.specs.claim_history.specs.declared.entry.Entry.{Entry}
-use Rattle.printed_text.specs.claim_history.specs.History as one
-use Rattle.printed_text.specs.claim_history.specs.Pools.{AreValid, IsLegal, entries_in, entries_of, main_pool, member_of}
-use Rattle.printed_text.specs.claim_history.proofs.Pools.{legal_in, main_law, valid_in}
+use Rattle.claim_history.specs.declared.call.PoolEntry.{PoolEntry}
+use Rattle.claim_history.specs.declared.entry.Entry.{Entry}
+use Rattle.claim_history.specs.History as one
+use Rattle.claim_history.specs.Pools.{AreValid, IsLegal, entries_in, entries_of, main_pool, member_of}
+use Rattle.claim_history.proofs.Pools.{legal_in, main_law, valid_in}
 use Rattle.history_text.specs.Histories.{told_members}
 
 own_entries : (es : List Entry) → entries_of (map (member_of main_pool) es) ≡ es

@@ -1,9 +1,9 @@
 -- What is kept of a history: its accepted members, with the replies that they had, and how they are told.
 use Rattle.std.specs.Prelude.{◌≡◌, ℕ, true, List, [], ◌∷◌, ◌++◌, if◌then◌else◌}
-use Rattle.printed_text.specs.claim_history.specs.declared.call.PoolEntry.{PoolEntry}
-use Rattle.printed_text.specs.claim_history.specs.History.{is_accepted}
-use Rattle.printed_text.specs.claim_history.specs.Pools.{IsLegal, accepted_calls, accepted_members, replay_of}
-use Rattle.printed_text.specs.claim_history.specs.PoolRounds.{open_cut_in}
+use Rattle.claim_history.specs.declared.call.PoolEntry.{PoolEntry}
+use Rattle.claim_history.specs.History.{is_accepted}
+use Rattle.claim_history.specs.Pools.{IsLegal, accepted_calls, accepted_members, replay_of}
+use Rattle.claim_history.specs.PoolRounds.{open_cut_in}
 use Rattle.printed_text.specs.Printing.{added_text, member_text, statement_of}
 use Rattle.history_text.specs.Histories.{IsRoundText, publishes_round}
 

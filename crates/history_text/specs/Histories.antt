@@ -1,14 +1,14 @@
 -- What a history comes to as text: the entries of all pools or of one, and the statement of one round.
 use Rattle.std.specs.Prelude.{◌≡◌, ℕ, Bool, true, false, ◌==◌, List, [], ◌++◌, ◌≤◌, length, map, take, drop, position, slice_get, is_some, codes, decimal, Option, Some, None, if◌then◌else◌}
 use Rattle.std.specs.Io.KnownBytes.{Appends}
-use Rattle.printed_text.specs.claim_history.specs.declared.act.Act.{Act}
-use Rattle.printed_text.specs.claim_history.specs.declared.act.Act.TheVariants as act
-use Rattle.printed_text.specs.claim_history.specs.declared.call.PoolEntry.{PoolEntry}
-use Rattle.printed_text.specs.claim_history.specs.declared.entry.Entry.{Entry}
-use Rattle.printed_text.specs.claim_history.specs.declared.entry.Reply.{Reply}
-use Rattle.printed_text.specs.claim_history.specs.declared.entry.Reply.TheVariants as reply
-use Rattle.printed_text.specs.claim_history.specs.Pools.{entries_in, main_pool, member_of}
-use Rattle.printed_text.specs.claim_history.specs.Rounds.{open_cut_of}
+use Rattle.claim_history.specs.declared.act.Act.{Act}
+use Rattle.claim_history.specs.declared.act.Act.TheVariants as act
+use Rattle.claim_history.specs.declared.call.PoolEntry.{PoolEntry}
+use Rattle.claim_history.specs.declared.entry.Entry.{Entry}
+use Rattle.claim_history.specs.declared.entry.Reply.{Reply}
+use Rattle.claim_history.specs.declared.entry.Reply.TheVariants as reply
+use Rattle.claim_history.specs.Pools.{entries_in, main_pool, member_of}
+use Rattle.claim_history.specs.Rounds.{open_cut_of}
 use Rattle.printed_text.specs.declared.exit_status.ExitStatus.{ExitStatus}
 use Rattle.printed_text.specs.declared.exit_status.ExitStatus.TheVariants as statuses
 use Rattle.printed_text.specs.Printing.{added_text, statement_of}

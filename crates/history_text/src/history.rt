@@ -2,12 +2,12 @@
 ghost use Rattle.std.specs.Prelude.{ℕ, ◌≡◌, ◌<◌, ◌≤◌, ◌++◌, ◌∷◌, [], true, is_some, Some, OnErr, OnOk, IfOk, length, slice_get, take, vec_capacity};
 ghost use Rattle.setoff_model.specs.declared.limits.TheConstants.{OUTPUT_BYTES};
 ghost use Rattle.setoff_model.specs.CutView.{CutView};
-ghost use Rattle.printed_text.specs.bureau_edge.specs.Streams.{AppendsPart, CountsFaults};
-ghost use Rattle.printed_text.specs.claim_history.specs.declared.entry.Reply.TheVariants as reply;
-ghost use Rattle.printed_text.specs.claim_history.specs.Acts.{is_valid};
-ghost use Rattle.printed_text.specs.claim_history.specs.Laws.{IsReplyInRange};
-ghost use Rattle.printed_text.specs.claim_history.specs.Pools.{member_of};
-ghost use Rattle.printed_text.specs.claim_history.specs.PoolRounds.{open_cut_in};
+ghost use Rattle.bureau_edge.specs.Streams.{AppendsPart, CountsFaults};
+ghost use Rattle.claim_history.specs.declared.entry.Reply.TheVariants as reply;
+ghost use Rattle.claim_history.specs.Acts.{is_valid};
+ghost use Rattle.claim_history.specs.Laws.{IsReplyInRange};
+ghost use Rattle.claim_history.specs.Pools.{member_of};
+ghost use Rattle.claim_history.specs.PoolRounds.{open_cut_in};
 ghost use Rattle.printed_text.specs.declared.exit_status.ExitStatus.TheVariants as statuses;
 ghost use Rattle.printed_text.specs.entry_text.specs.Entries.{entry_line};
 ghost use Rattle.printed_text.specs.Printing.{IsPrintableAt, member_text, statement_of};
@@ -18,10 +18,9 @@ ghost use Rattle.history_text.specs.Histories.{AreFirst, HasPrinted, HasTold, Ha
 
 use crate::replaying::{open_cut, replay_to};
 use crate::told::{Told, told_at, told_len};
-use printed_text::bureau_edge::{Failed, Sink};
-use printed_text::claim_book::Books;
-use printed_text::claim_history::{Entry, Reply};
-use printed_text::{ExitStatus, flush, print_member, tell_no_memory};
+use bureau_edge::{Failed, Sink};
+use claim_history::{Entry, Reply};
+use printed_text::{Books, ExitStatus, flush, print_member, tell_no_memory};
 use setoff_model::{Cut, Name};
 use std::alloc::{AllocError, Global};
 

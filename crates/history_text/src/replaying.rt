@@ -1,16 +1,16 @@
 //! The replay of entries that were replied to.
 ghost use Rattle.std.specs.Prelude.{◌≡◌, ◌≤◌, ◌++◌, ◌∷◌, [], OnOk, IfOk, Some, is_some, true, false, length, take};
 ghost use Rattle.setoff_model.specs.CutView.{CutView};
-ghost use Rattle.printed_text.specs.claim_history.specs.declared.entry.Reply.TheVariants as reply;
-ghost use Rattle.printed_text.specs.claim_history.specs.Acts.{is_close, is_valid, is_publication};
-ghost use Rattle.printed_text.specs.claim_history.specs.History.{is_opening};
-ghost use Rattle.printed_text.specs.claim_history.specs.Pools.{MayFollow, member_of};
-ghost use Rattle.printed_text.specs.claim_history.specs.PoolRounds.{open_cut_in};
+ghost use Rattle.claim_history.specs.declared.entry.Reply.TheVariants as reply;
+ghost use Rattle.claim_history.specs.Acts.{is_close, is_valid, is_publication};
+ghost use Rattle.claim_history.specs.History.{is_opening};
+ghost use Rattle.claim_history.specs.Pools.{MayFollow, member_of};
+ghost use Rattle.claim_history.specs.PoolRounds.{open_cut_in};
 ghost use Rattle.history_text.specs.Histories.{AreFirst, told_members};
 
 use crate::told::{told_at, told_len};
-use printed_text::claim_book::Books;
-use printed_text::claim_history::{Act, Entry, Reply};
+use claim_history::{Act, Entry, Reply};
+use printed_text::Books;
 use setoff_model::{Cut, Name};
 use std::alloc::{AllocError, Global};
 use std::slice::from_ref;

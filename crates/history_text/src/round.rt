@@ -2,7 +2,7 @@
 ghost use Rattle.std.specs.Prelude.{◌≡◌, ◌+◌, ◌≤◌, ◌++◌, [], OnOk, OnErr, Some, position, slice_get, vec_len, vec_capacity, true};
 ghost use Rattle.setoff_model.specs.declared.limits.TheConstants.{LINE_BYTES, OUTPUT_BYTES};
 ghost use Rattle.std.specs.Io.KnownBytes.{Appends};
-ghost use Rattle.printed_text.specs.bureau_edge.specs.Streams.{AppendsPart, CountsFaults};
+ghost use Rattle.bureau_edge.specs.Streams.{AppendsPart, CountsFaults};
 ghost use Rattle.printed_text.specs.declared.exit_status.ExitStatus.TheVariants as statuses;
 ghost use Rattle.printed_text.specs.Printing.{IsPrintableAt, statement_of};
 ghost use Rattle.printed_text.specs.Statuses.{TellsSinkFault};
@@ -10,10 +10,9 @@ ghost use Rattle.printed_text.specs.Writing.{IsWritten, Wrote};
 ghost use Rattle.history_text.specs.Histories.{IsRoundDue, no_round_text, publication_place, publishes_round, was_published};
 
 use crate::replaying::{open_cut, replay_to};
-use printed_text::bureau_edge::{Failed, Sink};
-use printed_text::claim_book::Books;
-use printed_text::claim_history::{Act, Entry, Reply, main_pool_name};
-use printed_text::{ExitStatus, end_with, flush, print_publication, tell_no_memory};
+use bureau_edge::{Failed, Sink};
+use claim_history::{Act, Entry, Reply, main_pool_name};
+use printed_text::{Books, ExitStatus, end_with, flush, print_publication, tell_no_memory};
 use setoff_model::{Cut, Name, put, write_whole};
 use std::alloc::Global;
 

@@ -1,10 +1,10 @@
 //! The members of a history that are told.
 ghost use Rattle.std.specs.Prelude.{◌≡◌, ◌^◌, ◌<◌, length, slice_get, Some};
-ghost use Rattle.printed_text.specs.claim_history.specs.Pools.{AreValid, IsLegal, member_of};
+ghost use Rattle.claim_history.specs.Pools.{AreValid, IsLegal, member_of};
 ghost use Rattle.history_text.specs.Histories.{told_members};
 
-use printed_text::claim_book::Books;
-use printed_text::claim_history::{Entry, each_pool_has_its_history, main_pool_name};
+use claim_history::{Entry, each_pool_has_its_history, main_pool_name};
+use printed_text::Books;
 use setoff_model::Name;
 
 /// How much of a text was printed.

@@ -4,7 +4,7 @@ use Rattle.input_front.specs.declared.intake.TheConstants.{PIECE}
 use Rattle.setoff_model.specs.declared.limits.TheConstants.{MOST_INPUT_BYTES}
 use Rattle.std.specs.Io.KnownBytes.{Consumes, IsAtEnd, Keeps}
 use Rattle.std.specs.Str.Lines.{lines}
-use Rattle.fault_count.specs.Counts.{HasRisen}
+use Rattle.request_text.specs.fault_count.specs.Counts.{HasRisen}
 use Rattle.request_text.specs.declared.error.LineCause.{LineCause}
 use Rattle.request_text.specs.declared.request.Request.{Request}
 use Rattle.request_text.specs.Grammar.{AreBatches, CanBeAsked, IsFirstBadLine, IsRequestText}

@@ -15,7 +15,7 @@ mod intake;
 mod line;
 
 pub use alone::read_alone;
-pub use bureau_edge;
+pub use bureau_edge::Source;
 pub use intake::{Intake, More, PIECE};
 pub use line::Line;
 

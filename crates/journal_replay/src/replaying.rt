@@ -10,8 +10,7 @@ ghost use Rattle.round_journal.specs.Records.{AreKeepable};
 ghost use Rattle.journal_replay.specs.Replays.{history_of, recorded_call, AreSound, StopsFirst, Tells, IsReplayed};
 
 use crate::replay_stop::ReplayStop;
-use limited_book::LimitedBooks;
-use limited_book::claim_history::{Act, Call, Entry, Reply};
+use limited_book::{Act, Call, Entry, LimitedBooks, Reply};
 use round_journal::Record;
 use std::alloc::Global;
 

@@ -4,9 +4,7 @@ ghost use Rattle.act_bodies.specs.Bodies.{is_keepable};
 ghost use Rattle.round_journal.specs.Records.{AreKeepable, recorded_call};
 
 use crate::made::{day, in_east, in_main, name};
-use bureau_desk::claim_book::Book;
-use bureau_desk::journal_replay::{ReplayStop, replay};
-use bureau_desk::limited_book::LimitedBooks;
+use bureau_desk::{Book, LimitedBooks, ReplayStop, replay};
 use claim_history::{Act, Call, Day, Position, Reply, Why, main_pool_name};
 use round_journal::Record;
 use setoff_model::{Key, Kind, Name, Outcome};

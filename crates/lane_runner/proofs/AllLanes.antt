@@ -7,11 +7,11 @@ use Rattle.shared_bureau.specs.disk_model.specs.Calls.{Seen}
 use Rattle.shared_bureau.specs.claim_history.specs.declared.call.PoolEntry.{PoolEntry}
 use Rattle.shared_bureau.specs.claim_history.proofs.Pasts.{all_reverse}
 use Rattle.served_lines.specs.request_text.specs.declared.request.Request.{Request}
-use Rattle.shared_bureau.specs.turn_lock.specs.declared.view.View.{View}
-use Rattle.shared_bureau.specs.turn_lock.specs.declared.turn.Seat.{Seat}
-use Rattle.shared_bureau.specs.turn_lock.specs.declared.turn.Turn.{Turn}
-use Rattle.shared_bureau.specs.turn_lock.specs.Turns.{EachOf}
-use Rattle.shared_bureau.specs.turn_lock.specs.Seats.{number}
+use Rattle.turn_lock.specs.declared.view.View.{View}
+use Rattle.turn_lock.specs.declared.turn.Seat.{Seat}
+use Rattle.turn_lock.specs.declared.turn.Turn.{Turn}
+use Rattle.turn_lock.specs.Turns.{EachOf}
+use Rattle.turn_lock.specs.Seats.{number}
 use Rattle.shared_bureau.specs.bureau_desk.specs.declared.base.DeskBase.{DeskBase}
 use Rattle.shared_bureau.specs.bureau_desk.specs.Desks.{DeskView}
 use Rattle.shared_bureau.specs.Adding.{IsReady}

@@ -7,8 +7,8 @@ use Rattle.shared_bureau.specs.claim_history.specs.declared.call.PoolEntry.{Pool
 use Rattle.shared_bureau.specs.claim_history.specs.PoolRounds.{cuts_after}
 use Rattle.shared_bureau.specs.recorded_book.specs.Moments.{HeldSince}
 use Rattle.served_lines.specs.request_text.specs.declared.request.Request.{Request}
-use Rattle.shared_bureau.specs.turn_lock.specs.declared.view.View.{View}
-use Rattle.shared_bureau.specs.turn_lock.specs.Turns.{IsRegistrarOf}
+use Rattle.turn_lock.specs.declared.view.View.{View}
+use Rattle.turn_lock.specs.Turns.{IsRegistrarOf}
 use Rattle.shared_bureau.specs.bureau_desk.specs.declared.base.DeskBase.{DeskBase}
 use Rattle.shared_bureau.specs.bureau_desk.specs.Desks.{DeskView, KeepsDesk, base_cleared, base_of}
 use Rattle.served_lines.specs.declared.answer.Answer.{Answer}

@@ -1,8 +1,8 @@
 -- What a lane does.
 use Rattle.std.specs.Prelude.{◌≡◌, ◌<◌, ℕ, List, length, slice_index_or}
 use Rattle.shared_bureau.specs.claim_history.specs.declared.call.PoolEntry.{PoolEntry}
-use Rattle.shared_bureau.specs.turn_lock.specs.declared.turn.Turn.{Turn}
-use Rattle.shared_bureau.specs.turn_lock.specs.Seats.{number}
+use Rattle.turn_lock.specs.declared.turn.Turn.{Turn}
+use Rattle.turn_lock.specs.Seats.{number}
 use Rattle.served_lines.specs.request_text.specs.declared.request.Request.{Request}
 use Rattle.shared_bureau.specs.bureau_desk.specs.declared.base.DeskBase.{DeskBase}
 use Rattle.shared_bureau.specs.bureau_desk.specs.Desks.{DeskView}

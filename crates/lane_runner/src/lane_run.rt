@@ -8,10 +8,8 @@ use crate::gate::Gate;
 use crate::lane::Lane;
 use crate::line::serve;
 use crate::service::Service;
-use served_lines::request_text::Request;
-use shared_bureau::Pause;
-use shared_bureau::disk_model::Disk;
-use shared_bureau::flow_solver::Solver;
+use served_lines::Request;
+use shared_bureau::{Disk, Pause, Solver};
 use std::sync::Wait;
 
 /// Serves in order the requests of one lane. The room for what comes of them is there.

@@ -3,10 +3,9 @@ ghost use Rattle.std.specs.Prelude.{◌≡◌, ◌≤◌, [], length, All, vec_c
 ghost use Rattle.lane_runner.specs.Merging.{HasMerged, HaveEnds};
 
 use crate::lane::Lane;
-use served_lines::Answer;
-use served_lines::request_text::Request;
+use served_lines::{Answer, Request};
 use setoff_model::limits::MOST_LANES;
-use shared_bureau::disk_model::Disk;
+use shared_bureau::Disk;
 
 /// Puts the answers of lines that lanes have served in order: that of a line of a lane is the lane's next one. The answers are
 /// none at first, and the room for them is there.

@@ -1,6 +1,5 @@
 //! What lanes serve their lines with.
-use shared_bureau::Shared;
-use shared_bureau::disk_model::Disk;
+use shared_bureau::{Disk, Shared};
 use std::alloc::Global;
 
 /// The shared desk, and what its lines are served with: the solver of its rounds, the gate of each line and the pause in each round.

@@ -3,8 +3,7 @@ ghost use Rattle.live_intake.specs.shared_bureau.specs.Adding.{IsReady};
 
 use claim_history::{Act, Entry, Reply, main_pool_name};
 use disk_model::MemoryDisk;
-use live_intake::bureau_desk::Desk;
-use live_intake::shared_bureau::Shared;
+use live_intake::{Desk, Shared};
 use setoff_model::Name;
 use std::alloc::Global;
 use std::process::Abort;

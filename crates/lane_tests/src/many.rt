@@ -6,7 +6,7 @@ ghost use Rattle.live_intake.specs.shared_bureau.specs.Adding.{IsReady};
 use crate::acts::{MemoryDesk, ask, desk_on, firm, is_same, main_entries};
 use claim_history::{Act, Entry, Position, Reply, Why, accepted};
 use disk_model::MemoryDisk;
-use live_intake::shared_bureau::Shared;
+use live_intake::Shared;
 use setoff_model::Name;
 use std::alloc::{AllocError, Global};
 use std::process::Abort;

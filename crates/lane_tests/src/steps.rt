@@ -1,6 +1,5 @@
 //! What threads wait for.
-use live_intake::lane_runner::Gate;
-use live_intake::shared_bureau::Pause;
+use live_intake::{Gate, Pause};
 use std::sync::{Mutex, Wait};
 use std::thread;
 

@@ -4,8 +4,8 @@ ghost use Rattle.flow_solver.specs.residual_state.specs.Excesses.{excess_of};
 ghost use Rattle.flow_solver.specs.residual_state.specs.States.{IsState, StaysOn, surplus};
 ghost use Rattle.flow_solver.specs.residual_state.specs.Carries.{IsNoWorse};
 
-use flow_solver::residual_state::{State, augment, carry_all, reprice, surplus_of};
-use simplex_engine::level_engine::Advice;
+use flow_solver::{State, augment, carry_all, reprice, surplus_of};
+use simplex_engine::Advice;
 use std::alloc::{AllocError, Global};
 
 // So many levels are tried at first, more where some units count more than one, and few where there are at most three halves of

@@ -5,13 +5,11 @@ ghost use Rattle.flow_solver.specs.residual_state.specs.Edges.{IsClaimEdge};
 ghost use Rattle.flow_solver.specs.residual_state.specs.States.{IsState, StaysOn};
 
 use crate::settling::settle_whole;
-use flow_solver::residual_state::{State, adopt, state_at_start, surplus_of};
+use flow_solver::{State, adopt, state_at_start, surplus_of};
 use net_presolve::{Inner, Parts, Series, Unused, Window, risen};
 use setoff_model::limits::{MOST_AMOUNT, MOST_CLAIMS, MOST_FIRMS, MOST_WEIGHT, MOST_WINDOW};
 use setoff_model::{Name, Party};
-use simplex_engine::level_engine::Halves;
-use simplex_engine::residual_network::Edge;
-use simplex_engine::{Solution, Start, seek_alone, seek_from};
+use simplex_engine::{Edge, Halves, Solution, Start, seek_alone, seek_from};
 use std::alloc::{AllocError, Global};
 
 // Where there are more halves of arcs at a node, the net is hardly in parts.

@@ -5,9 +5,8 @@ ghost use Rattle.flow_solver.specs.residual_state.specs.States.{IsState, StaysOn
 
 use crate::levels::{MOST_WEIGHTED, all_levels, first_levels};
 use crate::parting::take_parts;
-use flow_solver::residual_state::{State, adopt, surplus_of};
-use simplex_engine::level_engine::{Advice, Halves};
-use simplex_engine::{Solution, Start, seek_cold, seek_solution};
+use flow_solver::{State, adopt, surplus_of};
+use simplex_engine::{Advice, Halves, Solution, Start, seek_cold, seek_solution};
 use std::alloc::{AllocError, Global};
 
 // After so many turns, each of twice as much work, the levels go on alone.

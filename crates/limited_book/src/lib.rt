@@ -14,11 +14,13 @@ mod need;
 mod publication;
 mod room;
 
-pub use act_bodies;
-pub use claim_book;
-pub use claim_book::{claim_history, round_cut};
+pub use act_bodies::{body_length, encode, publication_length};
+pub use claim_book::{
+    Act, Book, Books, Call, ClaimFact, Day, Entry, PoolEntry, Reply, Why, accepted, build_cut,
+    cut_of_a_history_is_of_its_facts, is_due, open_cut_is_well_formed, pool_bytes, tells_of_device,
+};
 pub use full::Full;
 pub use limited::LimitedBooks;
 pub use publication::publication_reply;
 pub use room::Room;
-pub use setoff_checker;
+pub use setoff_checker::{Checked, Verdict};

@@ -15,12 +15,11 @@ ghost use Rattle.limited_book.specs.Limited.{IsFull, round_after};
 use crate::full::{Full, within_limits};
 use crate::need::{Need, endings_in, endings_of, is_ending, more, moved, own_bytes, use_of};
 use crate::publication::publication_reply;
-use claim_book::Books;
-use claim_book::claim_history::record_bytes::{CLOSE_BODY, RECORD_HEAD};
-use claim_book::claim_history::{
-    Act, Call, Entry, Reply, each_pool_has_its_history, pool_bytes, use_is_counted,
+use claim_book::record_bytes::{CLOSE_BODY, RECORD_HEAD};
+use claim_book::{
+    Act, Books, Call, Entry, Reply, cut_of_a_history_is_of_its_facts, each_pool_has_its_history,
+    pool_bytes, use_is_counted,
 };
-use claim_book::round_cut::cut_of_a_history_is_of_its_facts;
 use setoff_model::{Cut, Name};
 use std::alloc::{AllocError, Global};
 use std::marker::Model;

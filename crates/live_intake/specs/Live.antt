@@ -1,7 +1,7 @@
 -- What one batch of an input that is still read does.
 use Rattle.std.specs.Prelude.{◌≡◌, ◌⊎◌, ◌+◌, ◌<◌, ◌≤◌, ℕ, Bool, true, false, Option, Some, None, List, [], ◌∷◌, ◌++◌, length, take, drop}
 use Rattle.std.specs.Io.KnownBytes.{Consumes, IsAtEnd}
-use Rattle.fault_count.specs.Counts.{HasRisen}
+use Rattle.lane_runner.specs.fault_count.specs.Counts.{HasRisen}
 use Rattle.lane_runner.specs.disk_model.specs.Calls.{Seen}
 use Rattle.lane_runner.specs.request_text.specs.declared.request.Request.{Request}
 use Rattle.lane_runner.specs.request_text.specs.Grammar.{IsFirstBadLine, IsRequestText}

@@ -4,9 +4,7 @@ ghost use Rattle.setoff_model.specs.declared.limits.TheConstants.{MOST_LANES};
 ghost use Rattle.live_intake.specs.Batching.{HasMergedMore, HaveEnds};
 
 use crate::lane::LiveLane;
-use lane_runner::disk_model::Disk;
-use lane_runner::request_text::Request;
-use lane_runner::served_lines::Answer;
+use lane_runner::{Answer, Disk, Request};
 use setoff_model::limits::MOST_LANES;
 
 /// Puts the answers of the lines of a segment behind those that are there: that of a line of a lane is the lane's next one. The room

@@ -4,13 +4,7 @@ ghost use Rattle.rtrb.specs.Ring.{received, SameConsumer};
 ghost use Rattle.live_reading.specs.Handing.{MayHand};
 ghost use Rattle.live_intake.specs.Segments.{HasServedSegment, IsFit};
 
-use lane_runner::bureau_desk::Desk;
-use lane_runner::disk_model::Disk;
-use lane_runner::flow_solver::Solver;
-use lane_runner::request_text::Request;
-use lane_runner::served_lines::LineEnd;
-use lane_runner::shared_bureau::Pause;
-use lane_runner::{Gate, Service, serve};
+use lane_runner::{Desk, Disk, Gate, LineEnd, Pause, Request, Service, Solver, serve};
 use live_reading::{Handed, InSegments};
 use rtrb::Consumer;
 use std::alloc::Global;

@@ -17,8 +17,9 @@ mod seats;
 mod segment;
 mod segments;
 
-pub use lane_runner;
-pub use lane_runner::{bureau_desk, price_certificate, shared_bureau};
+pub use lane_runner::{
+    Answer, BatchEnd, CloseEnd, CutReply, Desk, Gate, LineEnd, Pause, PublishReply, Shared,
+    certified, run_batch,
+};
 pub use live::{LiveEnd, run_live};
-pub use live_reading::input_front::Intake;
-pub use live_reading::{Stop, input_front};
+pub use live_reading::{Intake, Stop};

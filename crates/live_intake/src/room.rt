@@ -4,10 +4,7 @@ ghost use Rattle.setoff_model.specs.declared.limits.TheConstants.{MOST_LANES, MO
 ghost use Rattle.live_intake.specs.Rooms.{IsPlace, IsRoom};
 
 use crate::lane::LiveLane;
-use lane_runner::bureau_desk::Desk;
-use lane_runner::disk_model::Disk;
-use lane_runner::request_text::Request;
-use lane_runner::served_lines::{Answer, LineEnd};
+use lane_runner::{Answer, Desk, Disk, LineEnd, Request};
 use live_reading::{Handed, InSegments, MOST_ASKED, MOST_HANDED, Ring};
 use rtrb::{Consumer, RingBuffer};
 use setoff_model::limits::MOST_LANES;

@@ -9,9 +9,7 @@ ghost use Rattle.live_intake.specs.Rooms.{IsPlace};
 
 use crate::lane::LiveLane;
 use crate::room::Place;
-use lane_runner::bureau_desk::Desk;
-use lane_runner::disk_model::Disk;
-use lane_runner::shared_bureau::Shared;
+use lane_runner::{Desk, Disk, Shared};
 use live_reading::Ring;
 use turn_lock::{Registrar, Seat};
 

@@ -8,15 +8,8 @@ ghost use Rattle.live_reading.specs.Sparing.{HasMoved, HasSpare};
 use crate::answers::merge;
 use crate::lane::LiveLane;
 use crate::segment::run_segment;
-use bureau_edge::Source;
-use lane_runner::disk_model::Disk;
-use lane_runner::flow_solver::Solver;
-use lane_runner::request_text::Request;
-use lane_runner::served_lines::Answer;
-use lane_runner::shared_bureau::Pause;
-use lane_runner::{Gate, Service};
-use live_reading::input_front::Intake;
-use live_reading::{Ring, Stop};
+use lane_runner::{Answer, Disk, Gate, Pause, Request, Service, Solver};
+use live_reading::{Intake, Ring, Source, Stop};
 use std::sync::Wait;
 use std::thread::Threads;
 

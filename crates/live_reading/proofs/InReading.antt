@@ -6,8 +6,8 @@ use Rattle.std.proofs.lemmas.Bool.{eqb-false}
 use Rattle.std.proofs.lemmas.List.{append-nil, get_or_default, map-append}
 use Rattle.std.proofs.lemmas.List.Elements.{All-append, All-cons, All-nil, filter-append}
 use Rattle.std.specs.Io.KnownBytes.{Consumes, IsAtEnd, Keeps}
-use Rattle.fault_count.specs.Counts.{HasRisen}
-use Rattle.fault_count.proofs.Rising.{risen_within}
+use Rattle.served_lines.specs.fault_count.specs.Counts.{HasRisen}
+use Rattle.served_lines.specs.fault_count.proofs.Rising.{risen_within}
 use Rattle.rtrb.specs.declared.producer.Producer.{Producer}
 use Rattle.rtrb.specs.Ring.{sent, SameProducer}
 use Rattle.served_lines.specs.request_text.specs.declared.error.LineCause.{LineCause}

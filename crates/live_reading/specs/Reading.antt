@@ -2,7 +2,7 @@
 use Rattle.std.specs.Prelude.{◌≡◌, ◌⊎◌, ◌+◌, ◌<◌, ◌≤◌, ℕ, true, false, Option, Some, None, List, [], ◌∷◌, ◌++◌, All, length, take, drop, map, slice_index_or}
 use Rattle.live_reading.specs.declared.reading.TheConstants.{MOST_ASKED}
 use Rattle.std.specs.Io.KnownBytes.{Consumes, IsAtEnd}
-use Rattle.fault_count.specs.Counts.{HasRisen}
+use Rattle.served_lines.specs.fault_count.specs.Counts.{HasRisen}
 use Rattle.rtrb.specs.Ring.{sent, SameProducer}
 use Rattle.served_lines.specs.request_text.specs.declared.error.LineCause.{LineCause}
 use Rattle.served_lines.specs.request_text.specs.declared.request.Request.{Request}

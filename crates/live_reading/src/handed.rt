@@ -1,7 +1,7 @@
 //! What a lane is handed.
 
 use rtrb::Protocol;
-use served_lines::claim_history::Act;
+use served_lines::Act;
 use setoff_model::Name;
 
 /// How many lines a lane is handed in one segment, at most. Its ring has one place more, for the mark at the end.

@@ -15,7 +15,7 @@ mod stop;
 
 pub use alone::steps_alone;
 pub use handed::{Handed, InSegments, MOST_HANDED};
-pub use input_front;
+pub use input_front::{Intake, Source};
 pub use passing::pass_over;
 pub use reading::{MOST_ASKED, read_segment};
 pub use rings::Ring;

@@ -12,10 +12,8 @@ ghost use Rattle.live_reading.specs.Sparing.{HasSpare, KeepsSpare};
 
 use crate::rings::{Ring, hand, mark};
 use crate::stop::Stop;
-use input_front::bureau_edge::Source;
-use input_front::{Intake, Line, More, PIECE};
-use served_lines::Answer;
-use served_lines::request_text::Request;
+use input_front::{Intake, Line, More, PIECE, Source};
+use served_lines::{Answer, Request};
 use setoff_model::limits::MOST_LANES;
 use std::alloc::Global;
 

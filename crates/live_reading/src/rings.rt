@@ -6,8 +6,7 @@ ghost use Rattle.live_reading.specs.declared.handed.Handed.TheVariants as handed
 
 use crate::handed::{Handed, InSegments};
 use rtrb::Producer;
-use served_lines::claim_history::Act;
-use served_lines::request_text::Request;
+use served_lines::{Act, Request};
 use setoff_model::Name;
 use std::alloc::Global;
 

@@ -1,6 +1,6 @@
 //! Why a batch of an input that is still read ends.
 
-use served_lines::request_text::LineCause;
+use served_lines::LineCause;
 
 /// Why a batch ends.
 #[derive(Clone, Copy, PartialEq, Eq)]

@@ -5,9 +5,9 @@ use Rattle.std.proofs.lemmas.List.{append-nil, take-append-drop}
 use Rattle.std.proofs.lemmas.List.Splits.{slice_split_none}
 use Rattle.std.specs.Io.KnownBytes.{Appends, Consumes}
 use Rattle.std.proofs.KnownBytes.{Consumes-nil, Consumes-trans}
-use Rattle.setoff_model.specs.declared.limits.TheConstants.{MOST_INPUT_BYTES}
-use Rattle.fault_count.specs.Counts.{HasRisen}
-use Rattle.fault_count.proofs.Rising.{risen_within}
+use Rattle.batch_runs.specs.setoff_model.specs.declared.limits.TheConstants.{MOST_INPUT_BYTES}
+use Rattle.batch_runs.specs.fault_count.specs.Counts.{HasRisen}
+use Rattle.batch_runs.specs.fault_count.proofs.Rising.{risen_within}
 use Rattle.bureau_edge.specs.Streams.{AppendsPart}
 use Rattle.disk_model.specs.Calls.{Seen}
 use Rattle.batch_runs.specs.request_text.specs.declared.request.Request.{Request}

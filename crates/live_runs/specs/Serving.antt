@@ -1,7 +1,7 @@
 -- Batches of an input that are served while it is read.
 use Rattle.std.specs.Prelude.{◌≡◌, ◌≢◌, ◌+◌, ◌≤◌, ℕ, false, Option, Result, List, length, map}
 use Rattle.std.specs.Io.KnownBytes.{Consumes}
-use Rattle.fault_count.specs.Counts.{HasRisen}
+use Rattle.batch_runs.specs.fault_count.specs.Counts.{HasRisen}
 use Rattle.disk_model.specs.Calls.{Seen}
 use Rattle.batch_runs.specs.request_text.specs.declared.request.Request.{Request}
 use Rattle.batch_runs.specs.request_text.specs.Grammar.{IsRequestText}

@@ -6,10 +6,10 @@
 
 mod serving;
 
-pub use batch_runs;
 pub use batch_runs::{
-    bureau_desk, lane_runner, printed_text, request_text, round_journal, shared_bureau,
+    Desk, DeskRefused, ExitStatus, Gate, Pause, Unhindered, bytes_hold_one_list, end_with,
+    output_buffer, print_added, run_batches, tell_no_memory, tell_read_fault, tell_too_long,
+    tell_words, write_bad_line,
 };
-pub use live_intake;
-pub use live_intake::input_front;
+pub use live_intake::{Intake, Stop};
 pub use serving::serve_input;

@@ -1,6 +1,6 @@
 //! Batches that are served in turn while the input is read.
 ghost use Rattle.std.specs.Prelude.{◌≡◌, ◌≢◌, ◌≤◌, [], true, vec_capacity, OnOk};
-ghost use Rattle.setoff_model.specs.declared.limits.TheConstants.{MOST_INPUT_BYTES, OUTPUT_BYTES};
+ghost use Rattle.batch_runs.specs.setoff_model.specs.declared.limits.TheConstants.{MOST_INPUT_BYTES, OUTPUT_BYTES};
 ghost use Rattle.bureau_edge.specs.Streams.{CountsFaults};
 ghost use Rattle.live_intake.specs.live_reading.specs.Fronts.{is_fence};
 ghost use Rattle.live_intake.specs.live_reading.specs.Reading.{fence_lines};
@@ -8,16 +8,10 @@ ghost use Rattle.batch_runs.specs.printed_text.specs.declared.exit_status.ExitSt
 ghost use Rattle.batch_runs.specs.printed_text.specs.Statuses.{TellsSinkFault};
 ghost use Rattle.live_runs.specs.Serving.{HasServedInput, HasToldLive};
 
-use batch_runs::bureau_desk::Desk;
-use batch_runs::lane_runner::{BatchEnd, Gate};
-use batch_runs::level_solver::LevelSolver;
-use batch_runs::printed_text::ExitStatus;
-use batch_runs::shared_bureau::Pause;
-use batch_runs::{Tally, print_counted};
+use batch_runs::{BatchEnd, Desk, ExitStatus, Gate, LevelSolver, Pause, Tally, print_counted};
 use bureau_edge::{Failed, Sink, Source};
 use disk_model::Disk;
-use live_intake::input_front::Intake;
-use live_intake::{LiveEnd, Stop, run_live};
+use live_intake::{Intake, LiveEnd, Stop, run_live};
 use std::alloc::Global;
 use std::sync::Wait;
 use std::thread::Threads;

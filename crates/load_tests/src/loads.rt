@@ -1,36 +1,13 @@
 //! Tests of the loader.
 
-use bureau_desk::Desk;
-use bureau_desk::act_bodies::can_be_kept;
-use bureau_desk::claim_history::{Act, Call, Reply, Why};
-use bureau_desk::disk_model::MemoryDisk;
-use bureau_desk::round_journal::{Device, read_records};
-use group_loader::Loader;
+use crate::made::{begin, held};
+use act_bodies::can_be_kept;
+use claim_history::{Act, Call, Reply, Why};
+use disk_model::MemoryDisk;
+use group_runs::Loader;
+use round_journal::Device;
 use setoff_model::Name;
-use std::alloc::Global;
 use std::process::Abort;
-
-// A disk in memory with these bytes, of whose calls these fail.
-fn disk_of(rt: &(impl Abort + AllocGlobal), bytes: &[u8], fails: &[u64]) -> MemoryDisk {
-    let bytes = Vec::from_slice(rt.alloc(), bytes).expect(rt, "memory");
-    let fails = Vec::from_slice(rt.alloc(), fails).expect(rt, "memory");
-    MemoryDisk::new(rt.alloc(), bytes, fails)
-}
-
-// A load on the journal of a disk, or None where no desk was opened.
-fn load_on(alloc: Global, disk: MemoryDisk) -> Option<Loader<MemoryDisk>> {
-    let Ok(desk) = Desk::open(alloc, disk) else {
-        return None;
-    };
-    let _books = desk.books();
-    let (journal, books) = desk.into_parts();
-    Some(Loader::new(alloc, journal, books))
-}
-
-// A load on a disk without bytes, of whose calls these fail. The opening makes four calls, each of two moments.
-fn begin(rt: &(impl Abort + AllocGlobal), fails: &[u64]) -> Loader<MemoryDisk> {
-    load_on(rt.alloc(), disk_of(rt, b"", fails)).expect(rt, "no fault")
-}
 
 // Caller 1 registers a firm in a pool.
 fn register(rt: &impl Abort, loader: &mut Loader<MemoryDisk>, pool: &[u8], firm: &[u8]) -> Reply {
@@ -68,13 +45,6 @@ fn keep(rt: &impl Abort, loader: Loader<MemoryDisk>) -> Loader<MemoryDisk> {
         Ok(loader) => loader,
         Err(_) => panic!(rt; "no fault"),
     }
-}
-
-// How many records these bytes hold.
-fn held(rt: &(impl Abort + AllocGlobal), bytes: &[u8]) -> usize {
-    let mut disk = disk_of(rt, bytes, &[]);
-    let records = read_records(rt.alloc(), &mut disk).ok();
-    records.expect(rt, "sound").len()
 }
 
 // An image of a moment holds none of five records, or three, or all.

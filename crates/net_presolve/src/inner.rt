@@ -3,8 +3,8 @@ use crate::laying::laid;
 use crate::parts::Parts;
 use crate::search::NONE;
 use crate::unused::Unused;
-use level_engine::loose_places::{at, put, short};
-use level_engine::residual_network::Edge;
+use level_engine::Edge;
+use loose_places::{at, put, short};
 use std::alloc::{AllocError, Global};
 
 /// By how many cents a balance may fall and rise.

@@ -2,7 +2,7 @@
 use crate::parts::Parts;
 use crate::unused::{Unused, edge_at};
 use level_engine::Half;
-use level_engine::loose_places::{at, put};
+use loose_places::{at, put};
 use std::alloc::{AllocError, Global};
 
 // The price of each party, by those that the nodes have inside their parts. Each part is raised so far that no half that leads into it

@@ -1,8 +1,8 @@
 //! The parts of a net.
 use crate::search::{NONE, Search};
 use crate::unused::Unused;
-use level_engine::loose_places::at;
-use level_engine::residual_network::Edge;
+use level_engine::Edge;
+use loose_places::at;
 use std::alloc::{AllocError, Global};
 
 /// The part of each node, and the nodes part by part: flow between two parts can only be moved to one that stands before. And the nodes as

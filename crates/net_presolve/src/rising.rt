@@ -2,7 +2,7 @@
 use crate::parts::Parts;
 use crate::search::NONE;
 use crate::unused::{Unused, edge_at};
-use level_engine::loose_places::{at, put, short};
+use loose_places::{at, put, short};
 use std::alloc::{AllocError, Global};
 
 // Without windows prices rise to at most so many in one, where there are so many nodes for each.

@@ -1,6 +1,6 @@
 //! The search for parts.
 use crate::unused::Unused;
-use level_engine::loose_places::{at, put, short};
+use loose_places::{at, put, short};
 use std::alloc::{AllocError, Global};
 
 // Stands where there is no node and no part.

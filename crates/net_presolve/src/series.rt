@@ -2,8 +2,8 @@
 use crate::inner::{Inner, Window};
 use crate::search::NONE;
 use crate::unused::edge_at;
-use level_engine::loose_places::{at, put, short};
-use level_engine::residual_network::Edge;
+use level_engine::Edge;
+use loose_places::{at, put, short};
 use std::alloc::{AllocError, Global};
 
 // Stands where a party has several claims on a side.

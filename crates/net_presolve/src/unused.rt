@@ -1,7 +1,6 @@
 //! A net where nothing is set off.
-use level_engine::loose_places::at;
-use level_engine::residual_network::Edge;
-use level_engine::{Half, Halves};
+use level_engine::{Edge, Half, Halves};
+use loose_places::at;
 
 const NO_EDGE: Edge = Edge {
     tail: 0,

@@ -6,9 +6,7 @@ ghost use Rattle.setoff_model.specs.Squeezing.{IsSqueezed};
 ghost use Rattle.flow_solver.specs.netting_graph.specs.Merging.{IsNetOf, IsSpread};
 ghost use Rattle.flow_solver.specs.Solution.{IsSolution};
 
-use flow_solver::Flow;
-use flow_solver::netting_graph::{Net, spread};
-use flow_solver::price_squeezing::squeeze;
+use flow_solver::{Flow, Net, spread, squeeze};
 use setoff_model::{Cut, Outcome};
 use std::alloc::{AllocError, Global};
 

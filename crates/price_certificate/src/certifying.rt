@@ -5,8 +5,7 @@ ghost use Rattle.setoff_model.specs.Setoff.{Proves, IsOldestFirst};
 ghost use Rattle.flow_solver.specs.Solution.{IsSolution};
 
 use crate::certificate::outcome_of;
-use flow_solver::netting_graph::Net;
-use flow_solver::{Flow, Solver};
+use flow_solver::{Flow, Net, Solver};
 use setoff_checker::{Checked, Checker};
 use setoff_model::{Cut, Outcome};
 use std::alloc::{AllocError, Global};

@@ -10,4 +10,4 @@ mod certifying;
 
 pub use certificate::outcome_of;
 pub use certifying::certified;
-pub use flow_solver;
+pub use flow_solver::Solver;

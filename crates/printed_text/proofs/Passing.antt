@@ -3,7 +3,7 @@ use Rattle.std.proofs.Common.{◌≡◌, ℕ, List, [], ◌++◌, refl, sym, ap,
 use Rattle.std.specs.Prelude.{Option, Result, Ok, Err, IsErr, OnOk, OnErr}
 use Rattle.std.specs.Io.KnownBytes.{Appends}
 use Rattle.std.proofs.lemmas.List.{append-nil}
-use Rattle.fault_count.specs.Counts.{HasRisen}
+use Rattle.served_lines.specs.fault_count.specs.Counts.{HasRisen}
 use Rattle.bureau_edge.specs.Streams.{AppendsPart, CountsFaults}
 use Rattle.bureau_edge.proofs.Known.{Appends-none, Appends-then}
 use Rattle.printed_text.specs.Writing.{GoesThrough}

@@ -1,6 +1,6 @@
 -- The statuses of a process, and their numbers.
 use Rattle.std.specs.Prelude.{◌≡◌, ◌⊎◌, ◌<◌, ℕ, List, [], ◌∷◌}
-use Rattle.fault_count.specs.Counts.{HasRisen}
+use Rattle.served_lines.specs.fault_count.specs.Counts.{HasRisen}
 use Rattle.printed_text.specs.declared.exit_status.ExitStatus.{ExitStatus}
 use Rattle.printed_text.specs.declared.exit_status.ExitStatus.TheVariants as statuses
 

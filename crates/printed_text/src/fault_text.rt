@@ -5,8 +5,7 @@ ghost use Rattle.printed_text.specs.Texts.{memory_line, full_line, room_text, ca
 ghost use Rattle.printed_text.specs.Texts.{row_cause_text, bad_row_text, statement_cause_text, bad_statement_text};
 
 use firm_notices::RowCause;
-use served_lines::limited_book::Room;
-use served_lines::request_text::LineCause;
+use served_lines::{LineCause, Room};
 use setoff_model::{put, write_whole};
 use statement_text::StatementCause;
 

@@ -20,16 +20,21 @@ mod output;
 mod statement;
 mod verdict_text;
 
-pub use bureau_edge;
 pub use ending::{end_with, tell_no_memory, tell_read_fault, tell_too_long, tell_words};
-pub use entry_text;
+pub use entry_text::write_reply;
 pub use exit_status::ExitStatus;
 pub use fault_text::{write_bad_line, write_bad_row, write_bad_statement};
-pub use firm_notices;
+pub use firm_notices::{ImportError, RowCause, import, notices, positions};
 pub use output::{
     flush, make_room, output_buffer, print_batch, print_member, print_publication,
     print_unanswered, print_unanswered_lines,
 };
-pub use served_lines::{claim_book, claim_history, round_cut};
-pub use statement_text;
+pub use served_lines::{
+    Answer, Book, Books, ClaimFact, Day, Full, LineEnd, build_cut,
+    cut_of_a_history_is_of_its_facts, is_due, some_full, some_memory,
+};
+pub use statement_text::{
+    StatementCause, StatementError, read_statement, write_end, write_party, write_total,
+    write_weighed_claim, write_weighed_head,
+};
 pub use verdict_text::{status_of_verdict, write_verdict};

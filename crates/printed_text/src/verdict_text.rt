@@ -5,7 +5,7 @@ ghost use Rattle.setoff_model.specs.declared.limits.TheConstants.{LINE_BYTES};
 ghost use Rattle.setoff_model.specs.Texts.{cents_text};
 
 use crate::exit_status::ExitStatus;
-use served_lines::setoff_checker::Verdict;
+use served_lines::Verdict;
 use setoff_model::{Cut, Key, Name, put, write_cents};
 
 /// `Done` where the set-off was found greatest, else `No`.

@@ -4,9 +4,7 @@ ghost use Rattle.fault_count.specs.Counts.{HasRisen, next_count};
 ghost use Rattle.disk_model.specs.Untold.{untold};
 
 use crate::runs::{disk_of, expect_end, is_like, program, sink_of, source_of, words_of};
-use bureau_commands::bureau;
-use bureau_commands::lane_runner::{Gate, Unhindered};
-use bureau_commands::shared_bureau::Pause;
+use bureau_commands::{Gate, Pause, Unhindered, bureau};
 use bureau_edge::{BytesSink, Failed, Sink};
 use disk_model::{Disk, DiskFailed, MemoryDisk};
 use fault_count::next_count;

@@ -3,8 +3,7 @@ use crate::runs::{
     FOUR_ENTRIES, FOUR_LINES, ROUNDS, Zeros, copied, disk_of, expect_audit, expect_end,
     failing_source, left_by, left_on, sink_of, source_of, words_of,
 };
-use bureau_commands::bureau;
-use bureau_commands::lane_runner::{Gate, Unhindered};
+use bureau_commands::{Gate, Unhindered, bureau};
 use bureau_edge::{Failed, Source, SureSource};
 use std::sync::Wait;
 use std::sync::atomic::{AtomicU64, Ordering};

@@ -1,5 +1,4 @@
-use bureau_commands::lane_runner::Unhindered;
-use bureau_commands::{Ended, bureau, without_words};
+use bureau_commands::{Ended, Unhindered, bureau, without_words};
 use bureau_edge::{BytesSink, BytesSource, Failed, Sink, Source, SureSource};
 use disk_model::{Disk, MemoryDisk};
 use std::alloc::Global;

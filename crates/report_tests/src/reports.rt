@@ -1,6 +1,5 @@
 use bureau_edge::BytesSink;
-use bureau_reports::printed_text::ExitStatus;
-use bureau_reports::{report_input, report_journal};
+use bureau_reports::{ExitStatus, report_input, report_journal};
 use claim_history::Day;
 use command_words::{InputReport, JournalReport};
 use disk_model::MemoryDisk;

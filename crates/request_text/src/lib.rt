@@ -19,7 +19,9 @@ mod request;
 mod verb;
 mod writing;
 
-pub use claim_history;
+pub use claim_history::{
+    Day, Entry, PoolEntry, Position, Reply, Why, days_are_civil_dates, main_pool_name, write_act,
+};
 pub use error::{LineCause, RequestError};
 pub use reading::read_requests;
 pub use request::{Batch, Request};

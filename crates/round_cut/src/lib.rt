@@ -14,7 +14,11 @@ mod parties;
 mod windows;
 
 pub use building::{build_cut, is_due};
-pub use claim_history;
+pub use claim_history::{
+    AccountFact, Act, Call, ClaimFact, Day, Entry, PoolEntry, Position, Reply, Status, Why,
+    accepted, each_pool_has_its_history, main_pool_name, pool_bytes, record_bytes, tells_of_device,
+    use_is_counted,
+};
 pub use laws::{cut_of_a_history_is_of_its_facts, open_cut_is_well_formed};
-pub use name_index;
+pub use name_index::NameIndex;
 pub use windows::window;

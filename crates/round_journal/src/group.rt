@@ -3,7 +3,7 @@ ghost use Rattle.std.specs.Prelude.{◌≡◌, ◌+◌, ◌<◌, ◌≤◌, ◌^
 ghost use Rattle.act_bodies.specs.claim_history.specs.declared.record_bytes.TheConstants.{RECORD_HEAD};
 ghost use Rattle.round_journal.specs.Kept.{IsGroup, IsSomeGroup};
 
-use act_bodies::claim_history::record_bytes::RECORD_HEAD;
+use act_bodies::record_bytes::RECORD_HEAD;
 use std::alloc::{AllocError, Global};
 use std::marker::Model;
 

@@ -13,7 +13,7 @@ use crate::log::Log;
 use crate::open_refused::OpenRefused;
 use crate::opening::{Opening, open_disk};
 use crate::record::Record;
-use act_bodies::claim_history::record_bytes::{POOL_BYTES, RECORD_HEAD};
+use act_bodies::record_bytes::{POOL_BYTES, RECORD_HEAD};
 use disk_model::Disk;
 use setoff_model::limits::MOST_BODY;
 use std::alloc::Global;

@@ -41,7 +41,7 @@ mod written;
 pub use act_bodies::{body_length, encode};
 pub use cause::{JournalCause, RecordWhy};
 pub use device::Device;
-pub use disk_model;
+pub use disk_model::Disk;
 pub use group::Group;
 pub use journal::Journal;
 pub use laws::{bytes_hold_one_list, what_is_kept_stands};

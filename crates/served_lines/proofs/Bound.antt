@@ -7,7 +7,7 @@ use Rattle.std.proofs.lemmas.List.{length-append}
 use Rattle.std.proofs.lemmas.List.Elements.{All-cons, All-head, All-nil, All-tail, filter-append}
 use Rattle.std.proofs.lemmas.List.Sums.{sum_by-append, sum_by-cons}
 use Rattle.std.proofs.Math.Nat.{mul-le-mul_right}
-use Rattle.setoff_model.specs.Names.{is_name}
+use Rattle.limited_book.specs.setoff_model.specs.Names.{is_name}
 use Rattle.limited_book.specs.claim_history.specs.declared.act.Act.{Act}
 use Rattle.limited_book.specs.claim_history.specs.declared.call.Call.{Call}
 use Rattle.limited_book.specs.claim_history.specs.declared.call.PoolEntry.{PoolEntry}

@@ -3,8 +3,8 @@ use Rattle.std.specs.Prelude.{if◌then◌else◌, filter}
 use Rattle.std.specs.List.{list_all, list_any}
 use Rattle.std.proofs.Common.{◌≡◌, ◌∙◌, ◌==◌, ◌||◌, ◌&&◌, inl, inr, ℕ, Bool, true, false, List, [], ◌∷◌, ◌++◌, length, refl, sym, ap, ap₂, subst}
 use Rattle.std.proofs.lemmas.Bool.{and_parts, eq-eqb, or_right}
-use Rattle.setoff_model.specs.Same.{same_name}
-use Rattle.setoff_model.proofs.SameNames.{name_same}
+use Rattle.limited_book.specs.setoff_model.specs.Same.{same_name}
+use Rattle.limited_book.specs.setoff_model.proofs.SameNames.{name_same}
 use Rattle.limited_book.specs.claim_history.specs.declared.call.PoolEntry.{PoolEntry}
 use Rattle.limited_book.specs.claim_history.specs.Pools.{members_by}
 use Rattle.request_text.specs.declared.request.Request.{Request}

@@ -6,9 +6,9 @@ use Rattle.std.proofs.lemmas.Bool.{and_parts}
 use Rattle.std.proofs.lemmas.List.{append-nil, map-append, reverse-append}
 use Rattle.std.proofs.lemmas.List.Elements.{All-append, All-cons, All-nil}
 use Rattle.std.proofs.lemmas.List.Sums.{sum_by-append, sum_by-cons}
-use Rattle.setoff_model.specs.Names.{is_name}
-use Rattle.setoff_model.proofs.Lists.{All-first}
-use Rattle.setoff_model.proofs.Padded.{length-name}
+use Rattle.limited_book.specs.setoff_model.specs.Names.{is_name}
+use Rattle.limited_book.specs.setoff_model.proofs.Lists.{All-first}
+use Rattle.limited_book.specs.setoff_model.proofs.Padded.{length-name}
 use Rattle.limited_book.specs.claim_history.specs.declared.act.Act.{Act}
 use Rattle.limited_book.specs.claim_history.specs.declared.act.Act.TheVariants as act
 use Rattle.limited_book.specs.claim_history.specs.declared.call.Call.{Call}

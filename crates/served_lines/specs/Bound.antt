@@ -1,7 +1,7 @@
 -- How many requests may come after a history so that no line of them is full.
 use Rattle.std.specs.Prelude.{◌≡◌, ℕ, ◌+◌, ◌*◌, ◌≤◌, true, false, List, All, ◌++◌, length, count_by}
-use Rattle.setoff_model.specs.declared.limits.TheConstants.{MOST_ENTRIES, MOST_JOURNAL_BYTES}
-use Rattle.setoff_model.specs.Names.{is_name}
+use Rattle.limited_book.specs.setoff_model.specs.declared.limits.TheConstants.{MOST_ENTRIES, MOST_JOURNAL_BYTES}
+use Rattle.limited_book.specs.setoff_model.specs.Names.{is_name}
 use Rattle.limited_book.specs.claim_history.specs.declared.call.PoolEntry.{PoolEntry}
 use Rattle.limited_book.specs.claim_history.specs.Acts.{is_close, is_filing, is_registration, is_request}
 use Rattle.limited_book.specs.claim_history.specs.Needs.{endings_with}

@@ -2,9 +2,9 @@
 use Rattle.std.specs.Prelude.{◌≡◌, ◌⊎◌, ◌&&◌, ◌==◌, ◌≤◌, ℕ, Bool, true, false, List, [], ◌∷◌, ◌++◌, length, drop, map, filter}
 use Rattle.std.specs.List.{list_all, list_any}
 use mathlib.Core.List.{IsPrefix}
-use Rattle.setoff_model.specs.CutView.{CutView, OutcomeView, obligations}
-use Rattle.setoff_model.specs.Same.{same_name}
-use Rattle.setoff_model.specs.Setoff.{Proves, IsOldestFirst}
+use Rattle.limited_book.specs.setoff_model.specs.CutView.{CutView, OutcomeView, obligations}
+use Rattle.limited_book.specs.setoff_model.specs.Same.{same_name}
+use Rattle.limited_book.specs.setoff_model.specs.Setoff.{Proves, IsOldestFirst}
 use Rattle.limited_book.specs.claim_history.specs.declared.act.Act.{Act}
 use Rattle.limited_book.specs.claim_history.specs.declared.act.Act.TheVariants as act
 use Rattle.limited_book.specs.claim_history.specs.declared.call.Call.{Call}

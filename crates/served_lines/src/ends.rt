@@ -6,8 +6,7 @@ ghost use Rattle.served_lines.specs.Ends.{is_memory_end, is_full_end, has_line_e
 
 use crate::answer::Answer;
 use crate::line_end::LineEnd;
-use limited_book::claim_book::Books;
-use limited_book::claim_history::tells_of_device;
+use limited_book::{Books, tells_of_device};
 
 fn is_memory_end(end: LineEnd) -> bool
     ensures { result ≡ is_memory_end end }

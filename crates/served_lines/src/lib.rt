@@ -14,7 +14,9 @@ mod line_end;
 pub use answer::Answer;
 pub use ends::{some_device, some_full, some_memory};
 pub use laws::no_line_is_full_within_the_bound;
-pub use limited_book;
-pub use limited_book::{claim_book, claim_history, round_cut, setoff_checker};
+pub use limited_book::{
+    Act, Book, Books, ClaimFact, Day, Entry, Full, Reply, Room, Verdict, build_cut,
+    cut_of_a_history_is_of_its_facts, is_due,
+};
 pub use line_end::LineEnd;
-pub use request_text;
+pub use request_text::{Batch, LineCause, Request};

@@ -5,7 +5,7 @@ use price_certificate::certified;
 use setoff_model::{Cut, CutClaim, Kind};
 use std::alloc::Global;
 use std::process::Abort;
-use weighted_setoff::level_solver::LevelSolver;
+use weighted_setoff::LevelSolver;
 
 // A chain that was given, with the places of its claims.
 #[derive(Drop)]

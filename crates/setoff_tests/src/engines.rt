@@ -3,12 +3,12 @@ use crate::hard_nets::{Net, chain, comb, drawn_claims, firms, kind_of, ladder};
 use crate::solvers::{Owed, Window, cut_of, total_of};
 use flow_solver::state_of_net;
 use level_engine::Halves;
+use net_presolve::{Inner, Parts, Unused};
 use residual_state::{State, adopt};
 use setoff_model::Kind;
+use simplex_engine::{Solution, Start, seek_solution};
 use std::alloc::Global;
 use std::process::Abort;
-use weighted_setoff::net_presolve::{Inner, Parts, Unused};
-use weighted_setoff::simplex_engine::{Solution, Start, seek_solution};
 
 // The flows of the windows' arcs at the beginning of a search, and the halves of all arcs.
 #[derive(Drop)]

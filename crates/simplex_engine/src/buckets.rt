@@ -1,5 +1,5 @@
 //! Nodes that wait, by their labels.
-use spanning_tree::loose_places::{at, put};
+use loose_places::{at, put};
 use std::alloc::{AllocError, Global};
 
 // The first node that waits at each label, and the one after each, all from 1. A node waits at one label at a time.

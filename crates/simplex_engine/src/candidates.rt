@@ -1,7 +1,6 @@
 //! Which arc enters the tree.
-use spanning_tree::level_engine::Halves;
-use spanning_tree::loose_places::{at, put};
-use spanning_tree::{Arc, NO_ARC, NOBODY, Part, Tree};
+use loose_places::{at, put};
+use spanning_tree::{Arc, Halves, NO_ARC, NOBODY, Part, Tree};
 use std::alloc::{AllocError, Global};
 
 // The arcs of a run stand together in the list of arcs, at first so many. Runs are looked at in an order that spreads over the net.

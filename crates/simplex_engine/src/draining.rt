@@ -1,7 +1,7 @@
 //! The rest of the excess, moved back.
 use crate::buckets::Buckets;
-use spanning_tree::level_engine::{Half, Halves};
-use spanning_tree::loose_places::{at, put, short};
+use loose_places::{at, put, short};
+use spanning_tree::{Half, Halves};
 use std::alloc::{AllocError, Global};
 
 // The flow of each arc and the excess of each node, and the flows of the windows at which no balance changes.

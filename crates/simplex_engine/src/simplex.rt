@@ -1,10 +1,9 @@
 //! A network simplex.
 use crate::candidates::Candidates;
-use spanning_tree::level_engine::Halves;
-use spanning_tree::loose_places::{at, put, short, small};
-use spanning_tree::residual_network::Edge;
+use loose_places::{at, put, short, small};
 use spanning_tree::{
-    Arc, Branch, Circle, MUCH, NO_ARC, NOBODY, Part, Start, Tree, arcs_of, own_code, plant,
+    Arc, Branch, Circle, Edge, Halves, MUCH, NO_ARC, NOBODY, Part, Start, Tree, arcs_of, own_code,
+    plant,
 };
 use std::alloc::{AllocError, Global};
 

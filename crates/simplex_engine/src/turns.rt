@@ -1,9 +1,8 @@
 //! A solution by turns.
 use crate::draining::Drain;
 use crate::simplex::Simplex;
-use spanning_tree::level_engine::Halves;
-use spanning_tree::loose_places::narrow;
-use spanning_tree::residual_network::Edge;
+use loose_places::narrow;
+use spanning_tree::{Edge, Halves};
 use std::alloc::{AllocError, Global};
 
 /// A flow for each arc, and a price for each party.

@@ -1,6 +1,6 @@
 //! The arcs as the simplex sees them.
-use level_engine::loose_places::{at, small};
-use level_engine::residual_network::Edge;
+use level_engine::Edge;
+use loose_places::{at, small};
 use std::alloc::{AllocError, Global};
 
 /// An arc.

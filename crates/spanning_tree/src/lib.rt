@@ -12,7 +12,6 @@ mod tree;
 
 pub use arcs::{Arc, NO_ARC, arcs_of};
 pub use forest::{MUCH, Start, own_code, plant};
-pub use level_engine;
-pub use level_engine::{loose_places, residual_network};
+pub use level_engine::{Advice, Edge, Half, Halves};
 pub use order::Part;
 pub use tree::{Branch, Circle, NOBODY, Node, Tree};

@@ -1,7 +1,6 @@
 //! Notices, positions and invoices as CSV.
 use claim_history::{Act, Day, Entry, Reply};
-use firm_notices::claim_book::Book;
-use firm_notices::{ImportError, RowCause, import, notices, positions};
+use firm_notices::{Book, ImportError, RowCause, import, notices, positions};
 use request_text::read_requests;
 use std::alloc::Global;
 use std::process::Abort;

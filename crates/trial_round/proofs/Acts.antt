@@ -2,14 +2,14 @@
 use Rattle.std.specs.Prelude.{None}
 use Rattle.std.proofs.Common.{◌≡◌, ◌∙◌, ℕ, zero, suc, ◌+◌, false, List, [], ◌∷◌, map, refl, ap, All}
 use Rattle.std.proofs.lemmas.List.Elements.{All-append, All-nil, All-cons, All-head, All-tail, All-weaker}
-use Rattle.lane_runner.specs.claim_history.specs.declared.act.Act.{Act}
-use Rattle.lane_runner.specs.claim_history.specs.declared.act.Act.TheVariants as act
-use Rattle.lane_runner.specs.claim_history.specs.declared.call.Call.{Call}
-use Rattle.lane_runner.specs.claim_history.specs.declared.call.PoolEntry.{PoolEntry}
-use Rattle.lane_runner.specs.claim_history.specs.declared.entry.Entry.{Entry}
-use Rattle.lane_runner.specs.claim_history.specs.Acts.{is_close}
-use Rattle.lane_runner.specs.claim_history.specs.Pools.{call_of, entries_of}
-use Rattle.lane_runner.specs.claim_history.proofs.Histories.{is_of_rounds}
+use Rattle.claim_history.specs.declared.act.Act.{Act}
+use Rattle.claim_history.specs.declared.act.Act.TheVariants as act
+use Rattle.claim_history.specs.declared.call.Call.{Call}
+use Rattle.claim_history.specs.declared.call.PoolEntry.{PoolEntry}
+use Rattle.claim_history.specs.declared.entry.Entry.{Entry}
+use Rattle.claim_history.specs.Acts.{is_close}
+use Rattle.claim_history.specs.Pools.{call_of, entries_of}
+use Rattle.claim_history.proofs.Histories.{is_of_rounds}
 use Rattle.trial_round.specs.declared.days.TheConstants.{DUE_DAY}
 use Rattle.trial_round.specs.Input.{acts_before_close, call_by_one, claim_acts, claim_cents, claim_key, debtor_place, filed_and_confirmed, firm_acts, firm_name}
 

@@ -4,10 +4,10 @@ use Rattle.std.specs.Prelude.{◌&&◌, nat_le, None, if◌then◌else◌}
 use Rattle.std.proofs.lemmas.List.Elements.{All-append, All-nil, All-cons, All-map}
 use Rattle.setoff_model.specs.declared.limits.TheConstants.{MOST_CLAIMS, MOST_FIRMS}
 use Rattle.setoff_model.specs.Names.{is_name}
-use Rattle.lane_runner.specs.claim_history.specs.declared.act.Act.{Act}
-use Rattle.lane_runner.specs.claim_history.specs.declared.act.Act.TheVariants as act
-use Rattle.lane_runner.specs.claim_history.specs.Acts.{is_request}
-use Rattle.lane_runner.specs.request_text.specs.Grammar.{CanBeAsked}
+use Rattle.claim_history.specs.declared.act.Act.{Act}
+use Rattle.claim_history.specs.declared.act.Act.TheVariants as act
+use Rattle.claim_history.specs.Acts.{is_request}
+use Rattle.request_text.specs.Grammar.{CanBeAsked}
 use Rattle.trial_round.specs.declared.days.TheConstants.{DUE_DAY}
 use Rattle.trial_round.specs.Draws.{draw}
 use Rattle.trial_round.specs.Input.{acts_before_close, by_lane_one, claim_acts, claim_cents, claim_key, close_act, creditor_place, debtor_place, filed_and_confirmed, firm_acts, firm_name, invoice_name, trial_acts}

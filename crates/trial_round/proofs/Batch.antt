@@ -2,8 +2,8 @@
 use Rattle.std.proofs.Common.{◌≡◌, ◌∙◌, ℕ, List, [], ◌∷◌, ◌++◌, map, sym, subst}
 use Rattle.std.specs.Prelude.{All}
 use Rattle.std.proofs.lemmas.List.Elements.{All-nil, All-cons}
-use Rattle.lane_runner.specs.request_text.specs.declared.request.Request.{Request}
-use Rattle.lane_runner.specs.request_text.specs.Grammar.{CanBeAsked, IsNoRequestText, IsRequestText, ReadBackLaw}
+use Rattle.request_text.specs.declared.request.Request.{Request}
+use Rattle.request_text.specs.Grammar.{CanBeAsked, IsNoRequestText, IsRequestText, ReadBackLaw}
 use Rattle.trial_round.specs.Input.{by_lane_one, text_of_acts, trial_acts, trial_input}
 use Rattle.trial_round.specs.Trial.{IsTrialSize, trial_batch}
 use Rattle.trial_round.proofs.Asked.{all_asked}

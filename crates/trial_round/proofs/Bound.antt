@@ -5,15 +5,15 @@ use Rattle.std.proofs.lemmas.List.{append-nil, length-map}
 use Rattle.std.proofs.lemmas.List.Elements.{All-nil, All-cons, All-head, All-tail}
 use Rattle.std.proofs.lemmas.List.Sums.{count_by-le-length}
 use Rattle.setoff_model.specs.declared.limits.TheConstants.{MOST_CLAIMS, MOST_FIRMS, MOST_JOURNAL_BYTES}
-use Rattle.lane_runner.specs.claim_history.specs.declared.act.Act.{Act}
-use Rattle.lane_runner.specs.claim_history.specs.declared.act.Act.TheVariants as act
-use Rattle.lane_runner.specs.claim_history.specs.declared.call.PoolEntry.{PoolEntry}
+use Rattle.claim_history.specs.declared.act.Act.{Act}
+use Rattle.claim_history.specs.declared.act.Act.TheVariants as act
+use Rattle.claim_history.specs.declared.call.PoolEntry.{PoolEntry}
 use Rattle.setoff_model.specs.Names.{is_name}
-use Rattle.lane_runner.specs.claim_history.specs.Acts.{is_close, is_filing, is_registration, is_request}
-use Rattle.lane_runner.specs.claim_history.specs.Pools.{AreValid, IsLegal, main_pool}
-use Rattle.lane_runner.specs.claim_history.specs.PoolNeeds.{reserved_bytes_of, used_bytes_of}
-use Rattle.lane_runner.specs.request_text.specs.declared.request.Request.{Request}
-use Rattle.lane_runner.specs.request_text.specs.Grammar.{Asked, numbered}
+use Rattle.claim_history.specs.Acts.{is_close, is_filing, is_registration, is_request}
+use Rattle.claim_history.specs.Pools.{AreValid, IsLegal, main_pool}
+use Rattle.claim_history.specs.PoolNeeds.{reserved_bytes_of, used_bytes_of}
+use Rattle.request_text.specs.declared.request.Request.{Request}
+use Rattle.request_text.specs.Grammar.{Asked, numbered}
 use Rattle.lane_runner.specs.served_lines.specs.declared.answer.Answer.{Answer}
 use Rattle.lane_runner.specs.served_lines.specs.Bound.{AreRequests, BoundLaw, IsWithinBound, claims_with, closes, firms_with, most_endings, most_request_bytes}
 use Rattle.lane_runner.specs.served_lines.specs.Ends.{has_line_end, is_full_end}

@@ -4,7 +4,7 @@ use Rattle.setoff_model.specs.declared.limits.TheConstants.{MOST_AMOUNT}
 use Rattle.setoff_model.specs.declared.name.Key.{Key}
 use Rattle.std.proofs.lemmas.Bool.{le-leb}
 use Rattle.std.specs.Prelude.{true}
-use Rattle.lane_runner.specs.claim_history.specs.Acts.{is_claim_amount}
+use Rattle.claim_history.specs.Acts.{is_claim_amount}
 use Rattle.trial_round.specs.Draws.{draw}
 use Rattle.trial_round.proofs.Drawn.{draw_short}
 use Rattle.trial_round.specs.Input.{claim_cents, claim_key, creditor_place, debtor_place, firm_name, invoice_name, other_than}

@@ -1,8 +1,8 @@
 -- The outcome that a history ends with.
 use Rattle.std.proofs.Common.{◌≡◌, ◌∙◌, List, [], ◌∷◌, ◌++◌, sym, ap}
 use Rattle.setoff_model.specs.CutView.{OutcomeView}
-use Rattle.lane_runner.specs.claim_history.specs.declared.act.Act.TheVariants as act
-use Rattle.lane_runner.specs.claim_history.specs.declared.entry.Entry.{Entry}
+use Rattle.claim_history.specs.declared.act.Act.TheVariants as act
+use Rattle.claim_history.specs.declared.entry.Entry.{Entry}
 use Rattle.trial_round.specs.Round.{EndsWith}
 
 last_differs : {A : Type 0} (xs : List A) (x y z : A) → z ∷ xs ++ x ∷ [] ≡ y ∷ [] → ⊥

@@ -6,26 +6,26 @@ use Rattle.setoff_model.specs.CutView.{CutView, OutcomeView, WellFormed, obligat
 use Rattle.setoff_model.specs.Setoff.{Proves}
 use Rattle.std.proofs.lemmas.List.{map-append}
 use Rattle.setoff_model.proofs.Lists.{All-first}
-use Rattle.lane_runner.specs.claim_history.specs.declared.act.Act.{Act}
-use Rattle.lane_runner.specs.claim_history.specs.declared.act.Act.TheVariants as act
-use Rattle.lane_runner.specs.claim_history.specs.declared.call.PoolEntry.{PoolEntry}
-use Rattle.lane_runner.specs.claim_history.specs.declared.entry.Entry.{Entry}
-use Rattle.lane_runner.specs.claim_history.specs.declared.entry.Reply.{Reply}
-use Rattle.lane_runner.specs.claim_history.specs.declared.entry.Reply.TheVariants as reply
-use Rattle.lane_runner.specs.claim_history.specs.declared.entry.Why.TheVariants as why
-use Rattle.lane_runner.specs.claim_history.specs.Acts.{is_valid}
-use Rattle.lane_runner.specs.claim_history.specs.History.{AreValid, IsLegal, is_accepted, is_no_refusal}
-use Rattle.lane_runner.specs.claim_history.proofs.Histories.{is_of_rounds}
-use Rattle.lane_runner.specs.claim_history.specs.Laws.{GreatestLaw}
-use Rattle.lane_runner.specs.claim_history.specs.Needs.{is_of_device}
-use Rattle.lane_runner.specs.claim_history.specs.Rounds.{cuts_after}
-use Rattle.lane_runner.specs.claim_history.specs.PoolLaws.{MainLaw}
-use Rattle.lane_runner.specs.claim_history.specs.Pools as pools
-use Rattle.lane_runner.specs.claim_history.specs.Pools.{entries_in, entries_of, main_pool, member_of, replay_of}
-use Rattle.lane_runner.specs.claim_history.specs.PoolRounds as rounds
+use Rattle.claim_history.specs.declared.act.Act.{Act}
+use Rattle.claim_history.specs.declared.act.Act.TheVariants as act
+use Rattle.claim_history.specs.declared.call.PoolEntry.{PoolEntry}
+use Rattle.claim_history.specs.declared.entry.Entry.{Entry}
+use Rattle.claim_history.specs.declared.entry.Reply.{Reply}
+use Rattle.claim_history.specs.declared.entry.Reply.TheVariants as reply
+use Rattle.claim_history.specs.declared.entry.Why.TheVariants as why
+use Rattle.claim_history.specs.Acts.{is_valid}
+use Rattle.claim_history.specs.History.{AreValid, IsLegal, is_accepted, is_no_refusal}
+use Rattle.claim_history.proofs.Histories.{is_of_rounds}
+use Rattle.claim_history.specs.Laws.{GreatestLaw}
+use Rattle.claim_history.specs.Needs.{is_of_device}
+use Rattle.claim_history.specs.Rounds.{cuts_after}
+use Rattle.claim_history.specs.PoolLaws.{MainLaw}
+use Rattle.claim_history.specs.Pools as pools
+use Rattle.claim_history.specs.Pools.{entries_in, entries_of, main_pool, member_of, replay_of}
+use Rattle.claim_history.specs.PoolRounds as rounds
 use Rattle.lane_runner.specs.round_cut.specs.CutLaw.{FormedLaw}
-use Rattle.lane_runner.specs.request_text.specs.declared.request.Request.{Request}
-use Rattle.lane_runner.specs.request_text.specs.Grammar.{numbered}
+use Rattle.request_text.specs.declared.request.Request.{Request}
+use Rattle.request_text.specs.Grammar.{numbered}
 use Rattle.lane_runner.specs.served_lines.specs.declared.answer.Answer.{Answer}
 use Rattle.lane_runner.specs.served_lines.specs.Ends.{has_line_end, is_full_end, is_memory_end}
 use Rattle.lane_runner.specs.served_lines.specs.Served.{EndsAtOnce, IsEnding, IsOne, IsRound, IsServed}

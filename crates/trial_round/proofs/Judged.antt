@@ -2,7 +2,7 @@
 use Rattle.std.proofs.Common.{◌≡◌, ◌∙◌, List, length, get_or, sym, ap, subst}
 use Rattle.setoff_model.specs.CutView.{CutView, OutcomeView, WellFormed, obligations}
 use Rattle.setoff_model.specs.Setoff.{Proves}
-use Rattle.lane_runner.specs.claim_history.specs.declared.entry.Entry.{Entry}
+use Rattle.claim_history.specs.declared.entry.Entry.{Entry}
 use Rattle.trial_round.specs.Round.{EndsWith, HasRound}
 use Rattle.trial_round.proofs.Ends.{one_end}
 

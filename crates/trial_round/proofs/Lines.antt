@@ -7,19 +7,19 @@ use Rattle.std.proofs.lemmas.List.{append-nil}
 use Rattle.std.proofs.lemmas.List.Elements.{All-nil, All-cons, All-head, All-tail}
 use Rattle.setoff_model.specs.Same.{same_name}
 use Rattle.setoff_model.proofs.SameNames.{same_name_is}
-use Rattle.lane_runner.specs.claim_history.specs.declared.act.Act.{Act}
-use Rattle.lane_runner.specs.claim_history.specs.declared.call.Call.{Call}
-use Rattle.lane_runner.specs.claim_history.specs.declared.call.PoolEntry.{PoolEntry}
-use Rattle.lane_runner.specs.claim_history.specs.Acts.{is_close}
-use Rattle.lane_runner.specs.claim_history.specs.Pools.{call_of, entries_of, main_pool, member_of, members_by}
-use Rattle.lane_runner.specs.request_text.specs.declared.request.Request.{Request}
-use Rattle.lane_runner.specs.request_text.specs.Grammar.{numbered}
+use Rattle.claim_history.specs.declared.act.Act.{Act}
+use Rattle.claim_history.specs.declared.call.Call.{Call}
+use Rattle.claim_history.specs.declared.call.PoolEntry.{PoolEntry}
+use Rattle.claim_history.specs.Acts.{is_close}
+use Rattle.claim_history.specs.Pools.{call_of, entries_of, main_pool, member_of, members_by}
+use Rattle.request_text.specs.declared.request.Request.{Request}
+use Rattle.request_text.specs.Grammar.{numbered}
 use Rattle.lane_runner.specs.served_lines.specs.declared.answer.Answer.{Answer}
 use Rattle.lane_runner.specs.served_lines.specs.declared.line_end.LineEnd.{LineEnd}
 use Rattle.lane_runner.specs.served_lines.specs.declared.line_end.LineEnd.TheVariants as ends
 use Rattle.lane_runner.specs.served_lines.specs.Ends.{has_line_end, is_full_end, is_memory_end}
 use Rattle.lane_runner.specs.served_lines.specs.Served.{IsCall, IsOne, IsRound, IsServed, Line, LineAdds, LinesAdd, has_request, is_asked_by, lane_lines, lines_of}
-use Rattle.lane_runner.specs.claim_history.proofs.Rows.{or_false}
+use Rattle.claim_history.proofs.Rows.{or_false}
 use Rattle.trial_round.specs.Input.{by_lane_one, call_by_one, close_act}
 
 -- ---- all lines are of lane 1 and of the pool MAIN

@@ -4,17 +4,17 @@ use Rattle.std.proofs.Common.{◌≡◌, ◌∙◌, List, [], ◌∷◌, ◌++�
 use Rattle.std.proofs.lemmas.List.{map-append, reverse-append}
 use Rattle.setoff_model.specs.CutView.{CutView}
 use Rattle.setoff_model.specs.Same.{same_name}
-use Rattle.lane_runner.specs.claim_history.specs.declared.act.Act.{Act}
-use Rattle.lane_runner.specs.claim_history.specs.declared.call.Call.{Call}
-use Rattle.lane_runner.specs.claim_history.specs.declared.call.PoolEntry.{PoolEntry}
-use Rattle.lane_runner.specs.claim_history.specs.declared.entry.Entry.{Entry}
-use Rattle.lane_runner.specs.claim_history.specs.States.{state}
-use Rattle.lane_runner.specs.claim_history.specs.PoolLaws.{MainLaw}
-use Rattle.lane_runner.specs.claim_history.specs.Pools.{IsLegal, IsLegalPast, call_of, entries_in, entries_of, is_in, main_pool, member_of}
-use Rattle.lane_runner.specs.claim_history.specs.PoolRounds as rounds
-use Rattle.lane_runner.specs.claim_history.specs.Rounds.{cut_published, cuts_after, cuts_of, past_cuts}
-use Rattle.lane_runner.specs.claim_history.proofs.Pools.{past_own}
-use Rattle.lane_runner.specs.claim_history.proofs.Published.{past_cuts_more}
+use Rattle.claim_history.specs.declared.act.Act.{Act}
+use Rattle.claim_history.specs.declared.call.Call.{Call}
+use Rattle.claim_history.specs.declared.call.PoolEntry.{PoolEntry}
+use Rattle.claim_history.specs.declared.entry.Entry.{Entry}
+use Rattle.claim_history.specs.States.{state}
+use Rattle.claim_history.specs.PoolLaws.{MainLaw}
+use Rattle.claim_history.specs.Pools.{IsLegal, IsLegalPast, call_of, entries_in, entries_of, is_in, main_pool, member_of}
+use Rattle.claim_history.specs.PoolRounds as rounds
+use Rattle.claim_history.specs.Rounds.{cut_published, cuts_after, cuts_of, past_cuts}
+use Rattle.claim_history.proofs.Pools.{past_own}
+use Rattle.claim_history.proofs.Published.{past_cuts_more}
 use Rattle.trial_round.specs.Input.{call_by_one}
 
 -- ---- legal histories

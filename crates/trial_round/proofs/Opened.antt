@@ -1,7 +1,7 @@
 -- A desk on an empty disk has no history.
 use Rattle.std.proofs.Common.{◌≡◌, ◌∙◌, ℕ, Bool, true, List, [], ◌∷◌, ◌++◌, length, refl, ap, subst, arith}
 use Rattle.disk_model.specs.Calls.{Seen}
-use Rattle.lane_runner.specs.claim_history.specs.PoolRounds.{ended}
+use Rattle.claim_history.specs.PoolRounds.{ended}
 use Rattle.lane_runner.specs.round_journal.specs.Records.{bodies_of}
 use Rattle.lane_runner.specs.round_journal.specs.declared.record.Record.{Record}
 use Rattle.lane_runner.specs.round_journal.proofs.Short.{held_short}

@@ -4,14 +4,14 @@ use Rattle.std.specs.List.{list_any}
 use Rattle.std.proofs.Common.{◌≡◌, ◌∙◌, ℕ, Bool, false, ◌||◌, List, [], ◌∷◌, ◌++◌, map, refl, sym, ap, ap₂, append_assoc}
 use Rattle.std.proofs.lemmas.List.{reverse-append, reverse-reverse, append-nil, map-append}
 use Rattle.std.proofs.lemmas.List.Folds.{list_any-append}
-use Rattle.lane_runner.specs.claim_history.specs.declared.call.Call.{Call}
-use Rattle.lane_runner.specs.claim_history.specs.declared.call.PoolEntry.{PoolEntry}
-use Rattle.lane_runner.specs.claim_history.specs.declared.entry.Entry.{Entry}
-use Rattle.lane_runner.specs.claim_history.specs.declared.entry.Reply.{Reply}
-use Rattle.lane_runner.specs.claim_history.specs.History.{IsReply, failed, last_count, replied}
-use Rattle.lane_runner.specs.claim_history.specs.Needs.{is_of_device}
-use Rattle.lane_runner.specs.claim_history.specs.Pools.{IsLegal, IsLegalPast, answered, call_of, due_member, due_of_past, entries_of, replay_after, replay_of}
-use Rattle.lane_runner.specs.claim_history.proofs.Rows.{or_false}
+use Rattle.claim_history.specs.declared.call.Call.{Call}
+use Rattle.claim_history.specs.declared.call.PoolEntry.{PoolEntry}
+use Rattle.claim_history.specs.declared.entry.Entry.{Entry}
+use Rattle.claim_history.specs.declared.entry.Reply.{Reply}
+use Rattle.claim_history.specs.History.{IsReply, failed, last_count, replied}
+use Rattle.claim_history.specs.Needs.{is_of_device}
+use Rattle.claim_history.specs.Pools.{IsLegal, IsLegalPast, answered, call_of, due_member, due_of_past, entries_of, replay_after, replay_of}
+use Rattle.claim_history.proofs.Rows.{or_false}
 
 -- the reply of an entry, and of a member, tells of the device
 abbrev pub has_device_reply : Entry → Bool

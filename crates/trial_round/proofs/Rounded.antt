@@ -9,21 +9,21 @@ use Rattle.std.proofs.lemmas.List.Elements.{All-head, All-tail}
 use Rattle.setoff_model.specs.declared.kind.Kind.TheVariants.{Plain}
 use Rattle.setoff_model.specs.CutView.{CutView, OutcomeView, obligations}
 use Rattle.setoff_model.specs.Setoff.{Proves}
-use Rattle.lane_runner.specs.claim_history.specs.declared.act.Act.{Act}
-use Rattle.lane_runner.specs.claim_history.specs.declared.act.Act.TheVariants as act
-use Rattle.lane_runner.specs.claim_history.specs.declared.entry.Entry.{Entry}
-use Rattle.lane_runner.specs.claim_history.specs.declared.entry.Reply.{Reply}
-use Rattle.lane_runner.specs.claim_history.specs.declared.entry.Reply.TheVariants as reply
-use Rattle.lane_runner.specs.claim_history.specs.Cut.{cut_of}
-use Rattle.lane_runner.specs.claim_history.specs.Facts.{Settled}
-use Rattle.lane_runner.specs.claim_history.specs.History.{IsLegal, IsLegalPast, answer, close_answer, last_count}
-use Rattle.lane_runner.specs.claim_history.specs.Laws.{GreatestLaw, IsGreatestPublication}
-use Rattle.lane_runner.specs.claim_history.specs.Rounds.{cut_published, cuts_after, cuts_of}
-use Rattle.lane_runner.specs.claim_history.specs.States.{OpenRound, State, after, state, state_of}
-use Rattle.lane_runner.specs.claim_history.proofs.Histories.{answer_leaves, is_of_rounds, reply_leaves}
-use Rattle.lane_runner.specs.claim_history.proofs.Pasts.{all_reverse, legal_first}
-use Rattle.lane_runner.specs.claim_history.proofs.Published.{cuts_more}
-use Rattle.lane_runner.specs.claim_history.proofs.Rounds.{same_open}
+use Rattle.claim_history.specs.declared.act.Act.{Act}
+use Rattle.claim_history.specs.declared.act.Act.TheVariants as act
+use Rattle.claim_history.specs.declared.entry.Entry.{Entry}
+use Rattle.claim_history.specs.declared.entry.Reply.{Reply}
+use Rattle.claim_history.specs.declared.entry.Reply.TheVariants as reply
+use Rattle.claim_history.specs.Cut.{cut_of}
+use Rattle.claim_history.specs.Facts.{Settled}
+use Rattle.claim_history.specs.History.{IsLegal, IsLegalPast, answer, close_answer, last_count}
+use Rattle.claim_history.specs.Laws.{GreatestLaw, IsGreatestPublication}
+use Rattle.claim_history.specs.Rounds.{cut_published, cuts_after, cuts_of}
+use Rattle.claim_history.specs.States.{OpenRound, State, after, state, state_of}
+use Rattle.claim_history.proofs.Histories.{answer_leaves, is_of_rounds, reply_leaves}
+use Rattle.claim_history.proofs.Pasts.{all_reverse, legal_first}
+use Rattle.claim_history.proofs.Published.{cuts_more}
+use Rattle.claim_history.proofs.Rounds.{same_open}
 use Rattle.trial_round.specs.declared.days.TheConstants.{HORIZON_DAY}
 use Rattle.trial_round.specs.Input.{close_act}
 use Rattle.trial_round.proofs.Replayed.{has_device_reply, none_in_first, none_in_parts, reply_due}

@@ -3,10 +3,10 @@ use Rattle.std.specs.Prelude.{None}
 use Rattle.std.proofs.Common.{◌≡◌, ◌∙◌, ℕ, suc, ◌+◌, List, [], ◌∷◌, ◌++◌, map, refl, sym, ap, ap₂, add-one, append_assoc}
 use Rattle.std.proofs.lemmas.List.{append-nil, map-append}
 use Rattle.std.proofs.lemmas.List.Concat.{flat_map-append}
-use Rattle.lane_runner.specs.claim_history.specs.declared.act.Act.{Act}
-use Rattle.lane_runner.specs.claim_history.specs.declared.act.Act.TheVariants as act
-use Rattle.lane_runner.specs.claim_history.specs.Pools.{main_pool}
-use Rattle.lane_runner.specs.request_text.specs.Grammar.{Asked, batch_text, request_line}
+use Rattle.claim_history.specs.declared.act.Act.{Act}
+use Rattle.claim_history.specs.declared.act.Act.TheVariants as act
+use Rattle.claim_history.specs.Pools.{main_pool}
+use Rattle.request_text.specs.Grammar.{Asked, batch_text, request_line}
 use Rattle.setoff_model.specs.declared.name.Key.{Key}
 use Rattle.trial_round.specs.declared.days.TheConstants.{DUE_DAY}
 use Rattle.trial_round.specs.Input.{acts_before_close, by_lane_one, claim_acts, claim_cents, claim_key, close_act, debtor_place, filed_and_confirmed, firm_acts, firm_name, text_of_acts, trial_acts, trial_input}

@@ -7,10 +7,10 @@ use Rattle.setoff_model.specs.declared.kind.Kind.TheVariants.{Plain}
 use Rattle.setoff_model.specs.CutView.{CutView, obligations}
 use Rattle.setoff_model.proofs.Circulation.{weak_duality}
 use Rattle.setoff_model.proofs.Deciding.{proof_test_law}
-use Rattle.lane_runner.specs.claim_history.specs.declared.act.Act.{Act}
-use Rattle.lane_runner.specs.claim_history.specs.declared.act.Act.TheVariants as act
-use Rattle.lane_runner.specs.claim_history.specs.Cut.{cut_of}
-use Rattle.lane_runner.specs.claim_history.specs.Pools.{ledger_in, main_pool, replay_of}
+use Rattle.claim_history.specs.declared.act.Act.{Act}
+use Rattle.claim_history.specs.declared.act.Act.TheVariants as act
+use Rattle.claim_history.specs.Cut.{cut_of}
+use Rattle.claim_history.specs.Pools.{ledger_in, main_pool, replay_of}
 use Rattle.trial_round.specs.declared.days.TheConstants.{HORIZON_DAY}
 use Rattle.trial_round.specs.Draws.{draw, next_state, state_after}
 use Rattle.trial_round.specs.Input.{acts_before_close, call_by_one, claim_acts, claim_cents, creditor_place, debtor_place, filed_and_confirmed, firm_acts}

@@ -3,11 +3,11 @@
 use Rattle.std.specs.Prelude.{ℕ, zero, suc, ◌+◌, ◌-◌, ◌*◌, ◌%◌, nat_le, List, [], ◌∷◌, ◌++◌, map, codes, decimal, None, if◌then◌else◌}
 use Rattle.setoff_model.specs.declared.name.Key.{Key}
 use Rattle.setoff_model.specs.declared.kind.Kind.TheVariants.{Plain}
-use Rattle.lane_runner.specs.claim_history.specs.declared.act.Act.{Act}
-use Rattle.lane_runner.specs.claim_history.specs.declared.act.Act.TheVariants as act
-use Rattle.lane_runner.specs.claim_history.specs.declared.call.Call.{Call}
-use Rattle.lane_runner.specs.claim_history.specs.Pools.{main_pool}
-use Rattle.lane_runner.specs.request_text.specs.Grammar.{Asked, batch_text}
+use Rattle.claim_history.specs.declared.act.Act.{Act}
+use Rattle.claim_history.specs.declared.act.Act.TheVariants as act
+use Rattle.claim_history.specs.declared.call.Call.{Call}
+use Rattle.claim_history.specs.Pools.{main_pool}
+use Rattle.request_text.specs.Grammar.{Asked, batch_text}
 use Rattle.trial_round.specs.declared.days.TheConstants.{DUE_DAY, HORIZON_DAY}
 use Rattle.trial_round.specs.Draws.{draw}
 

@@ -2,10 +2,10 @@
 use Rattle.std.specs.Prelude.{◌≡◌, ℕ, List, [], ◌∷◌, ◌++◌, Option, MatchOption}
 use Rattle.setoff_model.specs.CutView.{CutView, OutcomeView, WellFormed, obligations}
 use Rattle.setoff_model.specs.Setoff.{Proves}
-use Rattle.lane_runner.specs.claim_history.specs.declared.act.Act.TheVariants as act
-use Rattle.lane_runner.specs.claim_history.specs.declared.entry.Entry.{Entry}
-use Rattle.lane_runner.specs.claim_history.specs.PoolRounds.{cuts_after}
-use Rattle.lane_runner.specs.request_text.specs.declared.request.Request.{Request}
+use Rattle.claim_history.specs.declared.act.Act.TheVariants as act
+use Rattle.claim_history.specs.declared.entry.Entry.{Entry}
+use Rattle.claim_history.specs.PoolRounds.{cuts_after}
+use Rattle.request_text.specs.declared.request.Request.{Request}
 use Rattle.lane_runner.specs.bureau_desk.specs.Desks.{DeskView}
 use Rattle.lane_runner.specs.served_lines.specs.declared.answer.Answer.{Answer}
 use Rattle.lane_runner.specs.served_lines.specs.Served.{IsServed}

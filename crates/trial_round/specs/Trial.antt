@@ -5,10 +5,10 @@ use Rattle.setoff_model.specs.declared.kind.Kind.TheVariants.{Plain}
 use Rattle.setoff_model.specs.CutView.{CutView, obligations}
 use Rattle.setoff_model.specs.Setoff.{IsGreatest, total_of}
 use Rattle.setoff_model.specs.Texts.{cents_text}
-use Rattle.lane_runner.specs.claim_history.specs.Cut.{cut_of}
-use Rattle.lane_runner.specs.claim_history.specs.Pools.{ledger_in, main_pool, replay_of}
-use Rattle.lane_runner.specs.request_text.specs.declared.request.Request.{Request}
-use Rattle.lane_runner.specs.request_text.specs.Grammar.{numbered}
+use Rattle.claim_history.specs.Cut.{cut_of}
+use Rattle.claim_history.specs.Pools.{ledger_in, main_pool, replay_of}
+use Rattle.request_text.specs.declared.request.Request.{Request}
+use Rattle.request_text.specs.Grammar.{numbered}
 use Rattle.trial_round.specs.declared.days.TheConstants.{HORIZON_DAY}
 use Rattle.trial_round.specs.Input.{acts_before_close, by_lane_one, call_by_one, trial_acts}
 

@@ -2,18 +2,18 @@
 ghost use Rattle.std.specs.Prelude.{◌≡◌, ◌+◌, ◌-◌, ◌*◌, ◌<◌, ◌≤◌, ◌^◌, ◌++◌, ◌∷◌, decimal, true, None, OnOk, IfOk, vec_capacity};
 ghost use Rattle.setoff_model.specs.declared.limits.TheConstants.{MOST_CLAIMS, MOST_FIRMS};
 ghost use Rattle.setoff_model.specs.Names.{is_letter, is_name};
-ghost use Rattle.lane_runner.specs.claim_history.specs.Acts.{is_claim_amount, is_key, is_request};
-ghost use Rattle.lane_runner.specs.claim_history.specs.Pools.{main_pool};
-ghost use Rattle.lane_runner.specs.claim_history.specs.declared.act.Act.TheVariants as acts;
-ghost use Rattle.lane_runner.specs.request_text.specs.Grammar.{request_line};
+ghost use Rattle.claim_history.specs.Acts.{is_claim_amount, is_key, is_request};
+ghost use Rattle.claim_history.specs.Pools.{main_pool};
+ghost use Rattle.claim_history.specs.declared.act.Act.TheVariants as acts;
+ghost use Rattle.request_text.specs.Grammar.{request_line};
 ghost use Rattle.trial_round.specs.Input.{claim_acts, claim_cents, claim_key, close_act, debtor_place};
 ghost use Rattle.trial_round.specs.Input.{filed_and_confirmed, firm_acts, firm_name, other_than, text_of_acts, trial_input};
 ghost use Rattle.trial_round.specs.Trial.{IsTrialSize, trial_batch};
 
 use crate::days::{DUE_DAY, HORIZON_DAY};
 use crate::draws::Draws;
-use lane_runner::claim_history::{Act, Day, main_pool_name};
-use lane_runner::request_text::{
+use claim_history::{Act, Day, main_pool_name};
+use request_text::{
     Batch, RequestError, read_requests, write_request, written_requests_are_read_back,
 };
 use setoff_model::limits::LINE_BYTES;

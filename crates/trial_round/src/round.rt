@@ -2,26 +2,24 @@
 ghost use Rattle.std.specs.Prelude.{◌≡◌, [], IfOk};
 ghost use Rattle.setoff_model.specs.CutView.{WellFormed, obligations};
 ghost use Rattle.setoff_model.specs.Setoff.{Proves};
-ghost use Rattle.lane_runner.specs.claim_history.specs.PoolRounds.{cuts_after};
+ghost use Rattle.claim_history.specs.PoolRounds.{cuts_after};
 ghost use Rattle.lane_runner.specs.served_lines.specs.Served.{IsServed};
 ghost use Rattle.trial_round.specs.Trial.{AreSums, IsTrialSize, trial_batch, trial_cut};
 ghost use Rattle.trial_round.specs.Round.{EndsWith, HasRound, HasServedAlone};
 ghost use Rattle.trial_round.specs.Opening.{IsWant};
 
 use crate::input::trial_batch;
-use disk_model::MemoryDisk;
-use lane_runner::bureau_desk::{Desk, DeskCause, DeskRefused};
-use lane_runner::claim_book::Books;
-use lane_runner::claim_history::{
+use claim_history::{
     Act, Entry, each_pool_has_its_history, main_pool_name, publications_are_greatest,
 };
-use lane_runner::request_text::Batch;
-use lane_runner::round_cut::cut_of_a_history_is_of_its_facts;
-use lane_runner::served_lines::{
-    Answer, no_line_is_full_within_the_bound, some_device, some_memory,
+use disk_model::MemoryDisk;
+use lane_runner::{
+    Answer, BatchEnd, Books, Desk, DeskCause, DeskRefused, Unhindered,
+    cut_of_a_history_is_of_its_facts, no_line_is_full_within_the_bound, run_batch, some_device,
+    some_memory,
 };
-use lane_runner::{BatchEnd, Unhindered, run_batch};
 use level_solver::LevelSolver;
+use request_text::Batch;
 use setoff_checker::{Checker, Verdict};
 use setoff_model::{Cut, Outcome, weak_duality};
 use std::alloc::{AllocError, Global};

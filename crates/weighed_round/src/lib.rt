@@ -9,6 +9,9 @@ mod text;
 mod weighing;
 mod weights;
 
-pub use printed_text;
-pub use printed_text::{claim_book, entry_text, firm_notices, statement_text};
+pub use printed_text::{
+    Books, ExitStatus, ImportError, RowCause, StatementCause, StatementError, end_with, import,
+    notices, output_buffer, positions, read_statement, status_of_verdict, tell_no_memory,
+    write_bad_row, write_bad_statement, write_reply, write_verdict,
+};
 pub use weighing::weigh;

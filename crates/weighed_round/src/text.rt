@@ -7,9 +7,7 @@ ghost use Rattle.printed_text.specs.statement_text.specs.Statements.{party_lines
 ghost use Rattle.printed_text.specs.Printing.{lines_bytes};
 ghost use Rattle.weighed_round.specs.Weighed.{weighed_lines, weighed_text};
 
-use printed_text::statement_text::{
-    write_end, write_party, write_total, write_weighed_claim, write_weighed_head,
-};
+use printed_text::{write_end, write_party, write_total, write_weighed_claim, write_weighed_head};
 use setoff_model::limits::LINE_BYTES;
 use setoff_model::{Cut, Outcome, Party};
 use std::alloc::{AllocError, Global};

@@ -5,9 +5,7 @@ ghost use Rattle.weighed_round.specs.Weighed.{IsWeighedText};
 
 use crate::text::text_of;
 use crate::weights::weights_of;
-use printed_text::claim_book::Book;
-use printed_text::claim_history::Day;
-use printed_text::round_cut::{build_cut, cut_of_a_history_is_of_its_facts};
+use printed_text::{Book, Day, build_cut, cut_of_a_history_is_of_its_facts};
 use setoff_model::Kind;
 use std::alloc::{AllocError, Global};
 use weighted_setoff::solve_weighted;

@@ -3,8 +3,7 @@ ghost use Rattle.std.specs.Prelude.{◌≡◌, IfOk, map};
 ghost use Rattle.printed_text.specs.round_cut.specs.CutOfFacts.{claims_due};
 ghost use Rattle.weighed_round.specs.Weighed.{weight_at};
 
-use printed_text::claim_history::{ClaimFact, Day};
-use printed_text::round_cut::is_due;
+use printed_text::{ClaimFact, Day, is_due};
 use std::alloc::{AllocError, Global};
 
 // How much a cent of a claim counts that is due on a day.

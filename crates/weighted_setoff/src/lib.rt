@@ -18,8 +18,7 @@ mod weights;
 
 pub use checker::WeightedChecker;
 pub use judging::weighted_total;
-pub use level_solver;
-pub use level_solver::{net_presolve, simplex_engine};
+pub use level_solver::{LevelSolver, settle_within};
 pub use solving::solve_weighted;
 pub use verdict::WeightedVerdict;
 pub use weights::are_weights;

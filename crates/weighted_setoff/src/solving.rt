@@ -4,9 +4,7 @@ ghost use Rattle.setoff_model.specs.CutView.{WellFormed, obligations};
 ghost use Rattle.setoff_model.specs.Weighted.{AreWeights, IsWeightedGreatest, ProvesWeighted};
 
 use crate::start::state_of_cut;
-use level_solver::price_squeezing::squeeze_to;
-use level_solver::residual_state::found_at_rest;
-use level_solver::settle;
+use level_solver::{found_at_rest, settle, squeeze_to};
 use setoff_model::limits::MOST_WEIGHT;
 use setoff_model::{Cut, Outcome, weighted_duality};
 use std::alloc::{AllocError, Global};

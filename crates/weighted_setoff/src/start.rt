@@ -5,8 +5,7 @@ ghost use Rattle.setoff_model.specs.Weighted.{AreWeights};
 ghost use Rattle.level_solver.specs.residual_state.specs.States.{IsStateOf};
 ghost use Rattle.weighted_setoff.specs.Starts.{AreEdgesOf, weighed_cut};
 
-use level_solver::residual_network::Edge;
-use level_solver::residual_state::{State, state_at_start};
+use level_solver::{Edge, State, state_at_start};
 use setoff_model::{Cut, CutClaim};
 use std::alloc::{AllocError, Global};
 

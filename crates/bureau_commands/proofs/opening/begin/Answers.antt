@@ -2,7 +2,7 @@ use Rattle.std.specs.Prelude.{OnErr, OnOk, drop, take}
 use Rattle.std.specs.Io.KnownBytes.{Appends}
 use Rattle.std.proofs.Common.{◌≡◌, ◌∙◌, ◌≤◌, [], ◌∷◌, ℕ, List, length, ap, refl, subst, sym, arith}
 use Rattle.bureau_edge.specs.Streams.{AppendsPart}
-use Rattle.claim_history.specs.PoolRounds.{cuts_after}
+use Rattle.live_runs.specs.claim_history.specs.PoolRounds.{cuts_after}
 use Rattle.live_runs.specs.printed_text.specs.declared.exit_status.ExitStatus.TheVariants as statuses
 use Rattle.live_runs.specs.printed_text.specs.Texts.{memory_text}
 use Rattle.live_runs.specs.printed_text.specs.Printing.{printed_of}

@@ -2,7 +2,7 @@ use Rattle.std.specs.List.{All}
 use Rattle.std.proofs.Common.{◌≡◌, List, length, subst, sym, ◌∙◌, ap}
 use Rattle.std.specs.Prelude.{map}
 use Rattle.std.proofs.lemmas.Result.{IfOk-weaker}
-use Rattle.setoff_model.specs.declared.cut.Party.{Party}
+use Rattle.residual_state.specs.setoff_model.specs.declared.cut.Party.{Party}
 use Rattle.residual_state.specs.declared.state.State.{State}
 use Rattle.residual_state.specs.Edges.{IsClaimEdge}
 use Rattle.residual_state.specs.States.{IsStateOf, weighed_edges}

@@ -1,6 +1,6 @@
 use Rattle.std.proofs.Common.{arith}
-use Rattle.limited_book.specs.act_bodies.proofs.Lengths.{length_law}
-use Rattle.limited_book.specs.act_bodies.proofs.Keepable.{act_valid, pool_named}
+use Rattle.act_bodies.proofs.Lengths.{length_law}
+use Rattle.act_bodies.proofs.Keepable.{act_valid, pool_named}
 use Rattle.group_loader.proofs.loader.hold.Goals as goal
 
 pub push-requires : goal.push-requires

@@ -2,10 +2,10 @@ use Rattle.std.specs.Prelude.{is_some}
 use Rattle.std.proofs.Common.{◌≡◌, ◌∙◌, ◌++◌, ◌∷◌, [], ℕ, List, Some, ap, subst, sym}
 use Rattle.setoff_model.proofs.Lists.{on_err}
 use Rattle.setoff_model.specs.CutView.{CutView}
-use Rattle.printed_text.specs.bureau_edge.specs.Streams.{AppendsPart}
-use Rattle.printed_text.specs.claim_history.specs.declared.call.PoolEntry.{PoolEntry}
-use Rattle.printed_text.specs.claim_history.specs.Pools.{member_of}
-use Rattle.printed_text.specs.claim_history.specs.PoolRounds.{open_cut_in}
+use Rattle.bureau_edge.specs.Streams.{AppendsPart}
+use Rattle.claim_history.specs.declared.call.PoolEntry.{PoolEntry}
+use Rattle.claim_history.specs.Pools.{member_of}
+use Rattle.claim_history.specs.PoolRounds.{open_cut_in}
 use Rattle.printed_text.specs.Printing.{IsPrintableAt}
 use Rattle.printed_text.specs.Writing.{GoesThrough}
 use Rattle.printed_text.proofs.Members.{act_valid, reply_in_range}

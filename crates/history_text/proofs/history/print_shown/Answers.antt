@@ -1,7 +1,7 @@
 use Rattle.std.proofs.Common.{◌++◌, [], ℕ, List, OnOk, OnErr, subst}
-use Rattle.printed_text.specs.bureau_edge.specs.Streams.{AppendsPart}
-use Rattle.printed_text.specs.claim_history.specs.declared.call.PoolEntry.{PoolEntry}
-use Rattle.printed_text.specs.claim_history.specs.Pools.{member_of}
+use Rattle.bureau_edge.specs.Streams.{AppendsPart}
+use Rattle.claim_history.specs.declared.call.PoolEntry.{PoolEntry}
+use Rattle.claim_history.specs.Pools.{member_of}
 use Rattle.printed_text.specs.Writing.{GoesThrough}
 use Rattle.history_text.proofs.Printed.{line_shown, open_shown, shown_printable}
 use Rattle.history_text.proofs.history.print_shown.Goals as goal

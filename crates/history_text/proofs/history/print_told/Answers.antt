@@ -1,7 +1,7 @@
 use Rattle.std.proofs.Common.{List, ap, subst, take, arith}
 use Rattle.std.proofs.lemmas.List.{drop_all}
 use Rattle.setoff_model.proofs.Lists.{on_err}
-use Rattle.printed_text.specs.claim_history.specs.declared.call.PoolEntry.{PoolEntry}
+use Rattle.claim_history.specs.declared.call.PoolEntry.{PoolEntry}
 use Rattle.printed_text.specs.Printing.{added_text}
 use Rattle.printed_text.proofs.Passing.{up_begins, up_ends, counted_later}
 use Rattle.history_text.specs.Histories.{HasToldOne, history_text, told_members}

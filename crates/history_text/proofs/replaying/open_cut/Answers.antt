@@ -2,7 +2,7 @@ use Rattle.std.specs.Prelude.{is_some}
 use Rattle.std.specs.Option.{option_map}
 use Rattle.std.proofs.Common.{◌≡◌, ◌∙◌, ◌∷◌, [], Some, sym, ap, true≢false}
 use Rattle.setoff_model.specs.CutView.{CutView}
-use Rattle.printed_text.specs.claim_history.specs.Rounds.{open_cut_of}
+use Rattle.claim_history.specs.Rounds.{open_cut_of}
 use Rattle.history_text.proofs.replaying.open_cut.Goals as goal
 
 pub unreachable-requires : goal.unreachable-requires

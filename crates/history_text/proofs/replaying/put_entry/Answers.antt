@@ -1,5 +1,5 @@
-use Rattle.printed_text.specs.claim_history.specs.declared.call.PoolEntry.{PoolEntry}
-use Rattle.printed_text.specs.claim_history.specs.Pools.{member_of}
+use Rattle.claim_history.specs.declared.call.PoolEntry.{PoolEntry}
+use Rattle.claim_history.specs.Pools.{member_of}
 use Rattle.history_text.proofs.Replayed.{opening_closes}
 use Rattle.history_text.proofs.replaying.put_entry.Goals as goal
 

@@ -1,8 +1,8 @@
 use Rattle.std.specs.Prelude.{OnOk}
 use Rattle.std.proofs.Common.{◌≡◌, ◌∙◌, ◌++◌, ◌∷◌, [], ap, subst, sym}
-use Rattle.printed_text.specs.claim_history.specs.declared.entry.Entry.{Entry}
-use Rattle.printed_text.specs.claim_history.specs.Acts.{is_valid}
-use Rattle.printed_text.specs.claim_history.specs.Pools.{MayFollow, member_of}
+use Rattle.claim_history.specs.declared.entry.Entry.{Entry}
+use Rattle.claim_history.specs.Acts.{is_valid}
+use Rattle.claim_history.specs.Pools.{MayFollow, member_of}
 use Rattle.history_text.proofs.replaying.put_next.Goals as goal
 
 pub put_entry-requires-clause-valid : goal.put_entry-requires-clause-valid

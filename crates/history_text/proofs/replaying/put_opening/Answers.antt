@@ -1,11 +1,11 @@
 use Rattle.std.proofs.Common.{◌≤◌, ◌<◌, ◌∙◌, ◌++◌, ◌∷◌, [], List, ap, subst, sym, arith}
 use Rattle.setoff_model.specs.declared.limits.TheConstants.{MOST_ROUNDS}
-use Rattle.printed_text.specs.claim_history.specs.declared.call.PoolEntry.{PoolEntry}
-use Rattle.printed_text.specs.claim_history.specs.declared.entry.Entry.{Entry}
-use Rattle.printed_text.specs.claim_history.specs.History.{is_opening}
-use Rattle.printed_text.specs.claim_history.specs.States.{state_of}
-use Rattle.printed_text.specs.claim_history.specs.Pools.{MayFollow, call_of, member_of, state_in}
-use Rattle.printed_text.specs.claim_history.specs.PoolRounds.{IsCutDue}
+use Rattle.claim_history.specs.declared.call.PoolEntry.{PoolEntry}
+use Rattle.claim_history.specs.declared.entry.Entry.{Entry}
+use Rattle.claim_history.specs.History.{is_opening}
+use Rattle.claim_history.specs.States.{state_of}
+use Rattle.claim_history.specs.Pools.{MayFollow, call_of, member_of, state_in}
+use Rattle.claim_history.specs.PoolRounds.{IsCutDue}
 use Rattle.printed_text.specs.claim_book.specs.Book.{room_for}
 use Rattle.printed_text.specs.claim_book.specs.Pools.{room_in}
 use Rattle.history_text.proofs.Replayed.{cut_due, few_opened}

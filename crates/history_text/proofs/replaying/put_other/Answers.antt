@@ -1,6 +1,6 @@
 use Rattle.std.proofs.Common.{◌≤◌, ◌∙◌, ◌++◌, ◌∷◌, [], List, ap, subst, sym}
-use Rattle.printed_text.specs.claim_history.specs.declared.call.PoolEntry.{PoolEntry}
-use Rattle.printed_text.specs.claim_history.specs.Pools.{MayFollow, member_of, state_in}
+use Rattle.claim_history.specs.declared.call.PoolEntry.{PoolEntry}
+use Rattle.claim_history.specs.Pools.{MayFollow, member_of, state_in}
 use Rattle.printed_text.specs.claim_book.specs.Book.{room_for}
 use Rattle.printed_text.specs.claim_book.specs.Pools.{room_in}
 use Rattle.history_text.proofs.replaying.put_other.Goals as goal

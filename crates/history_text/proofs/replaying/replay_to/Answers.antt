@@ -1,6 +1,6 @@
 use Rattle.std.proofs.Common.{◌≡◌, ◌∙◌, ℕ, List, ap, subst, sym, take, arith}
-use Rattle.printed_text.specs.claim_history.specs.declared.call.PoolEntry.{PoolEntry}
-use Rattle.printed_text.specs.claim_history.specs.Pools.{MayFollow, member_of}
+use Rattle.claim_history.specs.declared.call.PoolEntry.{PoolEntry}
+use Rattle.claim_history.specs.Pools.{MayFollow, member_of}
 use Rattle.printed_text.proofs.Members.{act_valid}
 use Rattle.history_text.specs.Histories.{told_members}
 use Rattle.history_text.proofs.Replayed.{may_follow, replayed_more}

@@ -1,9 +1,9 @@
 use Rattle.std.specs.Prelude.{slice_get, is_some}
 use Rattle.std.proofs.Common.{◌≡◌, ◌<◌, ◌∙◌, List, Option, Some, ap, length, subst, sym, arith}
 use Rattle.setoff_model.specs.CutView.{CutView}
-use Rattle.printed_text.specs.claim_history.specs.declared.entry.Entry.{Entry}
-use Rattle.printed_text.specs.claim_history.specs.Pools.{entries_in}
-use Rattle.printed_text.specs.claim_history.specs.PoolRounds.{open_cut_in}
+use Rattle.claim_history.specs.declared.entry.Entry.{Entry}
+use Rattle.claim_history.specs.Pools.{entries_in}
+use Rattle.claim_history.specs.PoolRounds.{open_cut_in}
 use Rattle.printed_text.specs.declared.exit_status.ExitStatus.TheVariants as statuses
 use Rattle.printed_text.specs.Printing.{IsPrintableAt, statement_of}
 use Rattle.history_text.specs.Histories.{told_members}

@@ -1,6 +1,6 @@
 use Rattle.std.specs.Prelude.{is_some, position}
 use Rattle.std.proofs.Common.{◌≡◌, ◌∙◌, ◌++◌, ℕ, List, None, ap, subst, sym, arith}
-use Rattle.printed_text.specs.claim_history.specs.Pools.{entries_in}
+use Rattle.claim_history.specs.Pools.{entries_in}
 use Rattle.printed_text.specs.declared.exit_status.ExitStatus.TheVariants as statuses
 use Rattle.printed_text.specs.Writing.{IsWritten}
 use Rattle.history_text.specs.Histories.{no_round_text, publishes_round, was_published}

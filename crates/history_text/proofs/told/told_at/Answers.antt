@@ -1,7 +1,7 @@
 use Rattle.std.specs.Prelude.{slice_get}
 use Rattle.std.proofs.Common.{◌≡◌, ◌<◌, ◌∙◌, ℕ, List, Option, Some, ap, length, subst, sym, arith}
-use Rattle.printed_text.specs.claim_history.specs.declared.entry.Entry.{Entry}
-use Rattle.printed_text.specs.claim_history.specs.Pools.{entries_in, member_of}
+use Rattle.claim_history.specs.declared.entry.Entry.{Entry}
+use Rattle.claim_history.specs.Pools.{entries_in, member_of}
 use Rattle.history_text.specs.Histories.{told_members}
 use Rattle.history_text.proofs.Telling.{told_here, told_many}
 use Rattle.history_text.proofs.told.told_at.Goals as goal

@@ -1,6 +1,6 @@
 use Rattle.std.proofs.Common.{◌≡◌, ◌+◌, ◌<◌, ◌≤◌, ℕ, length, map, get_or, take, vec_len, vec_capacity}
 use Rattle.setoff_model.specs.declared.limits.TheConstants.{MOST_LANES}
-use Rattle.shared_bureau.specs.turn_lock.specs.Turns.{EachOf}
+use Rattle.turn_lock.specs.Turns.{EachOf}
 use Rattle.served_lines.specs.Served.{of_lane}
 use Rattle.lane_runner.proofs.Merged.{Agree}
 use Rattle.lane_runner.proofs.merging.merge.Given as goal

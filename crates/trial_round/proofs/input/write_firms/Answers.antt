@@ -1,7 +1,7 @@
 use Rattle.std.proofs.Common.{◌∙◌, ◌++◌, List, ℕ, ap}
-use Rattle.lane_runner.specs.claim_history.specs.declared.act.Act.TheVariants as act
-use Rattle.lane_runner.specs.claim_history.specs.Pools.{main_pool}
-use Rattle.lane_runner.specs.request_text.specs.Grammar.{request_line}
+use Rattle.claim_history.specs.declared.act.Act.TheVariants as act
+use Rattle.claim_history.specs.Pools.{main_pool}
+use Rattle.request_text.specs.Grammar.{request_line}
 use Rattle.trial_round.proofs.Texts.{firms_none, firms_more}
 use Rattle.trial_round.proofs.input.write_firms.Goals as goal
 

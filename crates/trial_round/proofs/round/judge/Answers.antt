@@ -1,9 +1,9 @@
 use Rattle.std.proofs.Common.{◌∙◌, ℕ, ap, sym, subst}
 use Rattle.std.specs.Prelude.{List}
 use Rattle.setoff_model.specs.CutView.{CutView}
-use Rattle.lane_runner.specs.claim_history.specs.declared.entry.Entry.{Entry}
-use Rattle.lane_runner.specs.claim_history.specs.Pools.{entries_in}
-use Rattle.lane_runner.specs.claim_history.specs.PoolRounds.{cuts_after}
+use Rattle.claim_history.specs.declared.entry.Entry.{Entry}
+use Rattle.claim_history.specs.Pools.{entries_in}
+use Rattle.claim_history.specs.PoolRounds.{cuts_after}
 use Rattle.trial_round.specs.Round.{HasRound}
 use Rattle.trial_round.specs.Trial.{trial_cut}
 use Rattle.trial_round.proofs.Bound.{none_full}

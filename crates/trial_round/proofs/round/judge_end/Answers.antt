@@ -1,7 +1,7 @@
 use Rattle.std.specs.Prelude.{Option, Some, MatchOption}
 use Rattle.std.proofs.Common.{◌≡◌, ◌∙◌, List, [], ap, sym, subst}
-use Rattle.lane_runner.specs.claim_history.specs.declared.call.PoolEntry.{PoolEntry}
-use Rattle.lane_runner.specs.claim_history.specs.PoolRounds.{cuts_after}
+use Rattle.claim_history.specs.declared.call.PoolEntry.{PoolEntry}
+use Rattle.claim_history.specs.PoolRounds.{cuts_after}
 use Rattle.lane_runner.specs.served_lines.specs.declared.answer.Answer.{Answer}
 use Rattle.lane_runner.specs.served_lines.specs.Served.{IsServed}
 use Rattle.trial_round.specs.Trial.{trial_batch}

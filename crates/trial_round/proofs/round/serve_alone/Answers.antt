@@ -1,8 +1,8 @@
 use Rattle.std.specs.Prelude.{Option, Some, None, MatchOption}
 use Rattle.std.proofs.Common.{◌≡◌, ◌∙◌, List, [], ◌++◌, length, ap, sym, subst}
-use Rattle.lane_runner.specs.claim_history.specs.declared.call.PoolEntry.{PoolEntry}
-use Rattle.lane_runner.specs.claim_history.specs.PoolRounds.{cuts_after}
-use Rattle.lane_runner.specs.request_text.specs.declared.request.Request.{Request}
+use Rattle.claim_history.specs.declared.call.PoolEntry.{PoolEntry}
+use Rattle.claim_history.specs.PoolRounds.{cuts_after}
+use Rattle.request_text.specs.declared.request.Request.{Request}
 use Rattle.lane_runner.specs.served_lines.specs.declared.answer.Answer.{Answer}
 use Rattle.lane_runner.specs.served_lines.specs.Served.{IsServed}
 use Rattle.trial_round.proofs.round.serve_alone.Goals as goal

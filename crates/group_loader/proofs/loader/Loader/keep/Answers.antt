@@ -1,5 +1,5 @@
 use Rattle.std.proofs.Common.{◌≡◌, ◌<◌, [], length, drop, sym, ◌∙◌, ap, subst, rules}
-use Rattle.limited_book.specs.claim_history.specs.Pools.{accepted_calls}
+use Rattle.claim_history.specs.Pools.{accepted_calls}
 use Rattle.limited_book.specs.claim_book.specs.Pools.{BooksView}
 use Rattle.round_journal.specs.Appends.{IsFaultOf}
 use Rattle.round_journal.specs.Kept.{JournalView}

@@ -1,8 +1,8 @@
 use Rattle.std.proofs.Common.{◌≡◌, ◌≤◌, ℕ, List, length, sym, ◌∙◌, ap, subst, arith}
-use Rattle.setoff_model.specs.declared.limits.TheConstants.{MOST_JOURNAL_BYTES}
-use Rattle.limited_book.specs.claim_history.specs.Pools.{IsLegal}
-use Rattle.limited_book.specs.claim_history.specs.PoolNeeds.{used_bytes_of}
-use Rattle.limited_book.specs.claim_history.proofs.PoolRoom.{room_law}
+use Rattle.limited_book.specs.setoff_model.specs.declared.limits.TheConstants.{MOST_JOURNAL_BYTES}
+use Rattle.claim_history.specs.Pools.{IsLegal}
+use Rattle.claim_history.specs.PoolNeeds.{used_bytes_of}
+use Rattle.claim_history.proofs.PoolRoom.{room_law}
 use Rattle.limited_book.specs.claim_book.specs.Pools.{BooksView}
 use Rattle.group_loader.specs.Loading.{Loads}
 use Rattle.group_loader.proofs.Kept.{loads_started, moments_started}

@@ -1,8 +1,8 @@
 use Rattle.std.proofs.Common.{◌≡◌, ◌∙◌, false, List, ap, subst}
-use Rattle.limited_book.specs.claim_history.specs.declared.call.PoolEntry.{PoolEntry}
-use Rattle.limited_book.specs.claim_history.specs.PoolNeeds.{is_full}
+use Rattle.claim_history.specs.declared.call.PoolEntry.{PoolEntry}
+use Rattle.claim_history.specs.PoolNeeds.{is_full}
 use Rattle.group_loader.specs.Loading.{LoadView, Loads}
-use Rattle.limited_book.specs.act_bodies.proofs.Keepable.{act_valid}
+use Rattle.act_bodies.proofs.Keepable.{act_valid}
 use Rattle.group_loader.proofs.Taken.{loads_held, loads_same, other_opens_none}
 use Rattle.group_loader.proofs.loader.Loader.take.Goals as goal
 

@@ -1,0 +1,4 @@
+pub mod Lines
+pub mod FirstClose
+pub mod Answered
+pub mod Served
