@@ -16,8 +16,10 @@ use std::rt::Files;
 /// the count of its faults: each call that fails adds one. A read or a write that a signal interrupts is made again, up
 /// to 64 calls in all.
 ///
-/// The first length or read takes the system's lock on the file, shared with others that read. The first write or sync
-/// takes it whole. A lock that another program holds is a fault, and no call waits for it. The locks end with this value.
+/// The first length or read reads all of the file and takes no lock, so that another may write it meanwhile. What it read
+/// is answered to each length and read, until the first write or sync gives it up and takes the system's lock on the file.
+/// From then on the file itself is asked, and no other `FileDisk` writes it. A lock that another program holds is a fault,
+/// and no call waits for it. The lock ends with this value.
 #[derive(Drop)]
 pub struct FileDisk<'a, R> {
     file: SystemFile<'a, R>,
@@ -64,13 +66,15 @@ impl<R: Files<File = File>> Disk for FileDisk<'_, R> {
 
     ghost reads_now = { λ d told. absurd (nothing_told told) };
 
-    /// The system's length of the file. An error of the system is a fault.
+    /// The system's length of a locked file, and else how many bytes were read of it. An error of the system is a fault, and so is
+    /// memory that is missing for what is read.
     fn len(&mut self) -> Result<u64, DiskFailed> {
         let answer = self.file.len();
         self.counted(answer)
     }
 
-    /// Reads from the file. An end before `into` is full is a fault, and so is an error of the system.
+    /// Reads from a locked file, and else from what was read of it. An end before `into` is full is a fault, and so are an error of
+    /// the system and memory that is missing for what is read.
     fn read_at(&mut self, at: u64, into: &mut [u8]) -> Result<(), DiskFailed> {
         let answer = self.file.read_at(at, into);
         self.counted(answer)

@@ -23,6 +23,14 @@
 //! moment that has been. `FileDisk` is a file of the operating system. It tells no bytes, since no clause can know what
 //! a system's file holds: that such a file keeps the rules is trusted. `runs_compose` is the law of a whole run of
 //! calls, and `torn_writes` says the rules byte by byte.
+//!
+//! A `FileDisk` that is only read takes no lock, and another may write the file. So it is read once, from front to back, up
+//! to a read that gives nothing. Of a journal that is a beginning, with all that was written before the reading began: an
+//! append writes a body at the end, and only then opens the gate before it. Where the gate is read open, the body had been
+//! written and is read after it. Where it is read closed, what stands behind it is not looked at. A reading up to a length
+//! that was asked before would not do: the gate at that end may be opened before it is read, and its body stands past it.
+//! This trusts that the system reads what was last written. A gate that an append opened before it failed may be read, with
+//! its body, before the next append closes it and writes over them.
 #![tactic(auto)]
 
 mod disk;

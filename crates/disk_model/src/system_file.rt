@@ -1,15 +1,20 @@
 //! The calls of the operating system on one file. Nothing is known of what they do.
-ghost use Rattle.std.specs.Prelude.{◌+◌, ◌^◌, ◌<◌, length};
+ghost use Rattle.std.specs.Prelude.{◌≡◌, ◌+◌, ◌^◌, ◌<◌, length, IfSome};
 ghost use Rattle.std.specs.Io.{ReadsAtMost, WritesAtMost};
 
 use fault_count::MOST_CALLS;
+use std::alloc::Global;
 use std::fs::{self, File, OpenOptions};
-use std::io::{self, ErrorKind};
+use std::io::{self, ErrorKind, Read};
 use std::os::unix::fs::FileExt;
 use std::path::Path;
 use std::rt::Files;
 
-/// A file of the system, by its path. It is opened at its first call, and made at its first write where it is missing.
+// The room that is made past the length of a file that is read.
+const SPARE: usize = 4096;
+
+/// A file of the system, by its path. The first length or read reads all of it, and it is what that gave until the first write or
+/// sync opens and locks it. It is made at its first write where it is missing.
 #[derive(Drop)]
 pub(crate) struct SystemFile<'a, R> {
     rt: &'a R,
@@ -19,14 +24,13 @@ pub(crate) struct SystemFile<'a, R> {
     in_folder: bool,
 }
 
-// What is held of a file: nothing yet; that it is missing; or the open file, with the system's lock on it, shared with
-// others that read, or whole.
+// What is held of a file: nothing yet; that it is missing; its bytes, as they were read; or the open file, with the system's lock.
 #[derive(Drop)]
 enum Held {
     Nothing,
     Missing,
-    Shared(File),
-    Whole(File),
+    Bytes(Vec<u8>),
+    Locked(File),
 }
 
 impl<'a, R: Files<File = File>> SystemFile<'a, R> {
@@ -41,7 +45,7 @@ impl<'a, R: Files<File = File>> SystemFile<'a, R> {
 
     /// The number of bytes. A missing file has none.
     pub(crate) fn len(&mut self) -> io::Result<u64> {
-        self.open(false)?;
+        self.look()?;
         self.held.len()
     }
 
@@ -50,10 +54,11 @@ impl<'a, R: Files<File = File>> SystemFile<'a, R> {
         if into.is_empty() {
             return Ok(());
         }
-        self.open(false)?;
-        match self.held.file() {
-            Some(file) => read_whole(file, at, into),
-            None => Err(ErrorKind::UnexpectedEof.into()),
+        self.look()?;
+        match &self.held {
+            Held::Locked(file) => read_whole(file, at, into),
+            Held::Bytes(bytes) => copy_from(bytes, at, into),
+            Held::Nothing | Held::Missing => Err(ErrorKind::UnexpectedEof.into()),
         }
     }
 
@@ -73,7 +78,7 @@ impl<'a, R: Files<File = File>> SystemFile<'a, R> {
     /// Of the file these are its bytes, and its length where that changed: all that a later read needs. Its times may be
     /// left behind, so a byte that was written over in place costs no change of what the file system keeps of the file.
     pub(crate) fn sync(&mut self) -> io::Result<()> {
-        self.open(true)?;
+        self.own()?;
         self.held.sync()?;
         if !self.in_folder {
             sync_folder(self.rt, &self.path)?;
@@ -82,24 +87,33 @@ impl<'a, R: Files<File = File>> SystemFile<'a, R> {
         Ok(())
     }
 
-    // Makes the file where it is missing, and opens it for writing. It is an error where another has made it since.
+    // Makes the file where it is missing, and opens and locks it. It is an error where another has made it since.
     fn make(&mut self) -> io::Result<()> {
-        self.open(true)?;
+        self.own()?;
         if self.held.file().is_none() {
             let file = created(self.rt, &self.path)?;
-            self.hold(Held::Whole(file));
+            self.hold(Held::Locked(file));
         }
         Ok(())
     }
 
-    // Opens a file that is there, for writing, too, where it is asked for. A shared lock is given up before the whole one
-    // is asked.
-    fn open(&mut self, writes: bool) -> io::Result<()> {
-        if self.held.is_opened_for(writes) {
+    // Reads a file that is there, where nothing is held of it yet.
+    fn look(&mut self) -> io::Result<()> {
+        if !self.held.is_nothing() {
+            return Ok(());
+        }
+        let held = read_now(self.rt, &self.path)?;
+        self.hold(held);
+        Ok(())
+    }
+
+    // Opens and locks a file that is there. What was read of it before is given up.
+    fn own(&mut self) -> io::Result<()> {
+        if self.held.is_owned() {
             return Ok(());
         }
         self.hold(Held::Nothing);
-        let held = opened(self.rt, &self.path, writes)?;
+        let held = locked_now(self.rt, &self.path)?;
         self.hold(held);
         Ok(())
     }
@@ -110,26 +124,27 @@ impl<'a, R: Files<File = File>> SystemFile<'a, R> {
 }
 
 impl Held {
-    // Whether the file has been opened, for writing, too, where it is asked for.
-    fn is_opened_for(&self, writes: bool) -> bool {
-        match self {
-            Held::Nothing => false,
-            Held::Shared(_) => !writes,
-            Held::Missing | Held::Whole(_) => true,
-        }
+    fn is_nothing(&self) -> bool {
+        matches!(self, Held::Nothing)
+    }
+
+    // Whether the file is open and locked, or is known to be missing.
+    fn is_owned(&self) -> bool {
+        matches!(self, Held::Missing | Held::Locked(_))
     }
 
     fn file(&self) -> Option<&File> {
         match self {
-            Held::Shared(file) | Held::Whole(file) => Some(file),
-            Held::Nothing | Held::Missing => None,
+            Held::Locked(file) => Some(file),
+            Held::Nothing | Held::Missing | Held::Bytes(_) => None,
         }
     }
 
     fn len(&self) -> io::Result<u64> {
-        match self.file() {
-            Some(file) => Ok(file.metadata()?.len()),
-            None => Ok(0),
+        match self {
+            Held::Locked(file) => Ok(file.metadata()?.len()),
+            Held::Bytes(bytes) => Ok(bytes.len() as u64),
+            Held::Nothing | Held::Missing => Ok(0),
         }
     }
 
@@ -142,14 +157,43 @@ impl Held {
     }
 }
 
-// Opens a file that is there, for reading or for writing, too, and locks it. A lock that another holds is an error.
-fn opened<R: Files<File = File>>(rt: &R, path: &str, writes: bool) -> io::Result<Held> {
+// The bytes of a file that is there, as one reading finds them. It is not locked.
+fn read_now<R: Files<File = File>>(rt: &R, path: &String) -> io::Result<Held> {
+    match opened(rt, path, false)? {
+        Some(file) => Ok(Held::Bytes(bytes_of(*path.allocator(), file)?)),
+        None => Ok(Held::Missing),
+    }
+}
+
+// Reads a file from front to back, up to a read that gives nothing, since its length may grow meanwhile: what is written by the time
+// that a byte is read, and stands behind it, is read. The room is that of the length now, and some more.
+fn bytes_of(alloc: Global, file: File) -> io::Result<Vec<u8>> {
+    let mut file = file;
+    let len = usize::try_from(file.metadata()?.len()).unwrap_or(0);
+    let mut bytes = Vec::with_capacity(alloc, len.saturating_add(SPARE))?;
+    file.read_to_end(&mut bytes)?;
+    Ok(bytes)
+}
+
+// A file that is there, open and locked. A lock that another holds is an error.
+fn locked_now<R: Files<File = File>>(rt: &R, path: &str) -> io::Result<Held> {
+    match opened(rt, path, true)? {
+        Some(file) => {
+            file.try_lock()?;
+            Ok(Held::Locked(file))
+        }
+        None => Ok(Held::Missing),
+    }
+}
+
+// Opens a file that is there, for reading or for writing, too.
+fn opened<R: Files<File = File>>(rt: &R, path: &str, writes: bool) -> io::Result<Option<File>> {
     if !is_there(rt, path)? {
-        return Ok(Held::Missing);
+        return Ok(None);
     }
     match options(writes).open(rt, path) {
-        Ok(file) => locked(file, writes),
-        Err(error) if error.kind() == ErrorKind::NotFound => Ok(Held::Missing),
+        Ok(file) => Ok(Some(file)),
+        Err(error) if error.kind() == ErrorKind::NotFound => Ok(None),
         Err(error) => Err(error),
     }
 }
@@ -162,16 +206,6 @@ fn is_there<R: Files>(rt: &R, path: &str) -> io::Result<bool> {
         Ok(_) => Err(ErrorKind::InvalidInput.into()),
         Err(error) if error.kind() == ErrorKind::NotFound => Ok(false),
         Err(error) => Err(error),
-    }
-}
-
-fn locked(file: File, writes: bool) -> io::Result<Held> {
-    if writes {
-        file.try_lock()?;
-        Ok(Held::Whole(file))
-    } else {
-        file.try_lock_shared()?;
-        Ok(Held::Shared(file))
     }
 }
 
@@ -189,6 +223,26 @@ fn options(writes: bool) -> OpenOptions {
     let _ = options.read(true);
     let _ = options.write(writes);
     options
+}
+
+// Fills `into` with these bytes from `at` on.
+fn copy_from(bytes: &[u8], at: u64, into: &mut [u8]) -> io::Result<()> {
+    match piece_of(bytes, at, into.len()) {
+        Some(piece) => {
+            into.copy_from_slice(piece);
+            Ok(())
+        }
+        None => Err(ErrorKind::UnexpectedEof.into()),
+    }
+}
+
+// So many of these bytes from a place on, where there are.
+fn piece_of(bytes: &[u8], at: u64, len: usize) -> Option<&[u8]>
+    ensures { IfSome result (λ piece. length piece.now ≡ len) }
+{
+    let from = usize::try_from(at).ok()?;
+    let to = from.checked_add(len)?;
+    bytes.get(from..to)
 }
 
 // Fills `into` with the bytes of a file from `at` on.

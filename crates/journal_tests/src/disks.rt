@@ -278,53 +278,59 @@ fn a_file_is_written_synced_and_opened_again(rt: HostRuntime) {
     fs::remove_dir_all(&rt, name).ok().expect(&rt, "a removal");
 }
 
-// The writer has the file alone, also before one that found it missing.
-fn has_it_alone(
+// One that writes has the file alone before others that write, also before one that found it missing. Another reads what it has
+// written so far.
+fn writes_alone(
     rt: &impl Abort,
     writer: &mut FileDisk<'_, HostRuntime>,
-    reader: &mut FileDisk<'_, HostRuntime>,
+    other: &mut FileDisk<'_, HostRuntime>,
     early: &mut FileDisk<'_, HostRuntime>,
 ) {
     append(rt, writer, b"ab");
-    assert!(rt; length(reader).is_none());
-    assert!(rt; !syncs(reader));
-    assert!(rt; reader.faults() == 2);
+    assert!(rt; last::<_, 2>(rt, other) == *b"ab");
+    assert!(rt; !syncs(other));
+    assert!(rt; !writes(rt, other, 0, b"xy"));
+    assert!(rt; length(other) == Some(2));
+    assert!(rt; other.faults() == 2);
     assert!(rt; length(early) == Some(0));
     assert!(rt; !writes(rt, early, 0, b"xy"));
     assert!(rt; length(writer) == Some(2));
     assert!(rt; writer.faults() == 0);
 }
 
-// Two that read share the file, until one of them has it alone.
-fn is_shared(
+// One that only reads holds what it read at first, whatever another writes, until it writes itself.
+fn reads_once(
     rt: &impl Abort,
-    first: &mut FileDisk<'_, HostRuntime>,
-    second: &mut FileDisk<'_, HostRuntime>,
+    reader: &mut FileDisk<'_, HostRuntime>,
+    writer: &mut FileDisk<'_, HostRuntime>,
 ) {
-    assert!(rt; length(first) == Some(2));
-    assert!(rt; length(second) == Some(2));
-    assert!(rt; !syncs(second));
-    assert!(rt; syncs(first));
-    assert!(rt; length(second).is_none());
-    append(rt, first, b"c");
-    assert!(rt; last::<_, 3>(rt, first) == *b"abc");
+    assert!(rt; length(reader) == Some(2));
+    append(rt, writer, b"c");
+    assert!(rt; writes(rt, writer, 0, b"x"));
+    assert!(rt; last::<_, 3>(rt, writer) == *b"xbc");
+    assert!(rt; last::<_, 2>(rt, reader) == *b"ab");
+    assert!(rt; !syncs(reader));
+    assert!(rt; last::<_, 3>(rt, reader) == *b"xbc");
+    assert!(rt; reader.faults() == 1);
 }
 
-// Those that read a file share it, and one that writes has it alone. The file is missing at first.
+// Two that write a file exclude one another, and those that read it exclude nobody. The file is missing at first.
 #[test]
-fn a_file_is_locked(rt: HostRuntime) {
+fn a_file_is_locked_by_one_that_writes(rt: HostRuntime) {
     let path = "disk_model_locked";
     let _ = fs::remove_file(&rt, path);
     let mut early = file(&rt, path);
-    let mut reader = file(&rt, path);
     assert!(rt; length(&mut early) == Some(0));
     let mut writer = file(&rt, path);
-    has_it_alone(&rt, &mut writer, &mut reader, &mut early);
-    drop(writer);
-    drop(early);
     let mut other = file(&rt, path);
-    is_shared(&rt, &mut reader, &mut other);
+    writes_alone(&rt, &mut writer, &mut other, &mut early);
     drop(other);
+    drop(early);
+    let mut reader = file(&rt, path);
+    reads_once(&rt, &mut reader, &mut writer);
+    drop(writer);
+    append(&rt, &mut reader, b"d");
+    assert!(rt; last::<_, 4>(&rt, &mut reader) == *b"xbcd");
     drop(reader);
     fs::remove_file(&rt, path).ok().expect(&rt, "a removal");
 }
