@@ -2,7 +2,7 @@
 use Rattle.std.specs.Prelude.{IsTrue, Some, None}
 use Rattle.std.proofs.Common.{◌≡◌, ◌∙◌, ℕ, List, [], ◌++◌, length, refl, sym, ap, subst}
 use Rattle.std.proofs.lemmas.List.{append-nil}
-use Rattle.shared_bureau.specs.disk_model.specs.Calls.{Seen}
+use Rattle.shared_bureau.specs.disk_model.specs.Calls.{Seen, GoesOn}
 use Rattle.shared_bureau.specs.claim_history.specs.declared.call.PoolEntry.{PoolEntry}
 use Rattle.shared_bureau.specs.claim_history.specs.PoolRounds.{cuts_after}
 use Rattle.shared_bureau.specs.recorded_book.specs.Moments.{HeldSince}
@@ -50,15 +50,18 @@ module _ {D : Type 0} (seen : D → Seen) (old start : DeskView D) (cleared : Is
         (subst (λ (n : ℕ). HeldSince n new.cleared_with (seen new.disk) new.history) (ap (λ (b : DeskBase D). (seen b.at_clearing).moment) base)
         (keeps.since (same ∙ tells)))
 
+    stays : IsTrue (seen old.disk).tells → GoesOn (seen old.disk) (seen new.disk)
+    stays tells = subst (λ (d : D). GoesOn (seen d) (seen new.disk)) (ap (λ (b : DeskBase D). b.at_clearing) base) (keeps.stays_cleared (same ∙ tells))
+
     module _ (batch : List Request) (added : List PoolEntry) (history : new.history ≡ old.history ++ added) where
       rounds : new.rounds ≡ cuts_after (length old.history) new.history
       rounds = keeps.rounds_are ∙ ap (λ (n : ℕ). cuts_after n new.history) cleared_with
 
       pub answered : (answers : List Answer) → IsServed batch answers old.history added → HasRunBatch seen old new batch (Some answers)
-      answered answers served = record { added = added; history = history; served = served; rounds = rounds; base = base; keeps = keeps; same = same; held = held }
+      answered answers served = record { added = added; history = history; served = served; rounds = rounds; base = base; keeps = keeps; same = same; stays = stays; held = held }
 
       unanswered : added ≡ [] → HasRunBatch seen old new batch None
-      unanswered none = record { added = added; history = history; served = none; rounds = rounds; base = base; keeps = keeps; same = same; held = held }
+      unanswered none = record { added = added; history = history; served = none; rounds = rounds; base = base; keeps = keeps; same = same; stays = stays; held = held }
 
   -- there was no memory
   pub not_run : (new : DeskView D) → new ≡ start → (batch : List Request) → HasRunBatch seen old new batch None

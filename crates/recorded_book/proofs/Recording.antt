@@ -117,6 +117,7 @@ module _ {D : Type 0} (seen : D → Seen) where
               moments = moments_kept (seen r.journal.disk) (seen r.journal.disk) (seen r.journal.at_first_sync).moment r.opened_with history e empty was.moments stays (λ c no. absurd no) refused;
               since = held_on (seen r.journal.disk) (seen r.journal.disk) (seen r.at_clearing).moment r.cleared_with history e empty has.cleared_few was.since stays (λ c no. absurd no);
               stays = was.stays;
+              stays_cleared = was.stays_cleared;
             };
       }
 
@@ -132,7 +133,7 @@ module _ {D : Type 0} (seen : D → Seen) where
         same = has.same;
         later = has.later;
         between = has.between;
-        recorded = λ told. let was = has.recorded told in record { kept = was.kept; moments = was.moments; since = held_now (seen r.journal.disk) (seen r.journal.at_first_sync).moment r.opened_with history was.moments; stays = was.stays };
+        recorded = λ told. let was = has.recorded told in record { kept = was.kept; moments = was.moments; since = held_now (seen r.journal.disk) (seen r.journal.at_first_sync).moment r.opened_with history was.moments; stays = was.stays; stays_cleared = passes_still (seen r.journal.disk) (λ c. Unit {0}) };
       } in
       let is : view_at r.journal r'.spare r.at_opening_end r.opened_with r.journal.disk (length history) ≡ r' =
       ap (λ (j : JournalView D). view_at j r'.spare r.at_opening_end r.opened_with r.journal.disk (length history)) (sym journal)
@@ -158,9 +159,9 @@ module _ {D : Type 0} (seen : D → Seen) where
         passes_wide (seen j.disk) (seen j'.disk) (HoldsMore (bodies_of_calls (accepted_calls history)) kept.0 (body ∷ [])) (HoldsDuring history (call_of e)) (tried.crash kept.1 (bodies_of_calls (accepted_calls history)) kept.0 kept.2)
         (λ c one. during_of_one history kept.0 (call_of e) c kept.3 (subst (λ (b : List ℕ). HoldsMore (bodies_of_calls (accepted_calls history)) kept.0 (b ∷ []) c) body_is one))
 
-    -- the images of the opening stay
-    stays_on : GoesOn (seen opened) (seen j.disk) → Passes (seen j.disk) (seen j'.disk) (HoldsDuring history (call_of e)) → GoesOn (seen opened) (seen j'.disk)
-    stays_on was goes = passes_on (seen opened) (seen j.disk) (seen j'.disk) (λ c. Unit {0}) was (passes_wide (seen j.disk) (seen j'.disk) (HoldsDuring history (call_of e)) (λ c. Unit {0}) goes (λ c one. tt))
+    -- the images of an earlier moment stay
+    stays_on : (since : D) → GoesOn (seen since) (seen j.disk) → Passes (seen j.disk) (seen j'.disk) (HoldsDuring history (call_of e)) → GoesOn (seen since) (seen j'.disk)
+    stays_on since was goes = passes_on (seen since) (seen j.disk) (seen j'.disk) (λ c. Unit {0}) was (passes_wide (seen j.disk) (seen j'.disk) (HoldsDuring history (call_of e)) (λ c. Unit {0}) goes (λ c one. tt))
 
     pub records_accepted : is_accepted e.entry ≡ true → length body ≡ body_length_of e.entry.act + pool_bytes e.pool → HasAppended seen j j' (body ∷ [])
         → Records seen (view_at j' spare' opened opened_with cleared cleared_with) (history ++ e ∷ [])
@@ -191,7 +192,8 @@ module _ {D : Type 0} (seen : D → Seen) where
                     (moments_grow (seen j.disk) (seen j'.disk) (seen j.at_first_sync).moment opened_with history e (HoldsDuring history (call_of e)) was.moments goes holds accepted
                     (λ c now. all_holds (history ++ e ∷ []) c (inl (record { short = kept.short; begins = was.kept.1; ends = kept.images c now }))));
                 since = held_on (seen j.disk) (seen j'.disk) (seen cleared).moment cleared_with history e (HoldsDuring history (call_of e)) has.cleared_few was.since goes holds;
-                stays = stays_on was.stays goes;
+                stays = stays_on opened was.stays goes;
+                stays_cleared = stays_on cleared was.stays_cleared goes;
               };
         }
 
@@ -222,6 +224,7 @@ module _ {D : Type 0} (seen : D → Seen) where
                 moments = subst (λ (d : D). HasMoments (seen j'.disk) (seen d).moment opened_with (history ++ e ∷ [])) (sym tried.opened)
                     (moments_kept (seen j.disk) (seen j'.disk) (seen j.at_first_sync).moment opened_with history e (HoldsDuring history (call_of e)) was.moments goes holds refused);
                 since = held_on (seen j.disk) (seen j'.disk) (seen cleared).moment cleared_with history e (HoldsDuring history (call_of e)) has.cleared_few was.since goes holds;
-                stays = stays_on was.stays goes;
+                stays = stays_on opened was.stays goes;
+                stays_cleared = stays_on cleared was.stays_cleared goes;
               };
         }

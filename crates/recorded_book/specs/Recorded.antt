@@ -35,12 +35,13 @@ KeepsAccepted seen journal history =
     × IsTried history last
 
 -- What holds of its bytes: they are kept, and each image of each moment since the opening holds what was accepted by then. The
--- images of the opening stay.
+-- images of the opening stay, and those of the last clearing.
 pub record IsRecorded {D : Type 0} (seen : D → Seen) (r : RecorderView D) (history : List PoolEntry) : Type 0 where
   pub kept : KeepsAccepted seen r.journal history
   pub moments : HasMoments (seen r.journal.disk) (seen r.journal.at_first_sync).moment r.opened_with history
   pub since : HeldSince (seen r.at_clearing).moment r.cleared_with (seen r.journal.disk) history
   pub stays : GoesOn (seen r.at_opening_end) (seen r.journal.disk)
+  pub stays_cleared : GoesOn (seen r.at_clearing) (seen r.journal.disk)
 
 -- What a recorder keeps of a history, of whose bytes it speaks where the disk tells them.
 pub record Records {D : Type 0} (seen : D → Seen) (r : RecorderView D) (history : List PoolEntry) : Type 0 where
