@@ -3,3 +3,5 @@ mod Replies
 mod Lines
 mod Statements
 mod Texts
+mod Numbers
+mod Added

@@ -1,10 +1,11 @@
 -- Replies by their words.
-use Rattle.std.specs.Prelude.{codes, decimal, if◌then◌else◌, unsigned_abs, ℤ, pos, negsuc}
+use Rattle.std.specs.Prelude.{codes, decimal, if◌then◌else◌, nat_lt, ◌==◌, Bool, true, false, unsigned_abs, ℤ, pos, negsuc}
 use Rattle.std.specs.Str.{bytes_eq}
-use Rattle.std.proofs.Common.{◌≡◌, ◌∙◌, ℕ, suc, ◌+◌, ◌/◌, ◌%◌, ◌<◌, ◌≤◌, ◌^◌, List, [], ◌∷◌, ◌++◌, map, get_or, drop, All, refl, sym, ap, ap₂, append_assoc, arith}
+use Rattle.std.proofs.Common.{◌≡◌, ◌∙◌, ℕ, zero, suc, ◌+◌, ◌/◌, ◌%◌, ◌<◌, ◌≤◌, ◌^◌, List, [], ◌∷◌, ◌++◌, map, get_or, drop, All, refl, sym, ap, ap₂, true≢false, append_assoc, arith}
 use Rattle.std.specs.List.{AllByRecursion}
-use Rattle.std.proofs.lemmas.Fmt.{decimal_by_steps}
-use Rattle.std.proofs.lemmas.List.Elements.{All-append, All-cons, All-head, All-nil, All-tail}
+use Rattle.std.specs.Fmt.{digit_glyph, digits, digits_onto}
+use Rattle.std.proofs.lemmas.Bool.{lt-ltb}
+use Rattle.std.proofs.lemmas.List.Elements.{All-cons, All-head, All-nil, All-tail}
 use Rattle.batch_runs.specs.setoff_model.specs.declared.limits.TheConstants.{SUM_LIMIT}
 use Rattle.batch_runs.specs.setoff_model.specs.Texts.{cents_text, signed_cents_text}
 use Rattle.batch_runs.specs.setoff_model.proofs.Spelling.{spelling_law}
@@ -195,10 +196,25 @@ some_words (reply.Refused w) = (_, _, refl)
 abbrev pub Digit : ℕ → Type 0
 Digit b = (48 ≤ b) × (b < 58)
 
-pub digits : (n : ℕ) → n < 2 ^ 64 → All Digit (decimal n)
-digits n lt =
-    decimal_by_steps (λ m ds. All Digit ds) (λ m small. All-cons Digit (48 + m) [] (omega arith, omega arith) (All-nil Digit))
-    (λ m ds large h. All-append Digit ds ((48 + m % 10) ∷ []) h (All-cons Digit (48 + m % 10) [] (omega arith, omega arith) (All-nil Digit))) n lt
+glyph : (b : Bool) (d : ℕ) → nat_lt d 10 ≡ b → d < 10 → Digit (if b then 48 + d else 87 + d)
+glyph true d is lt = (omega arith, omega (arith, lt))
+glyph false d is lt = absurd (true≢false (sym (lt-ltb d 10 lt) ∙ is))
+
+one_of : (b : Bool) (xs ys : List ℕ) → All Digit xs → All Digit ys → All Digit (if b then xs else ys)
+one_of true xs ys h k = h
+one_of false xs ys h k = k
+
+more_digits : (k n : ℕ) (later : List ℕ) → All Digit later → All Digit (digits_onto k 10 false n later)
+more_digits zero n later h = h
+more_digits (suc k) n later h =
+    let all = All-cons Digit (digit_glyph false (n % 10)) later (glyph (nat_lt (n % 10) 10) (n % 10) refl (omega arith)) h in
+    one_of (n / 10 == 0) (digit_glyph false (n % 10) ∷ later) (digits_onto k 10 false (n / 10) (digit_glyph false (n % 10) ∷ later)) all
+    (more_digits k (n / 10) (digit_glyph false (n % 10) ∷ later) all)
+
+-- each number, however large, is written by digits
+pub all_digits : (n : ℕ) → All Digit (decimal n)
+unfolding digits
+all_digits n = more_digits 64 n [] (All-nil Digit)
 
 -- no sum begins with a dash
 no_dash : (ds rest more : List ℕ) → All Digit ds → (ds ++ 46 ∷ rest) ≡ 45 ∷ more → ⊥
@@ -207,7 +223,7 @@ no_dash (d ∷ ds) rest more h e = let is : d ≡ 45 = ap (λ (t : List ℕ). ge
 
 cents_apart : (a b : ℕ) → a < SUM_LIMIT → cents_text a ≡ codes "-" ++ cents_text b → ⊥
 cents_apart a b la e =
-    no_dash (decimal (a / 100)) ((48 + a % 100 / 10) ∷ (48 + a % 10) ∷ []) (cents_text b) (digits (a / 100) (omega arith))
+    no_dash (decimal (a / 100)) ((48 + a % 100 / 10) ∷ (48 + a % 10) ∷ []) (cents_text b) (all_digits (a / 100))
     (sym (append_assoc (decimal (a / 100)) (46 ∷ []) ((48 + a % 100 / 10) ∷ (48 + a % 10) ∷ [])) ∙ e)
 
 same_signed : (x y : ℤ) → unsigned_abs x < SUM_LIMIT → unsigned_abs y < SUM_LIMIT → signed_cents_text x ≡ signed_cents_text y → x ≡ y

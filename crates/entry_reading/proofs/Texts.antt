@@ -2,7 +2,7 @@
 use Rattle.std.specs.Prelude.{codes, decimal, slice_get, reverse, if◌then◌else◌, Option, Some, ◌⊎◌}
 use Rattle.std.specs.Option.{option_map}
 use Rattle.std.specs.List.{AllZip, list_all, slice_index_or}
-use Rattle.std.proofs.Common.{◌≡◌, ◌∙◌, ⊎_elim, inl, inr, ℕ, ◌<◌, ◌^◌, Bool, true, false, not, ◌&&◌, List, [], ◌∷◌, ◌++◌, length, get_or, take, drop, All, refl, sym, ap, ap₂, subst, subst₂, true≢false, append_assoc, length-append, arith}
+use Rattle.std.proofs.Common.{◌≡◌, ◌∙◌, ⊎_elim, inl, inr, ℕ, Bool, true, false, not, ◌&&◌, List, [], ◌∷◌, ◌++◌, length, get_or, take, drop, All, refl, sym, ap, ap₂, subst, subst₂, true≢false, append_assoc, length-append, arith}
 use Rattle.std.proofs.lemmas.Bool.{cases_Bool, not-true}
 use Rattle.std.proofs.lemmas.List.{append-nil, reverse-append}
 use Rattle.std.proofs.lemmas.List.Elements.{All-append, All-head, All-tail}
@@ -31,7 +31,6 @@ use Rattle.batch_runs.specs.claim_history.proofs.Replies.{publishes}
 use Rattle.batch_runs.specs.limited_book.specs.declared.room.Room.{Room}
 use Rattle.batch_runs.specs.limited_book.specs.declared.room.Room.TheVariants.{Entries, Bytes}
 use Rattle.batch_runs.specs.text_lines.proofs.Cutting.{feed}
-use Rattle.batch_runs.specs.text_lines.proofs.Visible.{visible_law}
 use Rattle.batch_runs.specs.statement_text.specs.Statements.{statement_bytes}
 use Rattle.batch_runs.specs.served_lines.specs.declared.answer.Answer.{Answer}
 use Rattle.batch_runs.specs.served_lines.specs.declared.line_end.LineEnd.{LineEnd}
@@ -44,9 +43,9 @@ use Rattle.batch_runs.specs.printed_text.proofs.Printing.{none_stated}
 use Rattle.batch_runs.specs.Runs.{Done, all_added, text_of}
 use Rattle.history_text.proofs.Stated.{stated}
 use Rattle.entry_reading.specs.Shown.{IsEntry, ShowSame, shown_act}
-use Rattle.entry_reading.specs.Texts.{IsToldEnd, MayBeAdded, ReadSame, TextLaw, is_untold}
+use Rattle.entry_reading.specs.Texts.{MayBeAdded, ReadSame, TextLaw, is_untold}
 use Rattle.entry_reading.proofs.Lines.{NoFeed, line_law, word_no_feed}
-use Rattle.entry_reading.proofs.Replies.{Digit, digits}
+use Rattle.entry_reading.proofs.Replies.{Digit, all_digits}
 use Rattle.entry_reading.proofs.Statements.{cut_at_feed, statement_fixes}
 
 -- ---- what a publication says of its history
@@ -233,8 +232,8 @@ marks_at line ends.Replied = []
 marks_at line ends.Memory = end_text line ends.Memory ∷ []
 marks_at line (ends.Full what needed limit) = end_text line (ends.Full what needed limit) ∷ []
 
-number_no_feed : (n : ℕ) → n < 2 ^ 64 → All NoFeed (decimal n)
-number_no_feed n lt = word_no_feed (decimal n) (visible_law.whole n lt)
+number_no_feed : (n : ℕ) → All NoFeed (decimal n)
+number_no_feed n = word_no_feed (decimal n) (λ k d lt. let above = (all_digits n k d lt).0 in omega (arith, above))
 
 known_no_feed : (text : List ℕ) → list_all (λ b. not (feed b)) text ≡ true → All NoFeed text
 known_no_feed text h = λ k d lt. not-true (feed (slice_index_or text k d)) (AllPass-from_list_all (λ b. not (feed b)) text h k d lt)
@@ -246,11 +245,11 @@ room_no_feed : (what : Room) → All NoFeed (room_text what)
 room_no_feed Entries = known_no_feed (codes "entries") refl
 room_no_feed Bytes = known_no_feed (codes "bytes") refl
 
-memory_mark : (line : ℕ) → line < 2 ^ 64 → IsMark (end_text line ends.Memory)
-memory_mark line h = record {
+memory_mark : (line : ℕ) → IsMark (end_text line ends.Memory)
+memory_mark line = record {
   more = codes " line " ++ decimal line ++ codes " memory";
   is = simp append_assoc;
-  no_feed = both (codes " line " ++ decimal line) (codes " memory") (both (codes " line ") (decimal line) (known_no_feed (codes " line ") refl) (number_no_feed line h)) (known_no_feed (codes " memory") refl);
+  no_feed = both (codes " line " ++ decimal line) (codes " memory") (both (codes " line ") (decimal line) (known_no_feed (codes " line ") refl) (number_no_feed line)) (known_no_feed (codes " memory") refl);
 }
 
 abbrev full_words : List ℕ → List ℕ → List ℕ → List ℕ → List ℕ
@@ -269,11 +268,11 @@ full_no_feed line what needed limit a b c d =
     let six = both (codes " line " ++ line ++ codes " full " ++ what ++ codes " " ++ needed) (codes " ") five (known_no_feed (codes " ") refl) in
     both (codes " line " ++ line ++ codes " full " ++ what ++ codes " " ++ needed ++ codes " ") limit six d
 
-full_mark : (line : ℕ) (what : Room) (needed limit : ℕ) → line < 2 ^ 64 → needed < 2 ^ 64 → limit < 2 ^ 64 → IsMark (end_text line (ends.Full what needed limit))
-full_mark line what needed limit a c d = record {
+full_mark : (line : ℕ) (what : Room) (needed limit : ℕ) → IsMark (end_text line (ends.Full what needed limit))
+full_mark line what needed limit = record {
   more = full_words (decimal line) (room_text what) (decimal needed) (decimal limit);
   is = full_is (decimal line) (room_text what) (decimal needed) (decimal limit);
-  no_feed = full_no_feed (decimal line) (room_text what) (decimal needed) (decimal limit) (number_no_feed line a) (room_no_feed what) (number_no_feed needed c) (number_no_feed limit d);
+  no_feed = full_no_feed (decimal line) (room_text what) (decimal needed) (decimal limit) (number_no_feed line) (room_no_feed what) (number_no_feed needed) (number_no_feed limit);
 }
 
 -- ---- pieces of a text: members, and such lines
@@ -359,31 +358,22 @@ members_all (b ∷ bs) =
     members_added b.added (answers_before b.answers (pieces_of bs))
     ∙ ap (λ (rest : List PoolEntry). b.added ++ rest) (members_answers b.answers (pieces_of bs) ∙ members_all bs)
 
-abbrev ToldEnd : Answer → Type 0
-ToldEnd a = IsToldEnd a.line a.end
+marked_end : (line : ℕ) (end : LineEnd) (ps : List Piece) → AreMarked ps → AreMarked (marks_before (marks_at line end) ps)
+marked_end line ends.Replied ps k = k
+marked_end line ends.Memory ps k = (memory_mark line, k)
+marked_end line (ends.Full what needed limit) ps k = (full_mark line what needed limit, k)
 
-marked_end : (line : ℕ) (end : LineEnd) (ps : List Piece) → IsToldEnd line end → AreMarked ps → AreMarked (marks_before (marks_at line end) ps)
-marked_end line ends.Replied ps h k = k
-marked_end line ends.Memory ps h k = (memory_mark line h, k)
-marked_end line (ends.Full what needed limit) ps h k = (full_mark line what needed limit h.0 h.1 h.2, k)
-
-marked_answers : (answers : List Answer) (ps : List Piece) → All ToldEnd answers → AreMarked ps → AreMarked (answers_before answers ps)
-marked_answers [] ps h k = k
-marked_answers (a ∷ answers) ps h k =
-    marked_end a.line a.end (answers_before answers ps) (All-head ToldEnd a answers h) (marked_answers answers ps (All-tail ToldEnd a answers h) k)
+marked_answers : (answers : List Answer) (ps : List Piece) → AreMarked ps → AreMarked (answers_before answers ps)
+marked_answers [] ps k = k
+marked_answers (a ∷ answers) ps k = marked_end a.line a.end (answers_before answers ps) (marked_answers answers ps k)
 
 marked_added : (ms : List PoolEntry) (ps : List Piece) → AreMarked ps → AreMarked (members_before ms ps)
 marked_added [] ps k = k
 marked_added (m ∷ ms) ps k = marked_added ms ps k
 
-abbrev ToldBatch : Done → Type 0
-ToldBatch b = All (λ answer. IsToldEnd answer.line answer.end) b.answers
-
-marked_all : (done : List Done) → All ToldBatch done → AreMarked (pieces_of done)
-marked_all [] h = tt
-marked_all (b ∷ bs) h =
-    marked_added b.added (answers_before b.answers (pieces_of bs))
-    (marked_answers b.answers (pieces_of bs) (All-head ToldBatch b bs h) (marked_all bs (All-tail ToldBatch b bs h)))
+marked_all : (done : List Done) → AreMarked (pieces_of done)
+marked_all [] = tt
+marked_all (b ∷ bs) = marked_added b.added (answers_before b.answers (pieces_of bs)) (marked_answers b.answers (pieces_of bs) (marked_all bs))
 
 -- ---- how a piece begins
 
@@ -424,7 +414,7 @@ no_end (d ∷ ds) text h end begins = ⊎_elim
 no_member : (before : List PoolEntry) (m : PoolEntry) (text rest : List ℕ) → IsEntry m → IsEnd text → text ≡ member_text before m ++ rest → ⊥
 no_member before m text rest here end e =
     let begins = begins_so before m rest in
-    no_end (decimal m.entry.caller) text (digits m.entry.caller here.caller) end (begins.0, e ∙ begins.1)
+    no_end (decimal m.entry.caller) text (all_digits m.entry.caller) end (begins.0, e ∙ begins.1)
 
 no_mark : (text rest : List ℕ) → IsMark text → ◌≡◌ {A = List ℕ} [] (text ++ rest) → ⊥
 no_mark text rest h e =
@@ -475,7 +465,7 @@ pub text_law : TextLaw
 text_law before done other h k e =
     let ps = pieces_of done in
     let qs = pieces_of other in
-    let first : MayBeAdded before (members_of ps) = subst (MayBeAdded before) (sym (members_all done)) h.added in
-    let second : MayBeAdded before (members_of qs) = subst (MayBeAdded before) (sym (members_all other)) k.added in
-    let read = fixes ps qs before before (λ pool. refl) first (marked_all done h.answers) second (marked_all other k.answers) (pieces_flat before done ∙ e ∙ sym (pieces_flat before other)) in
+    let first : MayBeAdded before (members_of ps) = subst (MayBeAdded before) (sym (members_all done)) h in
+    let second : MayBeAdded before (members_of qs) = subst (MayBeAdded before) (sym (members_all other)) k in
+    let read = fixes ps qs before before (λ pool. refl) first (marked_all done) second (marked_all other) (pieces_flat before done ∙ e ∙ sym (pieces_flat before other)) in
     subst₂ (AllZip ReadSame) (members_all done) (members_all other) read

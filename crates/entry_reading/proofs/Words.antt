@@ -22,7 +22,7 @@ use Rattle.batch_runs.specs.text_lines.specs.Fields.{IsVisible}
 use Rattle.batch_runs.specs.text_lines.proofs.Visible.{known, visible_law}
 use Rattle.batch_runs.specs.request_text.proofs.Words.{fields_visible}
 use Rattle.entry_reading.specs.Shown.{shown_act}
-use Rattle.entry_reading.proofs.Replies.{Digit, digits, word_at}
+use Rattle.entry_reading.proofs.Replies.{Digit, all_digits, word_at}
 
 -- ---- requests and publications
 
@@ -145,7 +145,7 @@ act_no_sign (act.Offer firm amount) h =
 act_no_sign (act.Position firm) h = (λ e. cc e, (name_no_sign firm h, tt))
 act_no_sign (act.Close kind horizon) h = (λ e. cc e, (kind_no_sign kind, (day_no_sign horizon, tt)))
 act_no_sign (act.Abandon) h = (λ e. cc e, tt)
-act_no_sign (act.Publish round outcome) h = (λ e. cc e, (digits_no_sign (decimal round) (digits round (round_short round outcome h)), tt))
+act_no_sign (act.Publish round outcome) h = (λ e. cc e, (digits_no_sign (decimal round) (all_digits round), tt))
 
 -- ---- no verb begins as a pool does
 

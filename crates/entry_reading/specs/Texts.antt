@@ -6,8 +6,9 @@ use Rattle.batch_runs.specs.claim_history.specs.declared.entry.Entry.{Entry}
 use Rattle.batch_runs.specs.claim_history.specs.Acts.{is_publication}
 use Rattle.batch_runs.specs.claim_history.specs.History.{is_accepted}
 use Rattle.batch_runs.specs.claim_history.specs.Pools.{AreValid, IsLegal}
-use Rattle.batch_runs.specs.served_lines.specs.declared.line_end.LineEnd.{LineEnd}
-use Rattle.batch_runs.specs.served_lines.specs.declared.line_end.LineEnd.TheVariants as ends
+use Rattle.batch_runs.specs.claim_history.specs.PoolNeeds.{IsWithinLimits}
+use Rattle.batch_runs.specs.recorded_book.specs.Calls.{CanBeKept}
+use Rattle.batch_runs.specs.recorded_book.specs.Devices.{AreBetween}
 use Rattle.batch_runs.specs.Runs.{Done, all_added, text_of}
 use Rattle.entry_reading.specs.Shown.{IsEntry, ShowSame}
 
@@ -26,18 +27,23 @@ pub record MayBeAdded (before added : List PoolEntry) : Type 0 where
   pub valid : AreValid (before ++ added)
   pub entries : All IsEntry added
 
--- the numbers of the line that tells of an answer have 8 bytes
-abbrev pub IsToldEnd : ℕ → LineEnd → Type 0
-IsToldEnd line ends.Replied = Unit {0}
-IsToldEnd line ends.Memory = line < 2 ^ 64
-IsToldEnd line (ends.Full what needed limit) = (line < 2 ^ 64) × (needed < 2 ^ 64) × (limit < 2 ^ 64)
-
--- batches whose entries may be added to a history
-pub record MayBeServed (before : List PoolEntry) (done : List Done) : Type 0 where
-  pub added : MayBeAdded before (all_added done)
-  pub answers : All (λ b. All (λ answer. IsToldEnd answer.line answer.end) b.answers) done
-
 -- What was printed of batches fixes their entries, where those before them are known.
 abbrev pub TextLaw : Type 0
-TextLaw = (before : List PoolEntry) (done other : List Done) → MayBeServed before done → MayBeServed before other
+TextLaw = (before : List PoolEntry) (done other : List Done) → MayBeAdded before (all_added done) → MayBeAdded before (all_added other)
     → text_of before done ≡ text_of before other → AllZip ReadSame (all_added done) (all_added other)
+
+-- What a run tells of what it added to a history: all is legal, of valid acts, within the limits, and of calls that a journal can
+-- keep; and the counts of devices lie between two numbers of 8 bytes.
+pub record WereAdded (before added : List PoolEntry) : Type 0 where
+  pub legal : IsLegal (before ++ added)
+  pub valid : AreValid (before ++ added)
+  pub within : IsWithinLimits (before ++ added)
+  pub keepable : CanBeKept (before ++ added)
+  pub low : ℕ
+  pub high : ℕ
+  pub between : AreBetween low high (before ++ added)
+  pub short : high < 2 ^ 64
+
+-- so it may be added
+abbrev pub AddedLaw : Type 0
+AddedLaw = (before added : List PoolEntry) → WereAdded before added → MayBeAdded before added
