@@ -44,6 +44,7 @@ fn reads_the_triangle<R: Wait + Abort>(rt: &R, reader: &mut BoardReader)
     };
     assert!(rt; row.position == due);
     assert!(rt; reader.read(rt, firm(rt, b'Z')) == (11, None));
+    assert!(rt; reader.try_read(firm(rt, b'Z')) == Some((11, None)));
 }
 
 // The last reader of a list is told what was shown, reads the triangle twice, and goes to another list.

@@ -1,5 +1,5 @@
 //! Those who read a board.
-ghost use Rattle.std.specs.Prelude.{◌≡◌, length, Some, IfSome};
+ghost use Rattle.std.specs.Prelude.{◌≡◌, length, Some, IfSome, IfNone};
 ghost use mathlib.Core.List.{IsPrefix};
 ghost use Rattle.left_right.specs.Sides.{view};
 ghost use Rattle.claim_book.specs.Book.{ledger_of};
@@ -80,8 +80,7 @@ impl BoardReader {
     /// registered there.
     ///
     /// That history begins with all that this reader has seen, and is what it has seen afterwards. It takes no turn and no memory,
-    /// and waits for nobody. The handle is there since it tries again where the board is closed or shows less than was told, which
-    /// does not come while the reader is out.
+    /// and waits for nobody. The handle is there since it tries again where `try_read` gives None.
     pub fn read<R: Wait>(&mut self, rt: &R, firm: Name) -> (u64, Option<Row>)
         ensures board { self.new.board ≡ self.old.board }
         ensures begins { IsPrefix self.old.history self.new.history }
@@ -89,14 +88,28 @@ impl BoardReader {
         ensures row { result.1 ≡ row_in (ledger_of self.new.history) firm }
     {
         for _ in rt.forever() {
-            if let Some(found) = replace_with(&mut self.reader, &firm, look) {
-                if self.told.begins(&found.told) {
-                    self.told = found.told;
-                    return (found.entries, found.row);
-                }
+            if let Some(read) = self.try_read(firm) {
+                return read;
             }
         }
         unreachable!()
+    }
+
+    /// The same without a handle, for who must not try again. It always returns: None where the board is closed or shows less than
+    /// this reader has seen, which does not come while the reader is out. Then the reader is as it was.
+    pub fn try_read(&mut self, firm: Name) -> Option<(u64, Option<Row>)>
+        ensures board { self.new.board ≡ self.old.board }
+        ensures begins { IsPrefix self.old.history self.new.history }
+        ensures entries { IfSome result (λ r. r.0 ≡ length self.new.history) }
+        ensures row { IfSome result (λ r. r.1 ≡ row_in (ledger_of self.new.history) firm) }
+        ensures none { IfNone result (self.new ≡ self.old) }
+    {
+        let found = replace_with(&mut self.reader, &firm, look)?;
+        if !self.told.begins(&found.told) {
+            return None;
+        }
+        self.told = found.told;
+        Some((found.entries, found.row))
     }
 
     /// Takes in what the board told. What this reader has seen afterwards begins with what it had seen, and with what was told. It
