@@ -16,7 +16,7 @@ use Rattle.command_words.specs.declared.command.Command.TheVariants as commands
 use Rattle.command_words.specs.declared.input_report.InputReport.TheVariants as inputs
 use Rattle.command_words.specs.declared.journal_report.JournalReport.TheVariants as journals
 use Rattle.command_words.specs.Program.{program}
-use Rattle.command_words.specs.Words.{AreNoWords, AreWordsOf, IsCommand, IsPool, OneCommandLaw, name_of, pool_values, values_of, words_of}
+use Rattle.command_words.specs.Words.{AreNoWords, AreWordsOf, IsCommand, IsPool, NamesOther, OneCommandLaw, name_of, pool_values, values_of, words_of}
 use Rattle.command_words.specs.Reading.{IsFoundIn, IsGiven, is_option}
 use Rattle.command_words.proofs.Walks.{IsEntered, IsPlain, IsPlainPool, audit_entered, check_entered, explain_entered, first_is, found_is, history_entered, history_rest, history_taken, history_values, import_entered, import_rest, import_taken, import_values, known_name, live_entered, name_and, name_and_pool, name_and_three, name_and_two, no_words, notices_entered, notices_rest, notices_taken, notices_values, or_false, plain_of, plain_rest, plain_taken, positions_entered, positions_rest, positions_taken, positions_values, run_entered, statement_entered, statement_rest, statement_taken, statement_values, sub_is, trial_entered, trial_rest, trial_taken, trial_values, weigh_entered, weigh_rest, weigh_taken, weigh_values}
 
@@ -54,6 +54,10 @@ name_plain (c ∷ cs) e = letter_plain c (left_true (is_letter c) _ (left_true _
 pool_plain : (pool : Option Text) → IsPool pool → list_any is_option (pool_values pool) ≡ false
 pool_plain None p = refl
 pool_plain (Some x) p = rw (name_plain x p) refl
+
+pub other_named : (pool : Option Text) → NamesOther pool → IsPool pool
+other_named None p = tt
+other_named (Some x) p = p.0
 
 pool_word : (pool : Option Text) → IsPool pool → IsPlainPool pool
 pool_word None p = tt
@@ -142,12 +146,12 @@ words_plain commands.Live p = refl
 words_plain (commands.OnInput inputs.Check) p = refl
 words_plain (commands.OnInput inputs.Explain) p = refl
 words_plain (commands.OnJournal journals.Audit) p = refl
-words_plain (commands.OnJournal (journals.Positions pool)) p = pool_plain pool p
-words_plain (commands.OnJournal (journals.Notices d pool)) p = rw (day_plain d) (pool_plain pool p.1)
+words_plain (commands.OnJournal (journals.Positions pool)) p = pool_plain pool (other_named pool p)
+words_plain (commands.OnJournal (journals.Notices d pool)) p = rw (day_plain d) (pool_plain pool (other_named pool p.1))
 words_plain (commands.OnInput (inputs.Import n)) p = rw (decimal_plain n (omega (arith, p.1))) refl
 words_plain (commands.OnJournal (journals.Weigh k d)) p = rw (kind_plain k, day_plain d) refl
 words_plain (commands.OnJournal (journals.History pool)) p = pool_plain pool p
-words_plain (commands.OnJournal (journals.Statement n pool)) p = rw (decimal_plain n (omega (arith, p.1))) (pool_plain pool p.2)
+words_plain (commands.OnJournal (journals.Statement n pool)) p = rw (decimal_plain n (omega (arith, p.1))) (pool_plain pool (other_named pool p.2))
 words_plain (commands.Trial x y z) p = rw (decimal_plain x (omega (arith, p.1)), decimal_plain y (omega (arith, p.3)), decimal_plain z (omega (arith, p.4))) refl
 
 -- `clap` takes the words of a command
@@ -157,12 +161,12 @@ words_taken commands.Live p = plain_taken _ live_entered
 words_taken (commands.OnInput inputs.Check) p = plain_taken _ check_entered
 words_taken (commands.OnInput inputs.Explain) p = plain_taken _ explain_entered
 words_taken (commands.OnJournal journals.Audit) p = plain_taken _ audit_entered
-words_taken (commands.OnJournal (journals.Positions pool)) p = positions_taken pool (pool_word pool p)
-words_taken (commands.OnJournal (journals.Notices d pool)) p = notices_taken _ pool (plain_of _ (day_plain d)) (pool_word pool p.1)
+words_taken (commands.OnJournal (journals.Positions pool)) p = positions_taken pool (pool_word pool (other_named pool p))
+words_taken (commands.OnJournal (journals.Notices d pool)) p = notices_taken _ pool (plain_of _ (day_plain d)) (pool_word pool (other_named pool p.1))
 words_taken (commands.OnInput (inputs.Import n)) p = import_taken _ (plain_of _ (decimal_plain n (omega (arith, p.1))))
 words_taken (commands.OnJournal (journals.Weigh k d)) p = weigh_taken _ _ (plain_of _ (kind_plain k)) (plain_of _ (day_plain d))
 words_taken (commands.OnJournal (journals.History pool)) p = history_taken pool (pool_word pool p)
-words_taken (commands.OnJournal (journals.Statement n pool)) p = statement_taken _ pool (plain_of _ (decimal_plain n (omega (arith, p.1)))) (pool_word pool p.2)
+words_taken (commands.OnJournal (journals.Statement n pool)) p = statement_taken _ pool (plain_of _ (decimal_plain n (omega (arith, p.1)))) (pool_word pool (other_named pool p.2))
 words_taken (commands.Trial x y z) p = trial_taken _ _ _ (plain_of _ (decimal_plain x (omega (arith, p.1)))) (plain_of _ (decimal_plain y (omega (arith, p.3)))) (plain_of _ (decimal_plain z (omega (arith, p.4))))
 
 -- ---- what is found of the words of a command
@@ -180,11 +184,11 @@ words_name (commands.OnInput inputs.Check) p found rows e = (known_name _ _ chec
 words_name (commands.OnInput inputs.Explain) p found rows e = (known_name _ _ explain_entered refl [] found rows e, tt)
 words_name (commands.OnJournal journals.Audit) p found rows e = (known_name _ _ audit_entered refl [] found rows e, tt)
 words_name (commands.OnJournal (journals.Positions pool)) p found rows e =
-    let is = found_is (name_and (codes "POOL")) (words_of (commands.OnJournal (journals.Positions pool))) _ (positions_values pool (pool_word pool p)) found rows e in
+    let is = found_is (name_and (codes "POOL")) (words_of (commands.OnJournal (journals.Positions pool))) _ (positions_values pool (pool_word pool (other_named pool p))) found rows e in
     (ap (λ (q : Text × Option Text). q.0) is, ap (λ (q : Text × Option Text). q.1) is)
 words_name (commands.OnJournal (journals.Notices d pool)) p found rows e =
     let is = found_is (name_and_pool (codes "DATE")) (words_of (commands.OnJournal (journals.Notices d pool))) _
-    (notices_values (day_text d) pool (day_word d) (pool_word pool p.1)) found rows e in (
+    (notices_values (day_text d) pool (day_word d) (pool_word pool (other_named pool p.1))) found rows e in (
       ap (λ (q : Text × Option Text × Option Text). q.0) is,
       (ap (λ (q : Text × Option Text × Option Text). q.1) is, ap (λ (q : Text × Option Text × Option Text). q.2) is),
     )
@@ -201,7 +205,7 @@ words_name (commands.OnJournal (journals.History pool)) p found rows e =
     (ap (λ (q : Text × Option Text). q.0) is, ap (λ (q : Text × Option Text). q.1) is)
 words_name (commands.OnJournal (journals.Statement n pool)) p found rows e =
     let is = found_is (name_and_pool (codes "ROUND")) (words_of (commands.OnJournal (journals.Statement n pool))) _
-    (statement_values (decimal n) pool (number_word n (omega (arith, p.1))) (pool_word pool p.2)) found rows e in (
+    (statement_values (decimal n) pool (number_word n (omega (arith, p.1))) (pool_word pool (other_named pool p.2))) found rows e in (
       ap (λ (q : Text × Option Text × Option Text). q.0) is,
       (ap (λ (q : Text × Option Text × Option Text). q.1) is, ap (λ (q : Text × Option Text × Option Text). q.2) is),
     )

@@ -6,6 +6,7 @@ use Rattle.setoff_model.specs.Texts.{kind_text}
 use Rattle.request_text.specs.claim_history.specs.Days.{day_text}
 use Rattle.request_text.specs.claim_history.specs.Pools.{main_pool}
 use Rattle.request_text.specs.Lanes.{IsLane}
+use Rattle.request_text.specs.Pools.{IsOtherPool}
 use Rattle.command_words.specs.declared.command.Command.{Command}
 use Rattle.command_words.specs.declared.command.Command.TheVariants as commands
 use Rattle.command_words.specs.declared.input_report.InputReport.TheVariants as inputs
@@ -17,6 +18,11 @@ abbrev pub IsPool : Option (List ℕ) → Type 0
 IsPool None = Unit {0}
 IsPool (Some pool) = is_name pool ≡ true
 
+-- the pool is another than MAIN, where one is given
+abbrev pub NamesOther : Option (List ℕ) → Type 0
+NamesOther None = Unit {0}
+NamesOther (Some pool) = IsOtherPool pool
+
 -- the values of a command are in their ranges
 abbrev pub IsCommand : Command → Type 0
 IsCommand commands.Run = Unit {0}
@@ -25,11 +31,11 @@ IsCommand (commands.OnInput inputs.Check) = Unit {0}
 IsCommand (commands.OnInput inputs.Explain) = Unit {0}
 IsCommand (commands.OnInput (inputs.Import lane)) = IsLane lane
 IsCommand (commands.OnJournal journals.Audit) = Unit {0}
-IsCommand (commands.OnJournal (journals.Positions pool)) = IsPool pool
-IsCommand (commands.OnJournal (journals.Notices today pool)) = (today ≤ LAST_DAY) × IsPool pool
+IsCommand (commands.OnJournal (journals.Positions pool)) = NamesOther pool
+IsCommand (commands.OnJournal (journals.Notices today pool)) = (today ≤ LAST_DAY) × NamesOther pool
 IsCommand (commands.OnJournal (journals.Weigh kind today)) = today ≤ LAST_DAY
 IsCommand (commands.OnJournal (journals.History pool)) = IsPool pool
-IsCommand (commands.OnJournal (journals.Statement round pool)) = (1 ≤ round) × (round < 2 ^ 32) × IsPool pool
+IsCommand (commands.OnJournal (journals.Statement round pool)) = (1 ≤ round) × (round < 2 ^ 32) × NamesOther pool
 IsCommand (commands.Trial firms claims seed) = (2 ≤ firms) × (firms ≤ MOST_FIRMS) × (1 ≤ claims) × (claims ≤ MOST_CLAIMS) × (seed < 2 ^ 32)
 
 -- the first word of a command
@@ -83,10 +89,16 @@ AreNoWords words = (command : Command) → AreWordsOf command words → ⊥
 abbrev pub OneCommandLaw : Type 0
 OneCommandLaw = (words : List (List ℕ)) (command other : Command) → AreWordsOf command words → AreWordsOf other words → command ≡ other
 
--- the pool of which a report speaks: the one that its words name, else MAIN
+-- the pool that is named, else MAIN
+abbrev pub named_or_main : Option (List ℕ) → List ℕ
+named_or_main None = main_pool
+named_or_main (Some pool) = pool
+
+-- the pool of which a report speaks
 abbrev pub pool_of : JournalReport → List ℕ
-pool_of (journals.Positions (Some pool)) = pool
-pool_of (journals.Notices today (Some pool)) = pool
-pool_of (journals.History (Some pool)) = pool
-pool_of (journals.Statement round (Some pool)) = pool
-pool_of report = main_pool
+pool_of journals.Audit = main_pool
+pool_of (journals.Positions pool) = named_or_main pool
+pool_of (journals.Notices today pool) = named_or_main pool
+pool_of (journals.Weigh kind today) = main_pool
+pool_of (journals.History pool) = named_or_main pool
+pool_of (journals.Statement round pool) = named_or_main pool

@@ -1,6 +1,6 @@
 //! Reports on a journal.
 ghost use Rattle.std.specs.Prelude.{◌≡◌};
-ghost use Rattle.command_words.specs.Words.{pool_of};
+ghost use Rattle.command_words.specs.Words.{named_or_main as named, pool_of};
 
 use request_text::{Day, main_pool_name};
 use setoff_model::{Kind, Name};
@@ -12,14 +12,14 @@ pub enum JournalReport {
     Audit,
     /// `positions` or `positions POOL`: prints the position of every firm of a pool.
     Positions {
-        /// The pool, where the words name one. Else it is MAIN.
+        /// The pool, where the words name another than MAIN.
         pool: Option<Name>,
     },
     /// `notices DATE` or `notices DATE POOL`: prints the open claims of a pool, with the days that they are overdue.
     Notices {
         /// The day on which that is counted.
         today: Day,
-        /// The pool, where the words name one. Else it is MAIN.
+        /// The pool, where the words name another than MAIN.
         pool: Option<Name>,
     },
     /// `weigh KIND DATE`: prints a set-off in which claims that are longer overdue count more.
@@ -38,7 +38,7 @@ pub enum JournalReport {
     Statement {
         /// The number of the round, from 1 on.
         round: u32,
-        /// The pool, where the words name one. Else it is MAIN.
+        /// The pool, where the words name another than MAIN.
         pool: Option<Name>,
     },
 }
@@ -50,17 +50,22 @@ impl JournalReport {
         ensures { result ≡ pool_of self.now }
     {
         match self {
-            JournalReport::Positions { pool: Some(pool) } => *pool,
-            JournalReport::Notices {
-                pool: Some(pool),
-                ..
-            } => *pool,
-            JournalReport::History { pool: Some(pool) } => *pool,
-            JournalReport::Statement {
-                pool: Some(pool),
-                ..
-            } => *pool,
-            _ => main_pool_name(),
+            JournalReport::Audit => main_pool_name(),
+            JournalReport::Positions { pool } => named_or_main(pool),
+            JournalReport::Notices { pool, .. } => named_or_main(pool),
+            JournalReport::Weigh { .. } => main_pool_name(),
+            JournalReport::History { pool } => named_or_main(pool),
+            JournalReport::Statement { pool, .. } => named_or_main(pool),
         }
+    }
+}
+
+// The pool that is named, else MAIN.
+fn named_or_main(pool: &Option<Name>) -> Name
+    ensures { result ≡ named pool.now }
+{
+    match pool {
+        Some(pool) => *pool,
+        None => main_pool_name(),
     }
 }

@@ -10,7 +10,8 @@ ghost use Rattle.clap.specs.Values.{kind_of};
 ghost use Rattle.clap.specs.declared.error.kind.ErrorKind.TheVariants.{OutOfMemory};
 ghost use Rattle.command_words.specs.declared.command.Command.{Command as CommandOf};
 ghost use Rattle.command_words.specs.Program.{program};
-ghost use Rattle.command_words.specs.Words.{AreWordsOf, AreNoWords, IsCommand, IsPool};
+ghost use Rattle.command_words.specs.Words.{AreWordsOf, AreNoWords, IsCommand, IsPool, NamesOther};
+ghost use Rattle.request_text.specs.claim_history.specs.Pools.{is_main as names_main};
 ghost use Rattle.command_words.specs.Reading.{IsFoundIn, IsGiven, is_option};
 
 use crate::command::Command;
@@ -20,7 +21,7 @@ use crate::journal_report::JournalReport;
 use crate::program::program;
 use clap::error::ErrorKind;
 use clap::{ArgMatches, Error};
-use request_text::Day;
+use request_text::{Day, main_pool_name};
 use setoff_model::limits::{MOST_CLAIMS, MOST_FIRMS, MOST_LANES};
 use setoff_model::{Kind, Name, read_kind, read_number};
 use std::alloc::Global;
@@ -96,12 +97,31 @@ fn pool_at(values: &ArgMatches, id: &str) -> Option<Option<Name>>
     Some(Some(pool))
 }
 
+// Whether a pool is MAIN.
+fn is_main(pool: &Name) -> bool
+    ensures { result ≡ names_main pool.now }
+{
+    pool.bytes() == main_pool_name().bytes()
+}
+
+// The pool other than MAIN that is the value of this name, if there is one.
+#[tactic(auto, using(crate::proofs::Commands::other_named))]
+fn other_pool_at(values: &ArgMatches, id: &str) -> Option<Option<Name>>
+    ensures found { IfSome result (λ pool. NamesOther pool × (first_value (found_of values.now) id.now ≡ pool)) }
+    ensures none { IfNone result ((pool : Option (List ℕ)) → NamesOther pool → first_value (found_of values.now) id.now ≡ pool → ⊥) }
+{
+    match pool_at(values, id)? {
+        Some(pool) if is_main(&pool) => None,
+        pool => Some(pool),
+    }
+}
+
 // The command `positions` with its value.
 fn positions_at(values: &ArgMatches) -> Option<Command>
     ensures found { IfSome result (λ c. IsCommand c × IsGiven c (codes "positions") (first_value (found_of values.now))) }
     ensures none { IfNone result ((c : CommandOf) → IsCommand c → IsGiven c (codes "positions") (first_value (found_of values.now)) → ⊥) }
 {
-    let pool = pool_at(values, "POOL")?;
+    let pool = other_pool_at(values, "POOL")?;
     Some(Command::OnJournal(JournalReport::Positions { pool }))
 }
 
@@ -111,7 +131,7 @@ fn notices_at(values: &ArgMatches) -> Option<Command>
     ensures none { IfNone result ((c : CommandOf) → IsCommand c → IsGiven c (codes "notices") (first_value (found_of values.now)) → ⊥) }
 {
     let today = day_at(values, "DATE")?;
-    let pool = pool_at(values, "POOL")?;
+    let pool = other_pool_at(values, "POOL")?;
     Some(Command::OnJournal(JournalReport::Notices { today, pool }))
 }
 
@@ -140,7 +160,7 @@ fn statement_at(values: &ArgMatches) -> Option<Command>
     ensures none { IfNone result ((c : CommandOf) → IsCommand c → IsGiven c (codes "statement") (first_value (found_of values.now)) → ⊥) }
 {
     let round = number_at(values, "ROUND", 1, u32::MAX)?;
-    let pool = pool_at(values, "POOL")?;
+    let pool = other_pool_at(values, "POOL")?;
     Some(Command::OnJournal(JournalReport::Statement { round, pool }))
 }
 

@@ -1,6 +1,7 @@
 //! What is told to who gave no command.
 
-/// The commands, each on a line with what it does, for the error stream where the words are none of them.
+/// The commands, each on a line with what it does, then the forms of their values and the version, for the error stream where the
+/// words are none of them. The script `bureau` reads this file for `--help` and `--version`.
 pub const USAGE: &str = "\
 run                       serves the requests of the input, and keeps them in the journal
 live                      serves them while the input is read, each batch when its FENCE has come
@@ -14,4 +15,6 @@ history [POOL]            prints the entries that the journal holds, each public
 statement ROUND [POOL]    prints the statement of a published round of a pool, as the run printed it
 import LANE               turns the invoices of the input into FILE requests
 trial FIRMS CLAIMS SEED   makes a large input from a number, and serves it
+KIND is PLAIN or FUNDED, DATE is YYYY-MM-DD, LANE is a number from 1 to 16, POOL is a name
+version 0.4.0
 ";

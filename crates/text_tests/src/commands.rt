@@ -23,7 +23,8 @@ fn told(rt: &impl Abort, alloc: Global, texts: &[&str]) -> Result<Command, Words
 fn each_list_of_words_is_its_command(rt: HostRuntime) {
     let today = Day::read(b"2025-03-31").expect(&rt, "a day");
     let east = Name::of(b"EAST").expect(&rt, "a name");
-    let lists: [(&[&str], Command); 22] = [
+    let main = Name::of(b"MAIN").expect(&rt, "a name");
+    let lists: [(&[&str], Command); 23] = [
         (&["run"], Command::Run),
         (&["live"], Command::Live),
         (&["check"], Command::OnInput(InputReport::Check)),
@@ -69,6 +70,10 @@ fn each_list_of_words_is_its_command(rt: HostRuntime) {
         (
             &["history", "EAST"],
             Command::OnJournal(JournalReport::History { pool: Some(east) }),
+        ),
+        (
+            &["history", "MAIN"],
+            Command::OnJournal(JournalReport::History { pool: Some(main) }),
         ),
         (
             &["statement", "1"],
@@ -169,9 +174,11 @@ const NO_COMMANDS: &[&[&str]] = &[
     &["notices", "EAST"],
     &["notices", "EAST", "2025-03-31"],
     &["notices", "2025-03-31", "east"],
+    &["notices", "2025-03-31", "MAIN"],
     &["notices", "2025-03-31", "EAST", "EAST"],
     &["positions", ""],
     &["positions", "@EAST"],
+    &["positions", "MAIN"],
     &["positions", "EAST", "EAST"],
     &["audit", "EAST"],
     &["explain", "1"],
@@ -189,6 +196,7 @@ const NO_COMMANDS: &[&[&str]] = &[
     &["statement", "01"],
     &["statement", "+1"],
     &["statement", "4294967296"],
+    &["statement", "1", "MAIN"],
     &["statement", "1", "EAST", "EAST"],
     &["import"],
     &["import", "0"],
@@ -231,6 +239,8 @@ const FORMS: &[&str] = &[
     "statement ROUND [POOL] ",
     "import LANE ",
     "trial FIRMS CLAIMS SEED ",
+    "KIND is PLAIN or FUNDED, DATE is YYYY-MM-DD, ",
+    "version 0.4.0",
 ];
 
 #[test]
