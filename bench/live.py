@@ -1,11 +1,11 @@
 #!/usr/bin/env python3
-"""Times `live` beside `run`, and how long an answer takes over a pipe: bench/live.py [LINES [FOLDER]]
+"""Times `live` beside `run`, and how long an answer takes over a pipe: bench/live.py [LINES [FOLDER [PROGRAM]]]
 
-The same lines without a FENCE, on one lane and on sixteen, are served by both, with the journal in a folder in memory, and a twentieth
-of them with it in a folder of FOLDER, where each act is synced: seconds by the clock and of the processors, the least of three runs in
-turn, and the peak of memory. Then requests are
-written one by one into the pipe of an office that stays open, each with a FENCE, and each answer is read before the next is written.
-Without words it takes 100,000 lines, and the folder of temporary files. Run by hand.
+The same lines without a FENCE, on one lane, two, four and sixteen, are served by both, with the journal in a folder in memory, and a
+twentieth of them with it in a folder of FOLDER, where each act is synced: seconds by the clock and of the processors, the least of
+three runs in turn, and the peak of memory. Then batches of one line and of sixteen are written one by one into the pipe of an office
+that stays open, each with a FENCE, and each answer is read before the next is written. Last an office reads nothing but FENCE, as much
+as it takes. Without words it takes 100,000 lines, the folder of temporary files and the program that is built here. Run by hand.
 """
 import os
 import pathlib
@@ -16,8 +16,10 @@ import tempfile
 import time
 
 HERE = pathlib.Path(__file__).resolve().parent
-PROGRAM = HERE.parent / "crates/bureau_program/out/bureau_program"
+PROGRAM = pathlib.Path(sys.argv[3] if len(sys.argv) > 3 else HERE.parent / "crates/bureau_program/out/bureau_program").resolve()
 EXCHANGES = 2000
+MOST_BYTES = 2**26
+BATCHES = [(1, 1), (16, 1), (16, 2), (16, 4), (16, 16)]
 
 
 def lines_of(count, lanes):
@@ -52,22 +54,38 @@ def compare(name, text, folder):
     print(f"{name:24} {run:8.3f} {live:8.3f} {live / run:6.2f} {run_cpu:8.3f} {live_cpu:8.3f} {live_cpu / run_cpu:6.2f} {run_peak:8.0f} {live_peak:8.0f}")
 
 
-def exchanges(act, folder):
-    """The times of answers over a pipe, in milliseconds, in order."""
+def answered(office, batch):
+    """The milliseconds until each line of a batch has its entry."""
+    before = time.perf_counter()
+    os.write(office.stdin.fileno(), f"{batch}FENCE\n".encode())
+    answer = b""
+    while answer.count(b"\n") < batch.count("\n"):
+        answer += os.read(office.stdout.fileno(), 4096)
+    if b"refused" in answer or b"fault" in answer:
+        sys.exit(f"bench: {answer!r}")
+    return (time.perf_counter() - before) * 1000
+
+
+def exchanges(act, lines, lanes, folder):
+    """The times of answers to batches over a pipe, in milliseconds, in order."""
     (folder / "bureau.journal").unlink(missing_ok=True)
-    child = subprocess.Popen([PROGRAM, "live"], stdin=subprocess.PIPE, stdout=subprocess.PIPE, cwd=folder)
-    times = []
-    for request in ["1 FIRM A"] + [act] * EXCHANGES:
-        before = time.perf_counter()
-        os.write(child.stdin.fileno(), f"{request}\nFENCE\n".encode())
-        answer = os.read(child.stdout.fileno(), 4096)
-        times.append((time.perf_counter() - before) * 1000)
-        if not answer.endswith(b"\n") or b"refused" in answer:
-            sys.exit(f"bench: {answer!r}")
-    child.stdin.close()
-    if child.wait() != 0:
+    office = subprocess.Popen([PROGRAM, "live"], stdin=subprocess.PIPE, stdout=subprocess.PIPE, cwd=folder)
+    answered(office, "1 FIRM A\n")
+    batch = "".join(f"{k % lanes + 1} {act}\n" for k in range(lines))
+    times = sorted(answered(office, batch) for _ in range(EXCHANGES))
+    office.stdin.close()
+    if office.wait() != 0:
         sys.exit("bench: the office did not close")
-    return sorted(times[1:])
+    return times
+
+
+def tell_exchanges(memory, disk):
+    print("an answer to a batch over a pipe, ms: half within, 99 of a hundred within")
+    for name, act, folder in (("POSITION, in memory", "POSITION A", memory), ("FUND, in memory", "FUND A 1.00", memory), ("FUND, on a file", "FUND A 1.00", disk)):
+        for lines, lanes in BATCHES:
+            times = exchanges(act, lines, lanes, folder)
+            what = f"{name}, {lines} on {lanes}"
+            print(f"{what:28} {statistics.median(times):8.3f} {times[len(times) * 99 // 100]:8.3f}")
 
 
 def main():
@@ -76,13 +94,12 @@ def main():
     with tempfile.TemporaryDirectory(dir="/dev/shm") as memory, tempfile.TemporaryDirectory(dir=where) as disk:
         memory, disk = pathlib.Path(memory), pathlib.Path(disk)
         print(f"{'':24} {'run':>8} {'live':>8} {'times':>6} {'run cpu':>8} {'live cpu':>8} {'times':>6} {'run MB':>8} {'live MB':>8}")
-        for lanes in (1, 16):
+        for lanes in (1, 2, 4, 16):
             compare(f"{lanes} lanes, in memory", lines_of(count, lanes), memory)
             compare(f"{lanes} lanes, on a file", lines_of(count // 20, lanes), disk)
-        print("an answer over a pipe, ms: half within, 99 of a hundred within")
-        for name, act, folder in (("POSITION, in memory", "1 POSITION A", memory), ("FUND, in memory", "1 FUND A 1.00", memory), ("FUND, on a file", "1 FUND A 1.00", disk)):
-            times = exchanges(act, folder)
-            print(f"{name:24} {statistics.median(times):8.3f} {times[len(times) * 99 // 100]:8.3f}")
+        tell_exchanges(memory, disk)
+        clock, used, _ = served("live", b"FENCE\n" * (MOST_BYTES // 6), memory)
+        print(f"{MOST_BYTES // 6} times FENCE: {clock:.1f} seconds, {used:.1f} of the processors")
 
 
 if __name__ == "__main__":

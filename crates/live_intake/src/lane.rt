@@ -9,8 +9,11 @@ use live_reading::{Handed, InSegments};
 use rtrb::Consumer;
 use std::alloc::Global;
 use std::sync::Wait;
-use std::thread;
+use std::thread::{self, Parker};
 use turn_lock::Seat;
+
+// How often a lane looks into its ring before it sleeps.
+const MOST_LOOKS: u32 = 100;
 
 /// The seat of a lane, the ring by which it is handed lines, and what came of those of the last segment, in order.
 pub struct LiveLane<D: Disk> {
@@ -19,9 +22,11 @@ pub struct LiveLane<D: Disk> {
     pub ends: Vec<LineEnd>,
 }
 
-/// Serves in order the lines that the lane is handed, up to the end of the segment. It waits for each of them.
+/// Serves in order the lines that the lane is handed, up to the end of the segment. It waits for each of them, and sleeps by its bell
+/// where it has one.
 pub fn serve_segment<D: Disk, R: Wait, V: Solver, G: Gate, P: Pause>(
     service: &Service<D, R, V, G, P>,
+    bell: Option<&Parker>,
     lane: &mut LiveLane<D>,
 )
     requires { IsFit service.now.shared.now.turn lane.old }
@@ -29,7 +34,7 @@ pub fn serve_segment<D: Disk, R: Wait, V: Solver, G: Gate, P: Pause>(
 {
     lane.ends.clear();
     for _ in service.rt.forever() {
-        match take(service.rt, &mut lane.ring) {
+        match take(service.rt, bell, &mut lane.ring) {
             Handed::Line { line, pool, act } => {
                 let request = Request {
                     line,
@@ -56,16 +61,38 @@ pub fn serve_segment<D: Disk, R: Wait, V: Solver, G: Gate, P: Pause>(
 }
 
 // Waits for what the lane is handed next.
-fn take<R: Wait>(rt: &R, ring: &mut Consumer<Handed, Global, InSegments>) -> Handed
+//
+// After a hundred looks into the ring it sleeps between one and the next. No wake-up is lost: whoever hands it something puts that into
+// the ring first and gives the token of the bell then. A token stays until it is taken, and each time that one was taken the lane looks
+// into the ring again. So of what came after the last look the token is still there, or wakes the lane; one that is older costs a look.
+fn take<R: Wait>(
+    rt: &R,
+    bell: Option<&Parker>,
+    ring: &mut Consumer<Handed, Global, InSegments>,
+) -> Handed
     ensures same { SameConsumer ring.old ring.new }
     ensures taken { received ring.new ≡ received ring.old ++ result ∷ [] }
     ensures allowed { MayHand (received ring.old) result }
 {
+    let mut looks = 0;
     for _ in rt.forever() {
         if let Ok(handed) = ring.pop() {
             return handed;
         }
-        thread::yield_now();
+        if looks < MOST_LOOKS {
+            looks += 1;
+            thread::yield_now();
+        } else {
+            sleep(rt, bell);
+        }
     }
     unreachable!()
+}
+
+// Sleeps until the bell has a token, and takes it. Where there is no bell, others have their turn.
+fn sleep<R: Wait>(rt: &R, bell: Option<&Parker>) {
+    match bell {
+        Some(bell) => bell.park(rt),
+        None => thread::yield_now(),
+    }
 }

@@ -1,10 +1,11 @@
 //! Lines that are handed to their lanes while the input is still read.
 //!
 //! A batch is read in *segments*. The reader of a segment reads lines, in this thread, and hands each to its lane by a ring of 64
-//! places, while the lanes serve theirs in threads of their own; or afterwards in this thread, where nothing need be served meanwhile.
-//! A segment ends where the batch ends, where a lane was handed 63 lines, or where the lanes are to serve before more is read: then
-//! each ring gets a mark. After the join both ends of each ring are in one place, where all that was sent is known to have been
-//! received. `run_live` serves one batch, and `HasRunLive` says which, and why it ended.
+//! places. Then the lanes serve theirs, in this thread, or side by side where a round is closed. Where more lines may come while one
+//! is, the lanes serve while the reader reads, in threads of their own, and sleep until they are handed something. A segment ends
+//! where the batch ends, where a lane was handed 63 lines, or where the lanes are to serve before more is read: then each ring gets a
+//! mark. After the join both ends of each ring are in one place, where all that was sent is known to have been received. `run_live`
+//! serves one batch, and `HasRunLive` says which, and why it ended.
 #![tactic(auto)]
 
 mod answers;

@@ -1,5 +1,5 @@
 //! One batch of an input, served while it is read.
-ghost use Rattle.std.specs.Prelude.{None, ◌≡◌, ◌≤◌, true, false, length};
+ghost use Rattle.std.specs.Prelude.{None, ◌≡◌, ◌-◌, ◌<◌, ◌≤◌, true, false, length, vec_capacity, IfSome};
 ghost use Rattle.turn_lock.specs.Seats.{lock_of, made, registrar_view, registry};
 ghost use Rattle.live_intake.specs.Live.{HasRunLive, HasServedLive};
 ghost use Rattle.live_reading.specs.Reading.{HasPassed, HasTaken};
@@ -16,6 +16,8 @@ use std::sync::Wait;
 use std::thread::Threads;
 use turn_lock::{Registrar, Unmade};
 
+const FENCE: &[u8] = b"FENCE\n";
+
 /// The desk after a batch with what came of its lines, and why the batch ended.
 #[derive(Drop)]
 pub struct LiveEnd<D: Disk> {
@@ -28,7 +30,8 @@ pub struct LiveEnd<D: Disk> {
 ///
 /// Fence, End and BadLine come where the batch ends so; Failed where the source failed, and counted it; TooLong where more bytes than
 /// the limit were taken. Memory: there was none to read a line, or for what is taken next; the whole lines that stand before are the
-/// batch. Without answers no line of the batch was asked, since there was no memory for that, and it ends by what had been taken.
+/// batch. Without answers no line of the batch was asked: it has none, or there was no memory for that, and it ends by what had been
+/// taken.
 pub fn run_live<
     S: Source,
     D: Disk + Send + Sync,
@@ -56,7 +59,7 @@ pub fn run_live<
     let _books = desk.books();
     intake.batches();
     intake.begin();
-    let Ok(room) = LiveRoom::make(alloc, intake.left()) else {
+    let Some(room) = room_for(alloc, intake) else {
         return unserved(alloc, desk, intake);
     };
     match Shared::open(alloc, desk, 0) {
@@ -80,7 +83,18 @@ pub fn run_live<
     }
 }
 
-// There was no memory to serve a line: those that had been taken are read, and not asked.
+// The memory for a batch. None: it is missing, or a FENCE stands next, so that the batch has no lines and needs none.
+fn room_for<D: Disk>(alloc: Global, intake: &Intake) -> Option<LiveRoom<D>>
+    ensures room { IfSome result IsRoom }
+    ensures answers { IfSome result (λ r. length intake.now.taken - intake.now.read < vec_capacity r.answers) }
+{
+    if intake.unread().starts_with(FENCE) {
+        return None;
+    }
+    LiveRoom::make(alloc, intake.left()).ok()
+}
+
+// There is no line, or was no memory to serve one: the lines that had been taken are read, and not asked.
 fn unserved<D: Disk>(alloc: Global, desk: Desk<D>, intake: &mut Intake) -> LiveEnd<D>
     requires { intake.old.fenced ≡ false }
     ensures end { result.end ≡ record { desk = desk; answers = None } }
@@ -131,6 +145,7 @@ fn serve_live<
     let mut registrar = registrar;
     let LiveRoom {
         places,
+        bells,
         mut rings,
         mut requests,
         mut answers,
@@ -148,6 +163,7 @@ fn serve_live<
     };
     let stop = serve_segments(
         &service,
+        bells.as_slice(),
         lanes.as_mut_slice(),
         rings.as_mut_slice(),
         intake,

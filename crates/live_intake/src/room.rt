@@ -9,6 +9,7 @@ use live_reading::{Handed, InSegments, MOST_ASKED, MOST_HANDED, Ring};
 use rtrb::{Consumer, RingBuffer};
 use setoff_model::limits::MOST_LANES;
 use std::alloc::{AllocError, Global};
+use std::thread::Parker;
 use turn_lock::Seat;
 
 /// Both ends of the ring of a lane, and the room for what comes of its lines in a segment.
@@ -22,6 +23,7 @@ pub struct Place {
 /// The memory that a batch takes, with that for the answers of the lines that were taken before it.
 pub struct LiveRoom<D: Disk> {
     pub places: Vec<Place>,
+    pub bells: Vec<Parker>,
     pub rings: Vec<Ring>,
     pub requests: Vec<Request>,
     pub answers: Vec<Answer>,
@@ -37,12 +39,14 @@ impl<D: Disk> LiveRoom<D> {
         ensures answers { IfOk result (λ r. left < vec_capacity r.answers) }
     {
         let places = places(alloc)?;
+        let bells = bells(alloc)?;
         let rings = Vec::with_capacity(alloc, MOST_LANES)?;
         let requests = Vec::with_capacity(alloc, MOST_ASKED)?;
         let answers = Vec::with_capacity(alloc, left + 1)?;
         let (lanes, seats) = lanes_and_seats(alloc)?;
         Ok(LiveRoom {
             places,
+            bells,
             rings,
             requests,
             answers,
@@ -58,6 +62,7 @@ impl<D: Disk> LiveRoom<D> {
     {
         let LiveRoom {
             places: _,
+            bells: _,
             rings: _,
             requests: _,
             answers: _,
@@ -87,6 +92,15 @@ fn one_place(alloc: Global) -> Result<Place, AllocError>
     let (ring, end) = RingBuffer::with_protocol::<Global, InSegments>(alloc, MOST_HANDED + 1)?;
     let ends = Vec::with_capacity(alloc, MOST_HANDED)?;
     Ok(Place { ring, end, ends })
+}
+
+// What wakes the lanes, one for each.
+fn bells(alloc: Global) -> Result<Vec<Parker>, AllocError> {
+    let mut bells = Vec::with_capacity(alloc, MOST_LANES)?;
+    for _ in 0..MOST_LANES {
+        bells.push(Parker::new())?;
+    }
+    Ok(bells)
 }
 
 // The room for the lanes, and for their seats.

@@ -9,18 +9,18 @@ ghost use Rattle.live_intake.specs.Joining.{AreJoined, HaveServedThese};
 ghost use Rattle.live_intake.specs.Segments.{HaveServed, IsFit};
 ghost use Rattle.live_reading.specs.Sparing.{HasSpare, KeepsSpare};
 
-use crate::fork::serve_lanes;
+use crate::fork::{serve_first, serve_lanes};
 use crate::lane::LiveLane;
 use crate::meeting::meet;
 use lane_runner::{Answer, Disk, Gate, Pause, Request, Service, Solver};
-use live_reading::{Intake, Ring, Source, Stop, read_segment, steps_alone};
+use live_reading::{Act, Intake, Ring, Source, Stop, read_segment, steps_alone};
 use setoff_model::limits::MOST_LANES;
 use std::sync::Wait;
-use std::thread::{Threads, join_mut};
+use std::thread::{Parker, Threads, join_mut};
 
-/// Reads lines in this thread and hands each to its lane, while the lanes serve them in threads of their own. Where no thread can be
-/// made, where the source has to be asked before there is any line, and where lines of one lane alone stand next, the lanes serve
-/// them afterwards in this thread.
+/// Reads lines in this thread and hands each to its lane. Then the lanes serve them, in this thread, or in threads of their own where a
+/// round is closed; and where more lines may come while one is, they serve meanwhile. Where no thread can be made, all is done in
+/// this one.
 pub fn run_segment<
     D: Disk + Send + Sync,
     R: Threads + Wait + Sync,
@@ -30,6 +30,7 @@ pub fn run_segment<
     S: Source,
 >(
     service: &Service<D, R, V, G, P>,
+    bells: &[Parker],
     lanes: &mut [LiveLane<D>],
     rings: &mut [Ring],
     intake: &mut Intake,
@@ -54,7 +55,9 @@ pub fn run_segment<
         intake.old intake.new requests.new.items result }
     ensures answers { KeepsSpare intake.old intake.new answers.old answers.new (vec_len requests.new) result }
 {
-    let stop = run_lanes(service, lanes, rings, intake, source, requests, answers);
+    let stop = run_lanes(
+        service, bells, lanes, rings, intake, source, requests, answers,
+    );
     meet(lanes, rings);
     stop
 }
@@ -69,6 +72,7 @@ fn run_lanes<
     S: Source,
 >(
     service: &Service<D, R, V, G, P>,
+    bells: &[Parker],
     lanes: &mut [LiveLane<D>],
     rings: &mut [Ring],
     intake: &mut Intake,
@@ -89,15 +93,31 @@ fn run_lanes<
                 intake,
                 source,
                 rings,
+                &[],
                 requests,
                 answers,
                 steps,
             );
-            serve_lanes(service, lanes, 1);
+            serve_first(service, lanes, threads_for(requests.as_slice()));
             stop
         }
-        None => run_both(service, lanes, rings, intake, source, requests, answers),
+        None => run_both(
+            service, bells, lanes, rings, intake, source, requests, answers,
+        ),
     }
+}
+
+// How many of the lanes are served side by side, after they were handed these: those up to the last of them where one closes a round,
+// which can take long. Others are served in less time than threads take to begin.
+fn threads_for(requests: &[Request]) -> usize
+    ensures { 1 ≤ result }
+{
+    let (mut last, mut closes) = (0, false);
+    for request in requests {
+        last = last.max(request.lane as usize);
+        closes = closes || matches!(request.act, Act::Close { .. });
+    }
+    if closes { last.max(1) } else { 1 }
 }
 
 // Runs the lanes and the reader of their lines side by side. Where no thread can be made, the reader runs first.
@@ -110,6 +130,7 @@ fn run_both<
     S: Source,
 >(
     service: &Service<D, R, V, G, P>,
+    bells: &[Parker],
     lanes: &mut [LiveLane<D>],
     rings: &mut [Ring],
     intake: &mut Intake,
@@ -128,7 +149,7 @@ fn run_both<
         &mut ||
             requires { All (IsFit service.now.shared.now.turn) lanes.now }
             ensures { HaveServed service.entry.now.shared.now.turn lanes.entry.now lanes.exit.now }
-        { serve_lanes(service, lanes, MOST_LANES) },
+        { serve_lanes(service, bells, lanes, MOST_LANES) },
         &mut || -> Option<Stop>
             requires { MayRead intake.now rings.now requests.now answers.now }
             ensures { HasReadSegment (S.left source.entry.now) (S.left source.exit.now) (S.faults source.entry.now) (S.faults source.exit.now)
@@ -139,6 +160,7 @@ fn run_both<
                 intake,
                 source,
                 rings,
+                bells,
                 requests,
                 answers,
                 usize::MAX,

@@ -11,7 +11,7 @@ use crate::segment::run_segment;
 use lane_runner::{Answer, Disk, Gate, Pause, Request, Service, Solver};
 use live_reading::{Intake, Ring, Source, Stop};
 use std::sync::Wait;
-use std::thread::Threads;
+use std::thread::{Parker, Threads};
 
 /// Serves a batch, segment after segment.
 pub fn serve_segments<
@@ -23,6 +23,7 @@ pub fn serve_segments<
     P: Pause + Sync,
 >(
     service: &Service<D, R, V, G, P>,
+    bells: &[Parker],
     lanes: &mut [LiveLane<D>],
     rings: &mut [Ring],
     intake: &mut Intake,
@@ -42,7 +43,9 @@ pub fn serve_segments<
         lanes.old lanes.new answers.new.items (Some result) }
 {
     loop {
-        let ended = serve_next(service, lanes, rings, intake, source, requests, answers);
+        let ended = serve_next(
+            service, bells, lanes, rings, intake, source, requests, answers,
+        );
         if let Some(stop) = ended {
             return stop;
         }
@@ -60,6 +63,7 @@ fn serve_next<
     P: Pause + Sync,
 >(
     service: &Service<D, R, V, G, P>,
+    bells: &[Parker],
     lanes: &mut [LiveLane<D>],
     rings: &mut [Ring],
     intake: &mut Intake,
@@ -81,7 +85,9 @@ fn serve_next<
         lanes.old lanes.new answers.old.items answers.new.items result }
 {
     requests.clear();
-    let ended = run_segment(service, lanes, rings, intake, source, requests, answers);
+    let ended = run_segment(
+        service, bells, lanes, rings, intake, source, requests, answers,
+    );
     merge(requests.as_slice(), lanes, answers);
     ended
 }

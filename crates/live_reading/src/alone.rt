@@ -8,37 +8,42 @@ const FENCE: &[u8] = b"FENCE\n";
 
 const CLOSE: &[u8] = b"CLOSE";
 
-/// How many steps the reader may take before any lane serves; None where the lanes are to serve meanwhile. It looks at the bytes that
-/// were taken and not read, a piece at most. It is advice: by it threads are saved, and no clause says what is best.
+// How many lines are looked at.
+const MOST_LOOKED: usize = 256;
+
+/// How many steps the reader may take before any lane serves; None where the lanes are to serve meanwhile. It looks at the first lines
+/// that were taken and not read. It is advice: by it threads are saved, and no clause says what is best.
 ///
-/// Where no whole line stands there it is one step, which asks the source. Else it is one for each line, where those that stand there
-/// are of one lane alone, and fill its ring, or end by a FENCE, or close no round. While a round is closed, which can take long, lines
-/// of other lanes may come.
+/// Where no whole line stands there it is one step, which asks the source. Else it is one for each line, up to a FENCE, or to the first
+/// one that closes a round. What stands before that is soon served, in less time than threads take to begin. To close a round can take
+/// long, and then lines of other lanes may come. So where such a line is the first one, the lanes serve meanwhile, unless the batch ends
+/// among the lines that are looked at, or one lane is handed all that it may be in a segment.
 pub fn steps_alone(unread: &[u8]) -> Option<usize>
     ensures { IfSome result (λ steps. 1 ≤ steps) }
 {
     let (next, _) = unread.split_at(unread.len().min(PIECE));
     let lane = first_field(next);
-    let mut steps = 0;
-    let mut closes = false;
+    let (mut steps, mut closes, mut alone) = (0, false, true);
     for (count, line) in next.split_inclusive(|byte| *byte == b'\n').enumerate() {
         if line == FENCE {
             return Some(count + 1);
         }
-        if !line.ends_with(b"\n") {
+        if count == MOST_LOOKED || !line.ends_with(b"\n") {
             break;
         }
-        if first_field(line) != lane {
-            return None;
+        if closes_round(line) && !closes {
+            if count > 0 {
+                return Some(count);
+            }
+            closes = true;
         }
+        alone = alone && first_field(line) == lane;
         steps = count + 1;
-        if steps == MOST_HANDED {
+        if alone && steps == MOST_HANDED {
             return Some(steps);
         }
-        closes = closes || closes_round(line);
     }
-    // A line as long as a piece is none, and is not looked through from its front at each piece that comes of it.
-    if closes || (steps == 0 && next.len() == PIECE) {
+    if closes {
         return None;
     }
     Some(steps.max(1))

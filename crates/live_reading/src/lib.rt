@@ -19,4 +19,5 @@ pub use input_front::{Intake, Source};
 pub use passing::pass_over;
 pub use reading::{MOST_ASKED, read_segment};
 pub use rings::Ring;
+pub use served_lines::Act;
 pub use stop::Stop;

@@ -16,6 +16,7 @@ use input_front::{Intake, Line, More, PIECE, Source};
 use served_lines::{Answer, Request};
 use setoff_model::limits::MOST_LANES;
 use std::alloc::Global;
+use std::thread::Parker;
 
 /// How many lines a segment has, at most: with so many each lane was handed `MOST_HANDED`.
 pub const MOST_ASKED: usize = 63 * MOST_LANES;
@@ -35,12 +36,13 @@ pub enum Step {
 }
 
 /// Reads the lines of a segment, by so many steps at most, and hands each to its lane, and then marks its end for each lane. None: the
-/// batch goes on.
+/// batch goes on. A lane that sleeps by its bell, the one of its place, is woken by what it is handed.
 pub fn read_segment<S: Source>(
     alloc: Global,
     intake: &mut Intake,
     source: &mut S,
     rings: &mut [Ring],
+    bells: &[Parker],
     requests: &mut Vec<Request>,
     answers: &mut Vec<Answer>,
     steps: usize,
@@ -50,8 +52,10 @@ pub fn read_segment<S: Source>(
     ensures { HasReadSegment (S.left source.old) (S.left source.new) (S.faults source.old) (S.faults source.new)
         intake.old intake.new rings.old rings.new requests.new answers.old answers.new result }
 {
-    let stop = hand_lines(alloc, intake, source, rings, requests, answers, steps);
-    mark(rings);
+    let stop = hand_lines(
+        alloc, intake, source, rings, bells, requests, answers, steps,
+    );
+    mark(rings, bells);
     stop
 }
 
@@ -61,6 +65,7 @@ fn hand_lines<S: Source>(
     intake: &mut Intake,
     source: &mut S,
     rings: &mut [Ring],
+    bells: &[Parker],
     requests: &mut Vec<Request>,
     answers: &mut Vec<Answer>,
     steps: usize,
@@ -78,7 +83,7 @@ fn hand_lines<S: Source>(
     ensures answers { KeepsSpare intake.old intake.new answers.old answers.new (vec_len requests.new) result }
 {
     for _ in 0..steps {
-        match hand_next(alloc, intake, source, rings, requests, answers) {
+        match hand_next(alloc, intake, source, rings, bells, requests, answers) {
             Step::On => {}
             Step::Full => return None,
             Step::Over(stop) => return Some(stop),
@@ -93,6 +98,7 @@ fn hand_next<S: Source>(
     intake: &mut Intake,
     source: &mut S,
     rings: &mut [Ring],
+    bells: &[Parker],
     requests: &mut Vec<Request>,
     answers: &mut Vec<Answer>,
 ) -> Step
@@ -110,7 +116,7 @@ fn hand_next<S: Source>(
 {
     intake.batches();
     match intake.next(alloc) {
-        Some(Line::Asks(request)) => hand_one(rings, requests, request),
+        Some(Line::Asks(request)) => hand_one(rings, bells, requests, request),
         Some(Line::Fence) => Step::Over(Stop::Fence),
         Some(Line::Bad { line, cause }) => Step::Over(Stop::BadLine { line, cause }),
         Some(Line::Memory) => Step::Over(Stop::Memory),
@@ -120,7 +126,7 @@ fn hand_next<S: Source>(
             }
             match intake.more(source) {
                 More::Some => Step::On,
-                More::End => Step::Over(hand_last(alloc, intake, rings, requests)),
+                More::End => Step::Over(hand_last(alloc, intake, rings, bells, requests)),
                 More::Failed => Step::Over(Stop::Failed),
                 More::TooLong => Step::Over(Stop::TooLong),
                 More::Memory => Step::Over(Stop::Memory),
@@ -134,6 +140,7 @@ fn hand_last(
     alloc: Global,
     intake: &Intake,
     rings: &mut [Ring],
+    bells: &[Parker],
     requests: &mut Vec<Request>,
 ) -> Stop
     requires begun { intake.now.fenced ≡ false }
@@ -148,7 +155,7 @@ fn hand_last(
 {
     match intake.last(alloc) {
         Some(Line::Asks(request)) => {
-            let _ = hand_one(rings, requests, request);
+            let _ = hand_one(rings, bells, requests, request);
             Stop::End
         }
         Some(Line::Bad { line, cause }) => Stop::BadLine { line, cause },
@@ -158,7 +165,12 @@ fn hand_last(
 }
 
 // Hands a request to its lane, and notes it.
-fn hand_one(rings: &mut [Ring], requests: &mut Vec<Request>, request: Request) -> Step
+fn hand_one(
+    rings: &mut [Ring],
+    bells: &[Parker],
+    requests: &mut Vec<Request>,
+    request: Request,
+) -> Step
     requires lane { IsLane request.lane }
     requires all { length rings.old ≡ MOST_LANES }
     requires valid { is_request request.act ≡ true }
@@ -189,6 +201,7 @@ fn hand_one(rings: &mut [Ring], requests: &mut Vec<Request>, request: Request) -
     });
     let last = hand(
         rings,
+        bells,
         Request {
             line,
             lane,

@@ -9,12 +9,13 @@ use rtrb::Producer;
 use served_lines::{Act, Request};
 use setoff_model::Name;
 use std::alloc::Global;
+use std::thread::Parker;
 
 /// The end by which a lane is handed lines. That of lane 1 is the first.
 pub type Ring = Producer<Handed, Global, InSegments>;
 
-/// Hands a line to its lane, and answers whether that lane may be handed no other in the segment.
-pub fn hand(rings: &mut [Ring], request: Request) -> bool
+/// Hands a line to its lane, wakes it, and answers whether that lane may be handed no other in the segment.
+pub fn hand(rings: &mut [Ring], bells: &[Parker], request: Request) -> bool
     requires lane { (1 ≤ request.lane) × (request.lane ≤ length rings.old) }
     requires valid { is_request request.act ≡ true }
     requires open { All IsOpen rings.old }
@@ -28,7 +29,10 @@ pub fn hand(rings: &mut [Ring], request: Request) -> bool
         pool,
         act,
     } = request;
-    hand_to(&mut rings[lane as usize - 1], line, pool, act)
+    let at = lane as usize - 1;
+    let last = hand_to(&mut rings[at], line, pool, act);
+    wake(bells, at);
+    last
 }
 
 // Hands a line to the lane of a ring.
@@ -43,12 +47,20 @@ fn hand_to(ring: &mut Ring, line: u64, pool: Name, act: Act) -> bool
     ring.cached_slots() == 1
 }
 
-/// Marks the end of a segment in each ring.
-pub fn mark(rings: &mut [Ring])
+/// Marks the end of a segment in each ring, and wakes each lane.
+pub fn mark(rings: &mut [Ring], bells: &[Parker])
     requires { All HasRoom rings.old }
     ensures { AreMarked rings.old rings.new }
 {
     for k in 0..rings.len() {
         rings[k].push_reserved(Handed::End);
+        wake(bells, k);
+    }
+}
+
+// Wakes the lane of this place, where it sleeps by a bell.
+fn wake(bells: &[Parker], at: usize) {
+    if let Some(bell) = bells.get(at) {
+        bell.unpark();
     }
 }
