@@ -7,9 +7,9 @@ use Rattle.weighed_round.specs.claim_history.specs.declared.entry.Reply.{Reply}
 use Rattle.weighed_round.specs.claim_history.specs.declared.entry.Reply.TheVariants as reply
 use Rattle.weighed_round.specs.claim_history.specs.History.{is_no_refusal}
 use Rattle.weighed_round.specs.claim_history.specs.Laws.{IsReplyInRange}
-use Rattle.bureau_desk.specs.declared.desk_refused.DeskCause.{DeskCause}
-use Rattle.bureau_desk.specs.declared.desk_refused.DeskCause.TheVariants.{Memory, Device, BadHeader, BadRecord, BadAct, Overfull}
-use Rattle.bureau_desk.specs.Opening.{HasDeskCause, HasViewCause, HasViewed}
+use Rattle.journal_texts.specs.bureau_desk.specs.declared.desk_refused.DeskCause.{DeskCause}
+use Rattle.journal_texts.specs.bureau_desk.specs.declared.desk_refused.DeskCause.TheVariants.{Memory, Device, BadHeader, BadRecord, BadAct, Overfull}
+use Rattle.journal_texts.specs.bureau_desk.specs.Opening.{HasDeskCause, HasViewCause, HasViewed}
 use Rattle.weighed_round.specs.printed_text.specs.declared.exit_status.ExitStatus.{ExitStatus}
 use Rattle.weighed_round.specs.printed_text.specs.declared.exit_status.ExitStatus.TheVariants as statuses
 use Rattle.weighed_round.specs.printed_text.specs.Statuses.{IsOneOf}
@@ -22,25 +22,7 @@ use Rattle.command_words.specs.Words.{pool_of}
 use Rattle.history_text.specs.Histories.{was_published}
 use Rattle.weighed_round.specs.printed_text.proofs.Statuses.{other_than}
 use Rattle.bureau_reports.proofs.Written.{told_status, wrote_among}
-
--- a refusal has no amount
-refusal_fits : (got : Reply) → is_no_refusal got ≡ false → IsReplyInRange got
-refusal_fits (reply.Refused w) is = tt
-refusal_fits reply.Done is = absurd (true≢false is)
-refusal_fits (reply.Position position) is = absurd (true≢false is)
-refusal_fits (reply.Opened round) is = absurd (true≢false is)
-refusal_fits (reply.Continued round) is = absurd (true≢false is)
-refusal_fits (reply.Published total) is = absurd (true≢false is)
-refusal_fits (reply.Abandoned round) is = absurd (true≢false is)
-
--- the reply of the first refused act is a refusal
-pub tellable : (tells : Bool) (bytes : List ℕ) (low high : ℕ) (cause : DeskCause) → HasDeskCause tells bytes low high cause → IsTellable cause
-tellable tells bytes low high Memory h = tt
-tellable tells bytes low high (Device before after) h = tt
-tellable tells bytes low high BadHeader h = tt
-tellable tells bytes low high (BadRecord offset why) h = tt
-tellable tells bytes low high (BadAct offset got) h = refusal_fits got h.2.tells.2
-tellable tells bytes low high (Overfull offset) h = tt
+pub use Rattle.journal_texts.proofs.Openings.{opening_among, tellable}
 
 -- a reading has a cause as an opening has
 pub as_opening : (tells : Bool) (bytes : List ℕ) (low high : ℕ) (cause : DeskCause) → HasViewCause tells bytes low high cause → HasDeskCause tells bytes low high cause
@@ -52,14 +34,6 @@ as_opening tells bytes low high (BadAct offset got) h = h
 as_opening tells bytes low high (Overfull offset) h = h
 
 -- ---- statuses
-
-pub opening_among : (cause : DeskCause) → IsOneOf (statuses.Disk ∷ statuses.Unsound ∷ statuses.Memory ∷ []) (opening_status cause)
-opening_among Memory = inr (inr (inl refl))
-opening_among (Device before after) = inl refl
-opening_among BadHeader = inr (inl refl)
-opening_among (BadRecord offset why) = inr (inl refl)
-opening_among (BadAct offset got) = inr (inl refl)
-opening_among (Overfull offset) = inr (inl refl)
 
 unsound_among : (cause : DeskCause) → IsOneOf (statuses.No ∷ statuses.Disk ∷ statuses.Unsound ∷ statuses.Memory ∷ []) (unsound_status cause)
 unsound_among Memory = inr (inr (inr (inl refl)))

@@ -3,8 +3,8 @@ use Rattle.std.specs.Prelude.{◌≡◌, Bool, ℕ, List, [], ◌∷◌, ◌++�
 use Rattle.weighed_round.specs.claim_history.specs.declared.call.PoolEntry.{PoolEntry}
 use Rattle.weighed_round.specs.claim_history.specs.Facts.{Ledger}
 use Rattle.weighed_round.specs.claim_history.specs.Pools.{ledger_in}
-use Rattle.bureau_desk.specs.declared.desk_refused.DeskCause.{DeskCause}
-use Rattle.bureau_desk.specs.Opening.{HasViewCause, HasViewed}
+use Rattle.journal_texts.specs.bureau_desk.specs.declared.desk_refused.DeskCause.{DeskCause}
+use Rattle.journal_texts.specs.bureau_desk.specs.Opening.{HasViewCause, HasViewed}
 use Rattle.weighed_round.specs.firm_notices.specs.Notices.{notices_text}
 use Rattle.weighed_round.specs.firm_notices.specs.Positions.{positions_text}
 use Rattle.weighed_round.specs.printed_text.specs.declared.exit_status.ExitStatus.{ExitStatus}

@@ -1,7 +1,7 @@
 //! Reports on a journal.
 ghost use Rattle.std.specs.Prelude.{◌≡◌, ◌≤◌, [], IfOk, vec_len, vec_capacity};
 ghost use Rattle.weighed_round.specs.fault_count.specs.Counts.{HasRisen};
-ghost use Rattle.bureau_desk.specs.round_journal.specs.Opened.{IsQuiet};
+ghost use Rattle.journal_texts.specs.bureau_desk.specs.round_journal.specs.Opened.{IsQuiet};
 ghost use Rattle.weighed_round.specs.printed_text.specs.declared.exit_status.ExitStatus.TheVariants as statuses;
 ghost use Rattle.weighed_round.specs.printed_text.specs.Statuses.{IsOneOf, TellsSinkFault};
 ghost use Rattle.weighed_round.specs.printed_text.specs.Writing.{Wrote};
@@ -9,13 +9,12 @@ ghost use Rattle.setoff_model.specs.declared.limits.TheConstants.{OUTPUT_BYTES};
 ghost use Rattle.bureau_reports.specs.DiskTexts.{IsTellable, sound_text};
 ghost use Rattle.bureau_reports.specs.Journals.{IsBookDue, IsJournalDue, IsMade, IsTextOf, journal_statuses, unviewed_status, unviewed_text};
 
-use crate::fault_line::{status_of_opening, write_opening_fault};
 use crate::sound_line::{status_of_unsound, write_sound, write_unsound};
-use bureau_desk::{Desk, DeskCause};
 use bureau_edge::Sink;
 use command_words::JournalReport;
 use disk_model::Disk;
 use history_text::{print_history, print_round};
+use journal_texts::{Desk, DeskCause, status_of_opening, write_opening_fault};
 use setoff_model::limits::LINE_BYTES;
 use std::alloc::{AllocError, Global};
 use weighed_round::{

@@ -12,15 +12,13 @@
 
 mod check;
 mod explain;
-mod fault_line;
 mod import;
 mod input;
 mod journal;
-mod refused;
 mod sound_line;
 mod statement;
 
 pub use input::report_input;
 pub use journal::report_journal;
-pub use refused::tell_refused;
+pub use journal_texts::tell_refused;
 pub use weighed_round::ExitStatus;

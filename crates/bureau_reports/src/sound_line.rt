@@ -4,8 +4,7 @@ ghost use Rattle.setoff_model.specs.declared.limits.TheConstants.{LINE_BYTES};
 ghost use Rattle.weighed_round.specs.claim_history.specs.Acts.{is_publication};
 ghost use Rattle.bureau_reports.specs.DiskTexts.{sound_text, unsound_text, unsound_status, IsTellable};
 
-use crate::fault_line::{status_of_opening, write_opening_fault, write_told};
-use bureau_desk::DeskCause;
+use journal_texts::{DeskCause, status_of_opening, write_opening_fault, write_told};
 use setoff_model::{put, write_whole};
 use weighed_round::{Books, ExitStatus};
 

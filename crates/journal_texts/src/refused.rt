@@ -1,14 +1,14 @@
 //! The fault line of a disk that has no desk, or no books.
 ghost use Rattle.std.specs.Prelude.{◌≡◌, ◌≤◌, [], vec_capacity};
 ghost use Rattle.setoff_model.specs.declared.limits.TheConstants.{LINE_BYTES};
-ghost use Rattle.bureau_reports.specs.DiskTexts.{opening_status, opening_text, IsTellable};
-ghost use Rattle.weighed_round.specs.printed_text.specs.Statuses.{TellsSinkFault};
-ghost use Rattle.weighed_round.specs.printed_text.specs.Writing.{IsWritten};
+ghost use Rattle.journal_texts.specs.DiskTexts.{opening_status, opening_text, IsTellable};
+ghost use Rattle.printed_text.specs.Statuses.{TellsSinkFault};
+ghost use Rattle.printed_text.specs.Writing.{IsWritten};
 
 use crate::fault_line::{status_of_opening, write_opening_fault};
 use bureau_desk::DeskCause;
 use bureau_edge::Sink;
-use weighed_round::{ExitStatus, end_with};
+use printed_text::{ExitStatus, end_with};
 
 /// Tells why no desk was opened on a disk, or no books made of it, and says the status. The buffer is empty and has room for
 /// `LINE_BYTES`.

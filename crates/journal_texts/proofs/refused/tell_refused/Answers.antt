@@ -1,11 +1,11 @@
 use Rattle.std.specs.Vec.{vec_len}
 use Rattle.std.proofs.Common.{◌≡◌, ◌∙◌, ℕ, List, [], ◌∷◌, ◌++◌, length, ap, refl, sym, arith}
-use Rattle.weighed_round.specs.printed_text.specs.declared.exit_status.ExitStatus.TheVariants as statuses
-use Rattle.weighed_round.specs.printed_text.proofs.Statuses.{other_than}
-use Rattle.bureau_reports.specs.DiskTexts.{opening_status, opening_text}
-use Rattle.bureau_reports.proofs.Viewed.{opening_among}
-use Rattle.bureau_reports.proofs.Written.{written_as}
-use Rattle.bureau_reports.proofs.refused.tell_refused.Goals as goal
+use Rattle.printed_text.specs.declared.exit_status.ExitStatus.TheVariants as statuses
+use Rattle.printed_text.proofs.Statuses.{other_than}
+use Rattle.journal_texts.specs.DiskTexts.{opening_status, opening_text}
+use Rattle.journal_texts.proofs.Openings.{opening_among}
+use Rattle.journal_texts.proofs.Written.{written_as}
+use Rattle.journal_texts.proofs.refused.tell_refused.Goals as goal
 
 pub write_opening_fault-requires-clause-tellable : goal.write_opening_fault-requires-clause-tellable
 write_opening_fault-requires-clause-tellable g c = c.requires.tellable

@@ -1,12 +1,12 @@
 -- What is told of a disk: why no desk was opened on it, and what an audit finds.
 use Rattle.std.specs.Prelude.{ℕ, List, ◌++◌, length, count_by, codes, decimal}
-use Rattle.weighed_round.specs.claim_history.specs.declared.call.PoolEntry.{PoolEntry}
-use Rattle.weighed_round.specs.claim_history.specs.Acts.{is_publication}
-use Rattle.weighed_round.specs.claim_history.specs.Laws.{IsReplyInRange}
-use Rattle.weighed_round.specs.entry_text.specs.Entries.{reply_text}
-use Rattle.weighed_round.specs.printed_text.specs.declared.exit_status.ExitStatus.{ExitStatus}
-use Rattle.weighed_round.specs.printed_text.specs.declared.exit_status.ExitStatus.TheVariants as statuses
-use Rattle.weighed_round.specs.printed_text.specs.Texts.{memory_text}
+use Rattle.printed_text.specs.claim_history.specs.declared.call.PoolEntry.{PoolEntry}
+use Rattle.printed_text.specs.claim_history.specs.Acts.{is_publication}
+use Rattle.printed_text.specs.claim_history.specs.Laws.{IsReplyInRange}
+use Rattle.printed_text.specs.entry_text.specs.Entries.{reply_text}
+use Rattle.printed_text.specs.declared.exit_status.ExitStatus.{ExitStatus}
+use Rattle.printed_text.specs.declared.exit_status.ExitStatus.TheVariants as statuses
+use Rattle.printed_text.specs.Texts.{memory_text}
 use Rattle.bureau_desk.specs.round_journal.specs.declared.cause.RecordWhy.{RecordWhy}
 use Rattle.bureau_desk.specs.round_journal.specs.declared.cause.RecordWhy.TheVariants.{Short, Body}
 use Rattle.bureau_desk.specs.declared.desk_refused.DeskCause.{DeskCause}

@@ -1,12 +1,12 @@
 //! Disks on which no desk was opened.
 ghost use Rattle.std.specs.Prelude.{◌≡◌, ◌+◌, ◌≤◌, ◌++◌, length, vec_len, vec_capacity};
 ghost use Rattle.setoff_model.specs.declared.limits.TheConstants.{LINE_BYTES};
-ghost use Rattle.bureau_reports.specs.DiskTexts.{offset_of, record_why, fault_of, told_fault};
-ghost use Rattle.bureau_reports.specs.DiskTexts.{told_counts, opening_text, opening_status, IsTellable};
+ghost use Rattle.journal_texts.specs.DiskTexts.{offset_of, record_why, fault_of, told_fault};
+ghost use Rattle.journal_texts.specs.DiskTexts.{told_counts, opening_text, opening_status, IsTellable};
 
 use bureau_desk::{DeskCause, RecordWhy};
+use printed_text::{ExitStatus, write_reply};
 use setoff_model::{put, write_whole};
-use weighed_round::{ExitStatus, write_reply};
 
 fn offset_of(cause: DeskCause) -> u64
     ensures { result ≡ offset_of cause }
@@ -47,7 +47,7 @@ fn write_fault(buffer: &mut Vec<u8>, cause: DeskCause)
 }
 
 // Writes where the fault of a journal is and what it is, after a word.
-pub(crate) fn write_told(buffer: &mut Vec<u8>, word: &[u8], cause: DeskCause)
+pub fn write_told(buffer: &mut Vec<u8>, word: &[u8], cause: DeskCause)
     requires short { length word.now ≤ 20 }
     requires tellable { IsTellable cause }
     requires spare { vec_len buffer.old + LINE_BYTES ≤ vec_capacity buffer.old }
@@ -82,7 +82,7 @@ fn write_counts(buffer: &mut Vec<u8>, word: &[u8], before: u64, after: u64)
 }
 
 /// Writes the fault line of a disk on which no desk was opened. The numbers of a reply that it tells are in range.
-pub(crate) fn write_opening_fault(buffer: &mut Vec<u8>, cause: DeskCause)
+pub fn write_opening_fault(buffer: &mut Vec<u8>, cause: DeskCause)
     requires tellable { IsTellable cause }
     requires spare { vec_len buffer.old + LINE_BYTES ≤ vec_capacity buffer.old }
 
@@ -104,7 +104,7 @@ pub(crate) fn write_opening_fault(buffer: &mut Vec<u8>, cause: DeskCause)
 }
 
 /// The status of a call that ends with it: `Memory`, `Disk` or `Unsound`.
-pub(crate) fn status_of_opening(cause: DeskCause) -> ExitStatus
+pub fn status_of_opening(cause: DeskCause) -> ExitStatus
     ensures { result ≡ opening_status cause }
 {
     match cause {

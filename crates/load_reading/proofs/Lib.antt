@@ -1,0 +1,2 @@
+mod Closes
+mod Texts
