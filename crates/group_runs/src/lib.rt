@@ -16,8 +16,8 @@ mod serving;
 mod tally;
 
 pub use closes::first_close;
-pub use group_loader::Loader;
+pub use group_loader::{LoadStopped, Loader};
 pub use limits::GROUP_LINES;
 pub use load_break::LoadBreak;
-pub use printed_text::{ExitStatus, output_buffer};
+pub use printed_text::{Answer, ExitStatus, end_with, output_buffer, print_batch, tell_no_memory};
 pub use serving::load_batches;

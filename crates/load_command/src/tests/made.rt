@@ -2,9 +2,9 @@
 ghost use Rattle.std.specs.Prelude.{IfSome};
 ghost use Rattle.group_runs.specs.Runs.{IsAllKept};
 
-use bureau_desk::Desk;
 use disk_model::MemoryDisk;
 use group_runs::Loader;
+use journal_texts::Desk;
 use round_journal::read_records;
 use std::alloc::Global;
 use std::process::Abort;

@@ -1,6 +1,6 @@
 //! Tests of groups of lines: requests in, entries out.
 
-use crate::made::{begin, held};
+use crate::tests::made::{begin, held};
 use bureau_edge::BytesSink;
 use disk_model::MemoryDisk;
 use group_runs::{ExitStatus, GROUP_LINES, LoadBreak, first_close, load_batches, output_buffer};

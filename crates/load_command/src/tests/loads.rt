@@ -1,6 +1,6 @@
 //! Tests of the loader.
 
-use crate::made::{begin, held};
+use crate::tests::made::{begin, held};
 use act_bodies::can_be_kept;
 use claim_history::{Act, Call, Reply, Why};
 use disk_model::MemoryDisk;

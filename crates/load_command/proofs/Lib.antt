@@ -1,0 +1,6 @@
+mod Ends
+mod Fronts
+mod Loadable
+mod Loaded
+mod Parts
+mod Silent

@@ -1,0 +1,255 @@
+-- A load that was opened, and how it ended.
+use Rattle.std.specs.Prelude.{Option, IsTrue, drop, map, take, ◌-◌}
+use Rattle.std.specs.Io.KnownBytes.{Appends}
+use Rattle.std.proofs.Common.{◌≡◌, ◌∙◌, ⊎_elim, inl, ℕ, ◌<◌, ◌≤◌, Bool, List, [], ◌∷◌, ◌++◌, length, refl, sym, ap, subst, append_assoc, arith, length-append}
+use Rattle.std.proofs.lemmas.List.{append-nil, take-append-drop}
+use Rattle.std.proofs.Math.Seq.{take-append_seam}
+use Rattle.bureau_edge.specs.Streams.{AppendsPart}
+use Rattle.bureau_edge.proofs.Known.{Appends-then, AppendsPart-after, AppendsPart-front}
+use Rattle.disk_model.specs.Calls.{Seen, IsPresent}
+use Rattle.disk_model.proofs.Moments.{passes_still}
+use Rattle.journal_texts.specs.bureau_desk.specs.claim_history.specs.declared.call.Call.{Call}
+use Rattle.journal_texts.specs.bureau_desk.specs.claim_history.specs.declared.call.PoolEntry.{PoolEntry}
+use Rattle.journal_texts.specs.bureau_desk.specs.claim_history.specs.Pools.{accepted_calls}
+use Rattle.journal_texts.specs.bureau_desk.specs.claim_history.specs.PoolRounds.{cuts_after, ending_of, left_open}
+use Rattle.journal_texts.specs.bureau_desk.specs.claim_history.proofs.Calls.{accepted_append}
+use Rattle.journal_texts.specs.bureau_desk.specs.journal_replay.specs.Replays.{history_of}
+use Rattle.journal_texts.specs.bureau_desk.specs.round_journal.specs.Opened.{AreFound}
+use Rattle.journal_texts.specs.bureau_desk.specs.Opening.{HasDeskTurned}
+use Rattle.journal_texts.specs.bureau_desk.proofs.Left.{left_law}
+use Rattle.journal_texts.specs.printed_text.specs.request_text.specs.declared.request.Request.{Request}
+use Rattle.journal_texts.specs.printed_text.specs.served_lines.specs.Served.{Line}
+use Rattle.journal_texts.specs.printed_text.specs.declared.exit_status.ExitStatus.{ExitStatus}
+use Rattle.journal_texts.specs.printed_text.specs.declared.exit_status.ExitStatus.TheVariants as statuses
+use Rattle.journal_texts.specs.printed_text.specs.Printing.{added_text, printed_of}
+use Rattle.journal_texts.specs.printed_text.specs.Writing.{IsWritten, broken, whole}
+use Rattle.journal_texts.specs.Journals.{HoldsSound}
+use Rattle.journal_texts.proofs.Written.{written_after, wrote_line}
+use Rattle.group_runs.specs.group_loader.specs.Groups.{HasGroupMoments, StandsForCalls, StandsForWhole}
+use Rattle.group_runs.specs.group_loader.specs.Loading.{LoadView}
+use Rattle.group_runs.specs.group_loader.specs.declared.loader.LoadStopped.{LoadStopped}
+use Rattle.group_runs.specs.group_loader.proofs.Grown.{calls_whole}
+use Rattle.group_runs.specs.declared.load_break.LoadBreak.TheVariants as breaks
+use Rattle.group_runs.specs.Lines.{GroupsAreDue, group_calls, groups_add, groups_text, lines_add}
+use Rattle.group_runs.specs.Runs.{HasBroken, HasLoaded, IsKeptBy, KeepsHistory, calls_of_group, groups_of}
+use Rattle.group_runs.proofs.Lines.{calls_after_groups, groups_due, text_more}
+use Rattle.load_command.proofs.Silent.{begun_parts}
+use Rattle.load_command.proofs.Fronts.{all_keeps, first_keeps}
+use Rattle.load_command.specs.Headline.{IsLoadHeadline, LoadEnd, SurvivesGroups, all_kept, but_last_group, disk_failed, load_text, sink_failed, sure_load_text}
+use Rattle.load_command.specs.Due.{HasOpened, HasTakenFirst, IsLoadDue, IsNotBegunDue, WroteLoad, device_text, loaded}
+
+-- ---- the text that was surely taken
+
+module _ (opened begun : List PoolEntry) where
+  sure_some : (groups : List (List Line)) → 0 < length groups → sure_load_text opened begun groups ≡ load_text opened begun (but_last_group groups)
+  sure_some [] some = absurd (omega (arith, some))
+  sure_some (g ∷ groups) some = refl
+
+  but_last_push : (groups : List (List Line)) (last : List Line) → but_last_group (groups ++ last ∷ []) ≡ groups
+  but_last_push groups last =
+      ap (λ (n : ℕ). take n (groups ++ last ∷ [])) (omega (arith, length-append groups (last ∷ []))) ∙ take-append_seam groups (last ∷ [])
+
+  sure_push : (groups : List (List Line)) (last : List Line) → sure_load_text opened begun (groups ++ last ∷ []) ≡ load_text opened begun groups
+  sure_push groups last =
+      sure_some (groups ++ last ∷ []) (omega (arith, length-append groups (last ∷ []))) ∙ ap (load_text opened begun) (but_last_push groups last)
+
+  -- the text of all but the last is at the front
+  front_text : (groups : List (List Line)) → (rest : List ℕ) × (load_text opened begun groups ≡ load_text opened begun (but_last_group groups) ++ rest)
+  front_text groups =
+      let first = but_last_group groups in
+      let last = drop (length groups - 1) groups in
+      let line = added_text opened (drop (length opened) begun) in
+      let rest = groups_text (begun ++ groups_add begun first) last in (
+        rest,
+        ap (load_text opened begun) (sym (take-append-drop (length groups - 1) groups))
+            ∙ ap (λ (t : List ℕ). line ++ t) (text_more begun first last) ∙ sym (append_assoc line (groups_text begun first) rest),
+      )
+
+  sure_taken : (x z : Option (List ℕ)) (groups : List (List Line)) → HasTakenFirst x z (load_text opened begun groups) → HasTakenFirst x z (sure_load_text opened begun groups)
+  sure_taken x z [] taken = (load_text opened begun [] ++ taken.0, taken.1)
+  sure_taken x z (g ∷ groups) taken =
+      let front = front_text (g ∷ groups) in
+      let first = load_text opened begun (but_last_group (g ∷ groups)) in
+      (front.0 ++ taken.0, subst (Appends x z) (ap (λ (t : List ℕ). t ++ taken.0) front.1 ∙ append_assoc first front.0 taken.0) taken.1)
+
+-- ---- a load
+
+module _ {D : Type 0} (seen : D → Seen) (reads_now : (d : D) → IsTrue (seen d).tells → IsPresent (seen d) (seen d).reads) (old : D) (first : LoadView D) (from : ℕ) (o : HasOpened seen old first from) where
+  abbrev opened : List PoolEntry
+  opened = history_of o.opening.records
+
+  abbrev begun : List PoolEntry
+  begun = first.books.members
+
+  from_one : take from begun ≡ opened
+  from_one =
+      ap (λ (n : ℕ). take n begun) (o.from_is ∙ o.opening.opened_with)
+      ∙ ap (take (length opened)) (o.history ∙ o.opening.history)
+      ∙ take-append_seam opened (map ending_of (left_open opened))
+
+  -- the lines of the abandonments
+  begun_text : printed_of (take from begun) (drop from begun) [] ≡ added_text opened (drop (length opened) begun)
+  begun_text =
+      append-nil (added_text (take from begun) (drop from begun))
+      ∙ ap (λ (l : List PoolEntry). added_text l (drop from begun)) from_one
+      ∙ ap (λ (n : ℕ). added_text opened (drop n begun)) (o.from_is ∙ o.opening.opened_with)
+
+  -- it published nothing since
+  pub none_published : [] ≡ cuts_after from begun
+  none_published =
+      sym (ap (λ (n : ℕ). cuts_after n begun) (o.from_is ∙ o.opening.opened_with)
+      ∙ ap (cuts_after (length opened)) o.history
+      ∙ (begun_parts opened o.desk.history o.opening.history).2)
+
+  pub from_few : from ≤ length begun
+  from_few = omega (arith, o.from_is, o.opening.opened_with, ap (λ (l : List PoolEntry). length l) (o.history ∙ o.opening.history), length-append opened (map ending_of (left_open opened)))
+
+  told_first : IsTrue (seen old).tells → IsTrue (seen first.journal.disk).tells
+  told_first told = ap (λ (d : D). (seen d).tells) o.disk ∙ o.opening.same ∙ told
+
+  later_so : (seen old).count ≤ (seen first.journal.disk).count
+  later_so = subst (λ (d : D). (seen old).count ≤ (seen d).count) (sym o.disk) o.opening.later
+
+  module _ (new : D) (groups : List (List Line)) (tried : List Line)
+      (kept : IsKeptBy seen first.journal.disk new (accepted_calls begun) (group_calls begun groups) (calls_of_group (begun ++ groups_add begun groups) tried)) where
+    abbrev history : List PoolEntry
+    history = begun ++ groups_add begun groups
+
+    abbrev tried_calls : List Call
+    tried_calls = calls_of_group history tried
+
+    told_new : IsTrue (seen old).tells → IsTrue (seen new).tells
+    told_new told = kept.tells ∙ told_first told
+
+    moments : IsTrue (seen old).tells → HasGroupMoments (seen new) (seen first.journal.disk).moment (accepted_calls begun) (group_calls begun groups) tried_calls
+    moments told = kept.grows (told_first told) (seen first.journal.disk).moment (accepted_calls begun) [] (sym (append-nil (accepted_calls begun))) (o.begins (told_first told))
+
+    at_exit : IsTrue (seen old).tells → (c : List ℕ) → IsPresent (seen new) c → StandsForWhole (accepted_calls history) tried_calls c
+    at_exit told c present =
+        let m = moments told in
+        subst (λ (calls : List Call). StandsForWhole calls tried_calls c) (calls_whole (accepted_calls begun) (group_calls begun groups) ∙ sym (calls_after_groups begun groups))
+        (m.last (seen new).moment c (m.below (length (group_calls begun groups)) (omega arith)) (omega arith) present)
+
+    survives : IsTrue (seen old).tells → SurvivesGroups seen old new begun history groups tried_calls
+    survives told = record {
+      first = (seen o.desk.at_first_sync).moment;
+      opened = first.journal.disk;
+      turned = subst (λ (d : D). HasDeskTurned (seen old) (seen o.desk.at_first_sync).moment (seen d)) (sym o.disk) (o.opening.turned told);
+      stays = kept.goes (told_first told);
+      moments = moments told;
+      at_exit = at_exit told;
+    }
+
+    on_disk : IsTrue (seen old).tells → StandsForWhole (accepted_calls history) tried_calls (seen new).reads
+    on_disk told = at_exit told (seen new).reads (reads_now new (told_new told))
+
+    holds : IsTrue (seen old).tells → (h : List PoolEntry) → KeepsHistory h → StandsForCalls (seen new).reads (accepted_calls h) → HoldsSound (seen new)
+    holds told h k stands =
+        let found = left_law h (seen new).reads k.legal k.within k.keepable (accepted_calls h, inl refl, stands) in
+        record { tells = told_new told; records = found.0; found = subst (λ (b : Bool). AreFound b (seen new).reads found.0) (sym (told_new told)) found.1; sound = found.2 }
+
+    sound_at_end : KeepsHistory history → KeepsHistory (history ++ lines_add history tried) → IsTrue (seen old).tells → HoldsSound (seen new)
+    sound_at_end k k' told = ⊎_elim
+        (λ alone. holds told history k alone)
+        (λ more. holds told (history ++ lines_add history tried) k' (subst (StandsForCalls (seen new).reads) (sym (accepted_append history (lines_add history tried))) more))
+        (on_disk told)
+
+    headline : (Taken : List ℕ → Type 0) (batches : List (List Request)) (status : ExitStatus) (told : List ℕ) → LoadEnd (seen old).count (seen new).count (groups_of batches) groups tried status told
+        → Taken (sure_load_text opened begun groups) → GroupsAreDue begun (groups ++ tried ∷ []) → KeepsHistory history → KeepsHistory (history ++ lines_add history tried)
+        → IsLoadHeadline seen Taken old new batches status (load_text opened begun groups ++ told)
+    headline Taken batches status told ended taken due k k' = record {
+      opened = opened;
+      begun = begun;
+      groups = groups;
+      tried = tried;
+      history = history;
+      is_history = record { records = o.opening.records; found = o.opening.found; sound = o.opening.sound; opened_is = refl; begins = o.history ∙ o.opening.history; parts = refl };
+      told = told;
+      ended = ended;
+      text_is = refl;
+      taken = taken;
+      due = due;
+      keeps = k;
+      keeps_tried = k';
+      on_disk = on_disk;
+      sound = sound_at_end k k';
+      survives = survives;
+    }
+
+  -- nothing was tried
+  none_due : (groups : List (List Line)) → GroupsAreDue begun groups → GroupsAreDue begun (groups ++ [] ∷ [])
+  none_due groups due = groups_due begun groups ([] ∷ []) due (tt, tt)
+
+  none_more : (h : List PoolEntry) → KeepsHistory h → KeepsHistory (h ++ lines_add h [])
+  none_more h k = subst KeepsHistory (sym (append-nil h)) k
+
+  -- the sink failed at the lines of the abandonments
+  pub wrote_begun : (x y : Option (List ℕ)) → AppendsPart x y (printed_of (take from begun) (drop from begun) []) → WroteLoad (λ Taken. IsNotBegunDue seen Taken old first.journal.disk) x y statuses.Sink
+  wrote_begun x y part =
+      let none : List (List Line) = [] in
+      let d = first.journal.disk in
+      let kept : IsKeptBy seen d d (accepted_calls begun) [] [] = record {
+        tells = refl;
+        goes = λ told. passes_still (seen d) (λ c. Unit {0});
+        grows = λ told started base groups is has. subst (λ (gs : List (List Call)). HasGroupMoments (seen d) started base gs []) (sym (append-nil groups)) has;
+      } in
+      let text = load_text opened begun none ++ [] in
+      let k : KeepsHistory (begun ++ groups_add begun none) = subst KeepsHistory (sym (append-nil begun)) o.keeps in
+      wrote_line (IsNotBegunDue seen (HasTakenFirst x y) old d) x y statuses.Sink text statuses.Sink
+      (λ batches. loaded statuses.Sink text (headline d none [] kept (HasTakenFirst x y) batches statuses.Sink [] (sink_failed (groups_of batches) refl refl) (part.0, part.3) (tt, tt) k (none_more (begun ++ groups_add begun none) k)))
+      (broken (AppendsPart-front x y (load_text opened begun none) [] (AppendsPart-front x y (added_text opened (drop (length opened) begun)) [] (subst (AppendsPart x y) begun_text part))))
+
+  module _ (batches : List (List Request)) (x y z : Option (List ℕ)) (before : Appends x y (printed_of (take from begun) (drop from begun) [])) where
+    abbrev line : List ℕ
+    line = added_text opened (drop (length opened) begun)
+
+    printed : Appends x y line
+    printed = subst (Appends x y) begun_text before
+
+    with_line : (w : Option (List ℕ)) (text : List ℕ) → Appends y w text → Appends x w (line ++ text)
+    with_line w text taken = Appends-then x y w line text printed taken
+
+    -- all groups were kept and written
+    pub wrote_loaded : (new : D) (status : ExitStatus) → HasLoaded seen first new batches y z status → WroteLoad (λ Taken. IsLoadDue seen Taken old new batches) x z status
+    wrote_loaded new status l =
+        let text = load_text opened begun l.groups in
+        let taken : Appends x z text = with_line z (groups_text begun l.groups) l.written in
+        let more : Appends x z (text ++ []) = subst (Appends x z) (sym (append-nil text)) taken in
+        let ended : LoadEnd (seen old).count (seen new).count (groups_of batches) l.groups [] status [] =
+        subst (λ (s : ExitStatus). LoadEnd (seen old).count (seen new).count (groups_of batches) l.groups [] s []) (sym l.status_is) (all_kept l.requests_are refl) in
+        wrote_line (IsLoadDue seen (HasTakenFirst x z) old new batches) x z status (text ++ []) status
+        (loaded status (text ++ [])
+        (headline new l.groups [] l.kept (HasTakenFirst x z) batches status [] ended (sure_taken opened begun x z l.groups ([], more)) (none_due l.groups l.due) l.keeps (none_more (begun ++ groups_add begun l.groups) l.keeps)))
+        (whole more)
+
+    -- the sink failed at the text of a group
+    pub wrote_untold : (new : D) → HasBroken seen first (groups_of batches) y z (breaks.Sink new) → WroteLoad (λ Taken. IsLoadDue seen Taken old new batches) x z statuses.Sink
+    wrote_untold new b =
+        let h = b.breaks in
+        let groups = h.groups ++ h.last ∷ [] in
+        let text = load_text opened begun groups in
+        let told = load_text opened begun h.groups in
+        let taken : HasTakenFirst x z told = (h.more, subst (Appends x z) (sym (append_assoc line (groups_text begun h.groups) h.more)) (with_line z (groups_text begun h.groups ++ h.more) h.told)) in
+        wrote_line (IsLoadDue seen (HasTakenFirst x z) old new batches) x z statuses.Sink (text ++ []) statuses.Sink
+        (loaded statuses.Sink (text ++ [])
+        (headline new groups [] h.kept (HasTakenFirst x z) batches statuses.Sink [] (sink_failed b.rest (b.in_order ∙ ap (λ (l : List (List Request)). l ++ b.rest) (sym h.requests_are)) refl)
+        (subst (HasTakenFirst x z) (sym (sure_push opened begun h.groups h.last)) taken) (none_due groups h.due) h.keeps (none_more (begun ++ groups_add begun groups) h.keeps)))
+        (broken (AppendsPart-front x z text [] (AppendsPart-after x y z line (groups_text begun groups) printed h.part)))
+
+    -- the disk failed at a group, which was told
+    pub wrote_unkept : (w : Option (List ℕ)) (stopped : LoadStopped D) (status : ExitStatus) → HasBroken seen first (groups_of batches) y z (breaks.Disk stopped) → IsWritten z w statuses.Disk (device_text stopped.device.before stopped.device.after) status
+        → WroteLoad (λ Taken. IsLoadDue seen Taken old stopped.disk batches) x w status
+    wrote_unkept w stopped status b written =
+        let h = b.breaks in
+        let told = device_text stopped.device.before stopped.device.after in
+        let text = load_text opened begun h.groups in
+        let kept : Appends x z text = with_line z (groups_text begun h.groups) h.written in
+        wrote_line (IsLoadDue seen (HasTakenFirst x w) old stopped.disk batches) x w statuses.Disk (text ++ told) status
+        (loaded statuses.Disk (text ++ told)
+        (headline stopped.disk h.groups h.last h.kept (HasTakenFirst x w) batches statuses.Disk told
+        (disk_failed b.rest stopped.device.before stopped.device.after (b.in_order ∙ ap (λ (l : List (List Request)). l ++ b.rest) (sym h.requests_are)) (omega (arith, later_so, h.low)) h.now h.risen)
+        (sure_taken opened begun x w h.groups (then_some w text told status kept written)) h.due (first_keeps begun h.groups h.last h.keeps) (all_keeps begun h.groups h.last h.keeps)))
+        (written_after x z w text told statuses.Disk status kept written) where
+          then_some : (w : Option (List ℕ)) (text said : List ℕ) (status : ExitStatus) → Appends x z text → IsWritten z w statuses.Disk said status → HasTakenFirst x w text
+          then_some w text said status kept (whole all) = (said, Appends-then x z w text said kept all)
+          then_some w text said status kept (broken part) = (part.0, Appends-then x z w text part.0 kept part.3)

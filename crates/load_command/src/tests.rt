@@ -1,0 +1,7 @@
+//! Tests of loads: requests that are read, lines that are served in groups, and calls that are kept so.
+
+mod commands;
+mod loads;
+mod made;
+mod reading;
+mod runs;
