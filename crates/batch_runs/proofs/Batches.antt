@@ -1,5 +1,5 @@
 -- Batches that are served in turn.
-use Rattle.std.specs.Prelude.{Option, Some, None, MatchOption, drop, take}
+use Rattle.std.specs.Prelude.{Option, Some, None, IsTrue, MatchOption, drop, take}
 use Rattle.std.specs.List.{list_any}
 use Rattle.std.proofs.Common.{◌-◌, zero, ◌≡◌, ◌∙◌, inl, inr, ℕ, Bool, true, false, ◌||◌, List, [], ◌∷◌, ◌++◌, length, map, refl, sym, ap, ap₂, subst, append_assoc, arith, suc, length-append}
 use Rattle.std.proofs.lemmas.List.{append-nil, map-append}
@@ -9,12 +9,14 @@ use Rattle.std.proofs.Math.Seq.{take-append_seam, drop-append_seam}
 use Rattle.std.specs.Io.KnownBytes.{Appends}
 use Rattle.bureau_edge.specs.Streams.{AppendsPart}
 use Rattle.bureau_edge.proofs.Known.{Appends-none, Appends-then, AppendsPart-after}
-use Rattle.disk_model.specs.Calls.{Seen}
+use Rattle.disk_model.specs.Calls.{Seen, GoesOn}
+use Rattle.disk_witness.specs.Shown.{Shown}
 use Rattle.lane_runner.specs.claim_history.specs.declared.call.PoolEntry.{PoolEntry}
 use Rattle.lane_runner.specs.claim_history.specs.Needs.{is_of_device}
 use Rattle.lane_runner.specs.request_text.specs.declared.request.Request.{Request}
 use Rattle.lane_runner.specs.bureau_desk.specs.declared.base.DeskBase.{DeskBase}
 use Rattle.lane_runner.specs.bureau_desk.specs.Desks.{DeskView, base_cleared, base_of}
+use Rattle.lane_runner.specs.recorded_book.specs.Moments.{HeldSince}
 use Rattle.lane_runner.specs.served_lines.specs.declared.answer.Answer.{Answer}
 use Rattle.lane_runner.specs.served_lines.specs.declared.line_end.LineEnd.{LineEnd}
 use Rattle.lane_runner.specs.served_lines.specs.Ends.{is_memory_end, is_full_end, has_line_end}
@@ -27,6 +29,8 @@ use Rattle.printed_text.specs.Writing.{IsWritten, broken, whole}
 use Rattle.batch_runs.specs.declared.tally.Tally.{Tally}
 use Rattle.batch_runs.specs.Runs.{Done, AreServed, all_added, but_last, end_status, run_status, some_device, some_end, text_of}
 use Rattle.batch_runs.specs.Serving.{HasRunBatches, HasSameOpening, IsTally, answers_of}
+use Rattle.batch_runs.specs.Order.{AreInOrder, IsHeldFrom}
+use Rattle.batch_runs.proofs.Order.{from_longer, held_now, order_longer, order_more, order_untold}
 use Rattle.batch_runs.proofs.Unasked.{unanswered_served}
 
 -- ---- the opening
@@ -44,6 +48,12 @@ opening_of {D} old new is = record {
   at_opening_end = ap (λ (b : DeskBase D). b.at_opening_end) is;
   opened_with = ap (λ (b : DeskBase D). b.opened_with) is;
 }
+
+-- ---- the witness
+
+-- it was shown the disk of the desk
+pub shown_at : {W D : Type 0} (shown : W → List (Shown D)) (old new : W) (held : Option (List ℕ)) (disk at : D) → shown new ≡ shown old ++ (record { held = held; disk = disk }) ∷ [] → disk ≡ at → shown new ≡ shown old ++ (record { held = held; disk = at }) ∷ []
+shown_at {D = D} shown old new held disk at is same = is ∙ ap (λ (d : D). shown old ++ (record { held = held; disk = d }) ∷ []) same
 
 -- ---- one batch
 
@@ -111,8 +121,8 @@ last_off bs b =
 
 -- ---- the first batches
 
--- The first batches were served in turn on a desk, and the text of each was taken.
-pub record SoFar {D : Type 0} (seen : D → Seen) (first : DeskView D) (x : Option (List ℕ)) (now : DeskView D) (batches : List (List Request)) (y : Option (List ℕ)) (tally : Tally) : Type 0 where
+-- The first batches were served in turn on a desk, and the text of each was taken. Before each text the sink and the disk were shown.
+pub record SoFar {D : Type 0} (seen : D → Seen) (first : DeskView D) (x : Option (List ℕ)) (v : List (Shown D)) (now : DeskView D) (batches : List (List Request)) (y : Option (List ℕ)) (w : List (Shown D)) (tally : Tally) : Type 0 where
   pub done : List Done
   pub all : batches ≡ map (λ b. b.requests) done
   pub history : now.history ≡ first.history ++ all_added done
@@ -121,9 +131,13 @@ pub record SoFar {D : Type 0} (seen : D → Seen) (first : DeskView D) (x : Opti
   pub none : done ≡ [] → now ≡ first
   pub taken : Appends x y (text_of first.history done)
   pub told : IsTally tally done
+  pub shown : List (Shown D)
+  pub were_shown : w ≡ v ++ shown
+  pub order : AreInOrder seen now.disk now.history x [] first.history done shown
+  pub held : IsTrue (seen now.disk).tells → IsHeldFrom seen first.disk first.disk (length first.history) first.history → IsHeldFrom seen first.disk now.disk (length first.history) now.history
 
-module _ {D : Type 0} (seen : D → Seen) (first : DeskView D) (x : Option (List ℕ)) where
-  pub begins : (tally : Tally) → IsTally tally [] → SoFar seen first x first [] x tally
+module _ {D : Type 0} (seen : D → Seen) (first : DeskView D) (x : Option (List ℕ)) (v : List (Shown D)) where
+  pub begins : (tally : Tally) → IsTally tally [] → SoFar seen first x v first [] x v tally
   begins tally told = record {
     done = [];
     all = refl;
@@ -133,10 +147,14 @@ module _ {D : Type 0} (seen : D → Seen) (first : DeskView D) (x : Option (List
     none = λ e. refl;
     taken = Appends-none x;
     told = told;
+    shown = [];
+    were_shown = sym (append-nil v);
+    order = tt;
+    held = λ tells is. is;
   }
 
-  module _ (now new : DeskView D) (batches : List (List Request)) (y z : Option (List ℕ)) (tally : Tally) (batch : List Request) (answers : Option (List Answer)) (so : SoFar seen first x now batches y tally)
-      (ran : HasRunBatch seen now new batch answers) where
+  module _ (now new : DeskView D) (batches : List (List Request)) (y z : Option (List ℕ)) (w w' : List (Shown D)) (tally : Tally) (batch : List Request) (answers : Option (List Answer)) (so : SoFar seen first x v now batches y w tally)
+      (ran : HasRunBatch seen now new batch answers) (told_them : w' ≡ w ++ (record { held = y; disk = new.disk }) ∷ []) where
     abbrev one : Done
     one = record { requests = batch; answers = answers_of batch answers; added = ran.added }
 
@@ -169,9 +187,40 @@ module _ {D : Type 0} (seen : D → Seen) (first : DeskView D) (x : Option (List
     opening : HasSameOpening first new
     opening = opening_then first now new so.opening (opening_of now new ran.base)
 
+    -- ---- the order
+
+    abbrev both : Shown D
+    both = record { held = y; disk = new.disk }
+
+    were_shown : w' ≡ v ++ (so.shown ++ both ∷ [])
+    were_shown = told_them ∙ ap (λ (l : List (Shown D)). l ++ both ∷ []) so.were_shown ∙ append_assoc v so.shown (both ∷ [])
+
+    tells : IsTrue (seen new.disk).tells → IsTrue (seen now.disk).tells
+    tells told = sym ran.same ∙ told
+
+    goes : IsTrue (seen now.disk).tells → GoesOn (seen now.disk) (seen new.disk)
+    goes told = ran.stays told
+
+    held_on : IsTrue (seen now.disk).tells → HeldSince (seen now.disk).moment (length now.history) (seen new.disk) (now.history ++ ran.added)
+    held_on told = subst (HeldSince (seen now.disk).moment (length now.history) (seen new.disk)) ran.history (ran.held told)
+
+    end_is : length ((first.history ++ all_added so.done) ++ ran.added) ≡ length new.history
+    end_is = ap (λ (l : List PoolEntry). length (l ++ ran.added)) (sym so.history) ∙ ap (λ (l : List PoolEntry). length l) (sym ran.history)
+
+    order : AreInOrder seen new.disk new.history x [] first.history done (so.shown ++ both ∷ [])
+    order = order_more seen new.disk new.history x one both [] first.history so.done so.shown
+        (subst (λ (h : List PoolEntry). AreInOrder seen new.disk h x [] first.history so.done so.shown) (sym ran.history)
+        (order_longer seen now.disk new.disk now.history ran.added tells goes held_on x [] first.history so.done so.shown (omega (arith, ap (λ (l : List PoolEntry). length l) so.history)) so.order))
+        (so.taken, λ told. subst (λ (n : ℕ). IsHeldFrom seen new.disk new.disk n new.history) (sym end_is) (held_now seen new.disk new.history (ran.keeps.present told)))
+
+    held : IsTrue (seen new.disk).tells → IsHeldFrom seen first.disk first.disk (length first.history) first.history → IsHeldFrom seen first.disk new.disk (length first.history) new.history
+    held told was = subst (IsHeldFrom seen first.disk new.disk (length first.history)) (sym ran.history)
+        (from_longer seen now.disk new.disk now.history ran.added (goes (tells told)) (held_on (tells told)) first.disk (length first.history)
+        (omega (arith, ap (λ (l : List PoolEntry). length l) so.history, length-append first.history (all_added so.done))) (so.held (tells told) was))
+
     -- it was written
     pub more : (tally' : Tally) → tally'.memory ≡ (tally.memory || has_line_end is_memory_end (answers_of batch answers)) → tally'.device ≡ (tally.device || list_any (λ m. is_of_device m.entry.reply) (drop (length now.history) new.history))
-        → tally'.full ≡ (tally.full || has_line_end is_full_end (answers_of batch answers)) → Appends y z text → SoFar seen first x new (batches ++ batch ∷ []) z tally'
+        → tally'.full ≡ (tally.full || has_line_end is_full_end (answers_of batch answers)) → Appends y z text → SoFar seen first x v new (batches ++ batch ∷ []) z w' tally'
     more tally' memory device full taken = record {
       done = done;
       all = all;
@@ -185,10 +234,14 @@ module _ {D : Type 0} (seen : D → Seen) (first : DeskView D) (x : Option (List
         device = device ∙ ap₂ (λ (c : Bool) (l : List PoolEntry). c || list_any (λ m. is_of_device m.entry.reply) l) so.told.device behind ∙ sym (device_more so.done one);
         full = full ∙ ap (λ (c : Bool). c || has_line_end is_full_end (answers_of batch answers)) so.told.full ∙ sym (end_more so.done one is_full_end);
       };
+      shown = so.shown ++ both ∷ [];
+      were_shown = were_shown;
+      order = order;
+      held = held;
     }
 
     -- or the sink failed at it
-    pub breaks : (whole_run rest : List (List Request)) → whole_run ≡ (batches ++ batch ∷ []) ++ rest → AppendsPart y z text → HasRunBatches seen first new whole_run x z statuses.Sink
+    pub breaks : (whole_run rest : List (List Request)) → whole_run ≡ (batches ++ batch ∷ []) ++ rest → AppendsPart y z text → HasRunBatches seen first new whole_run x z v w' statuses.Sink
     breaks whole_run rest parts part = record {
       done = done;
       due = statuses.Sink;
@@ -199,16 +252,20 @@ module _ {D : Type 0} (seen : D → Seen) (first : DeskView D) (x : Option (List
       none = λ e. absurd (not_none so.done one e);
       written = broken (subst (AppendsPart x z) text_is (AppendsPart-after x y z (text_of first.history so.done) text so.taken part));
       told = (part.0, subst (λ (bs : List Done). Appends x z (text_of first.history bs ++ part.0)) (sym (last_off so.done one)) (Appends-then x y z (text_of first.history so.done) part.0 so.taken part.3));
+      shown = so.shown ++ both ∷ [];
+      were_shown = were_shown;
+      order = order;
+      held = held;
     }
 
     -- there were no others
-    pub breaks_at_last : AppendsPart y z text → (ran : HasRunBatches seen first new (batches ++ batch ∷ []) x z statuses.Sink) × (batches ++ batch ∷ [] ≡ map (λ (b : Done). b.requests) ran.done)
+    pub breaks_at_last : AppendsPart y z text → (ran : HasRunBatches seen first new (batches ++ batch ∷ []) x z v w' statuses.Sink) × (batches ++ batch ∷ [] ≡ map (λ (b : Done). b.requests) ran.done)
     unfolding breaks
     breaks_at_last part = (breaks (batches ++ batch ∷ []) [] (sym (append-nil (batches ++ batch ∷ []))) part, all)
 
   -- an empty batch behind them, of which nothing is asked
-  pub more_empty : (last : DeskView D) (batches : List (List Request)) (y : Option (List ℕ)) (tally : Tally) → SoFar seen first x last batches y tally → SoFar seen first x last (batches ++ [] ∷ []) y tally
-  more_empty last batches y tally so =
+  pub more_empty : (last : DeskView D) (batches : List (List Request)) (y : Option (List ℕ)) (w : List (Shown D)) (tally : Tally) → SoFar seen first x v last batches y w tally → SoFar seen first x v last (batches ++ [] ∷ []) y w tally
+  more_empty last batches y w tally so =
       let empty : Done = record { requests = []; answers = []; added = [] } in
       let text : text_of first.history so.done ≡ text_of first.history (so.done ++ empty ∷ []) =
       sym (text_more first.history so.done empty ∙ append-nil (text_of first.history so.done)) in
@@ -226,12 +283,16 @@ module _ {D : Type 0} (seen : D → Seen) (first : DeskView D) (x : Option (List
           device = so.told.device ∙ sym (device_more so.done empty ∙ or_false (some_device so.done));
           full = so.told.full ∙ sym (end_more so.done empty is_full_end ∙ or_false (some_end is_full_end so.done));
         };
+        shown = so.shown;
+        were_shown = so.were_shown;
+        order = order_untold seen last.disk last.history x empty [] first.history so.done so.shown so.order refl;
+        held = so.held;
       }
 
   -- all were served and written
-  pub ends : (last : DeskView D) (batches : List (List Request)) (y : Option (List ℕ)) (tally : Tally) (status : ExitStatus) → SoFar seen first x last batches y tally → status ≡ run_status tally.memory tally.device tally.full
-      → HasRunBatches seen first last batches x y status
-  ends last batches y tally status so is =
+  pub ends : (last : DeskView D) (batches : List (List Request)) (y : Option (List ℕ)) (w : List (Shown D)) (tally : Tally) (status : ExitStatus) → SoFar seen first x v last batches y w tally → status ≡ run_status tally.memory tally.device tally.full
+      → HasRunBatches seen first last batches x y v w status
+  ends last batches y w tally status so is =
       let due : status ≡ end_status so.done =
       is ∙ ap (λ (b : Bool). run_status b tally.device tally.full) so.told.memory ∙ ap (λ (b : Bool). run_status (some_end is_memory_end so.done) b tally.full) so.told.device
       ∙ ap (λ (b : Bool). run_status (some_end is_memory_end so.done) (some_device so.done) b) so.told.full in
@@ -246,10 +307,14 @@ module _ {D : Type 0} (seen : D → Seen) (first : DeskView D) (x : Option (List
         none = so.none;
         written = subst (λ (n : ExitStatus). IsWritten x y (end_status so.done) (text_of first.history so.done) n) (sym due) (whole so.taken);
         told = (rest.0, subst (Appends x y) rest.1 so.taken);
+        shown = so.shown;
+        were_shown = so.were_shown;
+        order = so.order;
+        held = so.held;
       }
 
   -- with what came of each
-  pub ends_with : (last : DeskView D) (batches : List (List Request)) (y : Option (List ℕ)) (tally : Tally) (status : ExitStatus) → SoFar seen first x last batches y tally → status ≡ run_status tally.memory tally.device tally.full
-      → (ran : HasRunBatches seen first last batches x y status) × (batches ≡ map (λ (b : Done). b.requests) ran.done)
+  pub ends_with : (last : DeskView D) (batches : List (List Request)) (y : Option (List ℕ)) (w : List (Shown D)) (tally : Tally) (status : ExitStatus) → SoFar seen first x v last batches y w tally → status ≡ run_status tally.memory tally.device tally.full
+      → (ran : HasRunBatches seen first last batches x y v w status) × (batches ≡ map (λ (b : Done). b.requests) ran.done)
   unfolding ends
-  ends_with last batches y tally status so is = (ends last batches y tally status so is, so.all)
+  ends_with last batches y w tally status so is = (ends last batches y w tally status so is, so.all)

@@ -1,8 +1,9 @@
 -- Batches that are served on a desk in turn.
-use Rattle.std.specs.Prelude.{◌≡◌, ◌&&◌, ◌||◌, ℕ, Bool, List, [], ◌++◌, Option, Some, None, Result, OnErr, OnOk, length, take, drop}
+use Rattle.std.specs.Prelude.{◌≡◌, ◌&&◌, ◌||◌, ℕ, Bool, List, [], ◌∷◌, ◌++◌, Option, Some, None, Result, OnErr, OnOk, length, take, drop, IsTrue}
 use Rattle.std.specs.Io.KnownBytes.{Appends}
 use Rattle.std.specs.List.{list_any}
 use Rattle.disk_model.specs.Calls.{Seen}
+use Rattle.disk_witness.specs.Shown.{Shown}
 use Rattle.lane_runner.specs.claim_history.specs.declared.call.PoolEntry.{PoolEntry}
 use Rattle.bureau_edge.specs.Streams.{AppendsPart}
 use Rattle.lane_runner.specs.claim_history.specs.Needs.{is_of_device}
@@ -17,6 +18,7 @@ use Rattle.printed_text.specs.declared.exit_status.ExitStatus.{ExitStatus}
 use Rattle.printed_text.specs.Printing.{printed_of, unanswered, unanswered_lines}
 use Rattle.printed_text.specs.Writing.{IsWritten}
 use Rattle.batch_runs.specs.declared.tally.Tally.{Tally}
+use Rattle.batch_runs.specs.Order.{AreInOrder, IsHeldFrom}
 use Rattle.batch_runs.specs.Runs.{Done, AreOf, AreServed, HasTaken, all_added, but_last, text_of, some_device, some_end}
 
 -- of the base of a desk, what is of its opening is as it was
@@ -52,21 +54,24 @@ pub record IsTally (tally : Tally) (done : List Done) : Type 0 where
 abbrev pub text_between : (old new : List PoolEntry) → List Request → Option (List Answer) → List ℕ
 text_between old new batch answers = printed_of (take (length old) new) (drop (length old) new) (answers_of batch answers)
 
--- One batch was served, and counted into a tally. Its text was written after that, or the sink failed at it.
+-- One batch was served, and counted into a tally. Then the sink and the disk were shown, and then its text was written, or the sink
+-- failed at it.
 pub record HasToldBatch {D T E : Type 0} (seen : D → Seen) (old new : DeskView D) (batch : List Request) (before after : Tally)
-    (held_old held_new : Option (List ℕ)) (written : Result T E) : Type 0 where
+    (held_old held_new : Option (List ℕ)) (shown_old shown_new : List (Shown D)) (written : Result T E) : Type 0 where
   pub answers : Option (List Answer)
   pub ran : HasRunBatch seen old new batch answers
   pub memory : after.memory ≡ (before.memory || has_line_end is_memory_end (answers_of batch answers))
   pub device : after.device ≡ (before.device || list_any (λ m. is_of_device m.entry.reply) (drop (length old.history) new.history))
   pub full : after.full ≡ (before.full || has_line_end is_full_end (answers_of batch answers))
+  pub shown : shown_new ≡ shown_old ++ (record { held = held_old; disk = new.disk }) ∷ []
   pub ok : OnOk written (Appends held_old held_new (text_between old.history new.history batch answers))
   pub part : OnErr written (AppendsPart held_old held_new (text_between old.history new.history batch answers))
 
 -- Batches were served in turn, and what each added was written after it was served. They are all, unless a write failed, which ends
--- the run: the sink took the texts of all of them but the last.
+-- the run: the sink took the texts of all of them but the last. Before the text of each the sink and the disk were shown, and what was
+-- held of the disk at the start is held at the end.
 pub record HasRunBatches {D : Type 0} (seen : D → Seen) (old new : DeskView D) (batches : List (List Request))
-    (held_old held_new : Option (List ℕ)) (status : ExitStatus) : Type 0 where
+    (held_old held_new : Option (List ℕ)) (shown_old shown_new : List (Shown D)) (status : ExitStatus) : Type 0 where
   pub done : List Done
   pub due : ExitStatus
   pub all : AreOf batches due done
@@ -76,3 +81,8 @@ pub record HasRunBatches {D : Type 0} (seen : D → Seen) (old new : DeskView D)
   pub none : done ≡ [] → new ≡ old
   pub written : IsWritten held_old held_new due (text_of old.history done) status
   pub told : HasTaken held_old held_new (text_of old.history (but_last done))
+  pub shown : List (Shown D)
+  pub were_shown : shown_new ≡ shown_old ++ shown
+  pub order : AreInOrder seen new.disk new.history held_old [] old.history done shown
+  pub held : IsTrue (seen new.disk).tells → IsHeldFrom seen old.disk old.disk (length old.history) old.history
+      → IsHeldFrom seen old.disk new.disk (length old.history) new.history

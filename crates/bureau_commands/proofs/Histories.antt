@@ -179,7 +179,7 @@ module _ (records : List Record) (opened begun : List PoolEntry) (done : List Do
 -- ---- the law
 
 pub history_law : {D : Type 0} (seen : D → Seen) → HistoryLaw seen
-history_law seen held_old held_new old new batches status text ran told read viewed =
+history_law seen output old new batches status text ran told read viewed =
     let history = ran.history in
     let h = ran.is_history in
     let now : HasViewed true (seen new).reads read = subst (λ (b : Bool). HasViewed b (seen new).reads read) (ran.sound told).tells viewed in

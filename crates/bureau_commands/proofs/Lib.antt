@@ -14,4 +14,5 @@ pub mod LiveCauses
 pub mod ComesWhere
 pub mod ComesOnly
 mod Tied
+mod Images
 mod Histories

@@ -1,14 +1,15 @@
 -- A run over a desk.
 use Rattle.std.specs.Prelude.{Option, IsTrue, drop, map, take}
-use Rattle.std.proofs.Common.{◌≡◌, ◌∙◌, inr, ℕ, ◌≤◌, Bool, true, List, All, [], ◌∷◌, ◌++◌, length, refl, sym, ap, subst, true≢false, arith, append_assoc, length-append}
+use Rattle.std.proofs.Common.{◌≡◌, ◌∙◌, inr, ℕ, ◌<◌, ◌≤◌, ◌^◌, Bool, true, List, All, [], ◌∷◌, ◌++◌, length, refl, sym, ap, subst, true≢false, arith, append_assoc, length-append}
 use Rattle.std.proofs.lemmas.List.{append-nil}
 use Rattle.std.proofs.lemmas.List.Elements.{All-head, All-tail, All-weaker, filter_passes}
 use Rattle.std.proofs.Math.Seq.{drop-length, take-append_seam, take-length}
 use Rattle.std.specs.Io.KnownBytes.{Appends}
 use Rattle.bureau_edge.specs.Streams.{AppendsPart}
-use Rattle.bureau_edge.proofs.Known.{Appends-then, AppendsPart-front}
+use Rattle.bureau_edge.proofs.Known.{Appends-none, Appends-then, AppendsPart-front}
 use Rattle.setoff_model.specs.CutView.{CutView}
 use Rattle.disk_model.specs.Calls.{Seen, GoesOn}
+use Rattle.live_runs.specs.disk_witness.specs.Shown.{Shown}
 use Rattle.live_runs.specs.claim_history.specs.declared.call.PoolEntry.{PoolEntry}
 use Rattle.live_runs.specs.claim_history.specs.declared.entry.Entry.{Entry}
 use Rattle.live_runs.specs.claim_history.specs.declared.entry.Reply.{Reply}
@@ -45,11 +46,13 @@ use Rattle.live_runs.specs.printed_text.specs.declared.exit_status.ExitStatus.{E
 use Rattle.live_runs.specs.printed_text.specs.declared.exit_status.ExitStatus.TheVariants as statuses
 use Rattle.live_runs.specs.printed_text.specs.Printing.{added_text, printed_of}
 use Rattle.live_runs.specs.printed_text.specs.Writing.{IsWritten, broken, whole}
+use Rattle.live_runs.specs.batch_runs.proofs.Order.{held_now, order_from}
+use Rattle.live_runs.specs.batch_runs.specs.Order.{AreInOrder, IsHeldFrom, IsShownAt}
 use Rattle.live_runs.specs.batch_runs.specs.Runs.{Done, AreOf, AreServed, HasTaken, all_added, but_last, requests_of, text_of}
 use Rattle.bureau_commands.specs.Journals.{HoldsSound}
-use Rattle.bureau_commands.specs.Headline.{IsHeadline, LeavesDisk, SurvivesCrashes, run_text, sure_text}
+use Rattle.bureau_commands.specs.Headline.{IsHeadline, IsInOrder, LeavesDisk, Output, SurvivesCrashes, output_of, run_text, sure_text}
 use Rattle.live_runs.specs.batch_runs.specs.Serving.{HasRunBatches, HasSameOpening}
-use Rattle.bureau_commands.specs.Due.{IsBatchesDue, IsLiveDue, IsLiveHeadline, IsNotBegunDue, WroteTaking, all_served, broken_off, stop_status, stop_text}
+use Rattle.bureau_commands.specs.Due.{HasBegun, IsBatchesDue, IsLiveDue, IsLiveHeadline, IsNotBegunDue, WroteTaking, all_served, broken_off, stop_status, stop_text}
 use Rattle.bureau_commands.specs.Due.{served as served_due}
 use Rattle.bureau_reports.proofs.Written.{written_after, wrote_line}
 
@@ -124,7 +127,7 @@ sink_due : (x z : Option (List ℕ)) (due : ExitStatus) (text : List ℕ) (statu
 sink_due x z due text status sink (whole all) = whole all
 sink_due x z due text status sink (broken part) = broken part
 
-module _ {D : Type 0} (seen : D → Seen) (old : D) (first last : DeskView D) (opening : IsDeskOpen seen old first) (keeps : KeepsDesk seen last) (base : HasSameOpening first last) where
+module _ {D : Type 0} (seen : D → Seen) (old : D) (first last : DeskView D) (opening : IsDeskOpen seen old first) (keeps : KeepsDesk seen last) (counted : (seen last.disk).count < 2 ^ 64) (base : HasSameOpening first last) where
   abbrev opened : List PoolEntry
   opened = history_of opening.records
 
@@ -184,9 +187,10 @@ module _ {D : Type 0} (seen : D → Seen) (old : D) (first last : DeskView D) (o
       let found = left_law last.history (seen last.disk).reads keeps.legal keeps.within keeps.keepable (keeps.reads_left tells) in
       record { tells = tells; records = found.0; found = subst (λ (b : Bool). AreFound b (seen last.disk).reads found.0) (sym tells) found.1; sound = found.2 }
 
-  headline : (Taken : List ℕ → Type 0) (batches : List (List Request)) (done : List Done) (status : ExitStatus) → AreRequests (requests_of batches) → AreOf batches status done → last.history ≡ first.history ++ all_added done → AreServed first.history done
-      → (done ≡ [] → last ≡ first) → Taken (sure_text opened first.history done) → IsHeadline seen Taken old last.disk batches status (run_text opened first.history done)
-  headline Taken batches done status asked all parts served none taken = record {
+  headline : (output : Output D) (shown : List (Shown D)) (batches : List (List Request)) (done : List Done) (status : ExitStatus) → AreRequests (requests_of batches) → AreOf batches status done → last.history ≡ first.history ++ all_added done → AreServed first.history done
+      → (done ≡ [] → last ≡ first) → HasTaken output.held_old output.held_new (sure_text opened first.history done)
+      → output.shown_new ≡ output.shown_old ++ shown → IsInOrder seen last.disk last.history output.held_old opened first.history done shown → IsHeadline seen output old last.disk batches status (run_text opened first.history done)
+  headline output shown batches done status asked all parts served none taken were_shown order = record {
     opened = opened;
     begun = first.history;
     done = done;
@@ -195,6 +199,9 @@ module _ {D : Type 0} (seen : D → Seen) (old : D) (first last : DeskView D) (o
     all = all;
     text_is = refl;
     taken = taken;
+    shown = shown;
+    were_shown = were_shown;
+    order = order;
     on_disk = λ told. keeps.reads_left (tells_so told);
     sound = sound_at_end;
     legal = keeps.legal;
@@ -202,6 +209,7 @@ module _ {D : Type 0} (seen : D → Seen) (old : D) (first last : DeskView D) (o
     valid = keeps.valid;
     keepable = keeps.keepable;
     between = between;
+    counted = counted;
     served = served;
     none_full = none_full_of opening.records first.history batches status done all (All-first (λ (m : PoolEntry). is_keepable (call_of m) ≡ true) first.history (all_added done) (subst CanBeKept parts keeps.keepable)) opening.history served (subst IsLegal parts keeps.legal) (subst AreValid parts keeps.valid) asked;
     greatest = λ before later m total is published. greatest_in before later m total (subst IsLegal is keeps.legal) published;
@@ -209,78 +217,108 @@ module _ {D : Type 0} (seen : D → Seen) (old : D) (first last : DeskView D) (o
     early = leaves done none;
   }
 
+  -- ---- the order
+
+  module _ (x : Option (List ℕ)) (u v : List (Shown D)) (shown_first : v ≡ u ++ (record { held = x; disk = first.disk }) ∷ []) where
+    abbrev at_first : Shown D
+    at_first = record { held = x; disk = first.disk }
+
+    -- what was shown at the lines of the abandonments, and then at the batches
+    were_all : (w shown : List (Shown D)) → w ≡ v ++ shown → w ≡ u ++ at_first ∷ shown
+    were_all w shown is = is ∙ ap (λ (l : List (Shown D)). l ++ shown) shown_first ∙ append_assoc u (at_first ∷ []) shown
+
+    -- at the lines of the abandonments
+    first_shown : (IsTrue (seen last.disk).tells → IsHeldFrom seen first.disk last.disk (length first.history) last.history) → IsShownAt seen last.disk last.history x [] (length first.history) at_first
+    first_shown held = (Appends-none x, held)
+
+    -- then at the batches
+    all_in_order : KeepsDesk seen first → (y : Option (List ℕ)) (z : Option (List ℕ)) (w : List (Shown D)) (batches : List (List Request)) (status : ExitStatus) → Appends x y (added_text opened (drop (length opened) first.history))
+        → (ran : HasRunBatches seen first last batches y z v w status) → IsInOrder seen last.disk last.history x opened first.history ran.done (at_first ∷ ran.shown)
+    all_in_order kept y z w batches status line ran = (
+      first_shown (λ told. ran.held told (held_now seen first.disk first.history (kept.present (same_first ∙ told)))),
+      subst (λ (t : List ℕ). AreInOrder seen last.disk last.history x t first.history ran.done ran.shown) (append-nil (added_text opened (drop (length opened) first.history)))
+          (order_from seen last.disk last.history x y (added_text opened (drop (length opened) first.history)) line [] first.history ran.done ran.shown ran.order),
+    ) where
+      same_first : (seen first.disk).tells ≡ (seen last.disk).tells
+      same_first = ap (λ (d : D). (seen d).tells) (sym opening.at_opening_end) ∙ ap (λ (d : D). (seen d).tells) (sym base.at_opening_end) ∙ sym keeps.same
+
   sure_taken : (x y : Option (List ℕ)) (done : List Done) → HasTaken x y (run_text opened first.history (but_last done)) → HasTaken x y (sure_text opened first.history done)
   sure_taken x y [] taken = (run_text opened first.history (but_last []) ++ taken.0, taken.1)
   sure_taken x y (b ∷ done) taken = taken
 
   -- the batches were served
-  pub wrote_all : (x y z : Option (List ℕ)) (batches : List (List Request)) (status : ExitStatus) → AreRequests (requests_of batches) → Appends x y (printed_of (take first.opened_with first.history) (drop first.opened_with first.history) [])
-      → HasRunBatches seen first last batches y z status → WroteTaking (λ Taken. IsBatchesDue seen Taken old last.disk batches) x z status
-  wrote_all x y z batches status asked before ran =
+  pub wrote_all : (x y z : Option (List ℕ)) (u v w : List (Shown D)) (batches : List (List Request)) (status : ExitStatus) → AreRequests (requests_of batches) → HasBegun seen old first x y u v
+      → HasRunBatches seen first last batches y z v w status → WroteTaking (λ output. IsBatchesDue seen output old last.disk batches) x z u w status
+  wrote_all x y z u v w batches status asked before ran =
       let text = run_text opened first.history ran.done in
-      let Taken : List ℕ → Type 0 = HasTaken x z in
-      let line : Appends x y (added_text opened (drop (length opened) first.history)) = subst (Appends x y) begun_text before in
+      let output : Output D = output_of x z u w in
+      let line : Appends x y (added_text opened (drop (length opened) first.history)) = subst (Appends x y) begun_text before.printed in
       let taken = sure_taken x z ran.done (taken_after x y z (added_text opened (drop (length opened) first.history)) (text_of first.history (but_last ran.done)) line ran.told) in
-      wrote_line (IsBatchesDue seen Taken old last.disk batches) x z ran.due text status (served_due ran.due text (headline Taken batches ran.done ran.due asked ran.all ran.history ran.served ran.none taken))
+      wrote_line (IsBatchesDue seen output old last.disk batches) x z ran.due text status (served_due ran.due text (headline output (at_first x u v before.shown ∷ ran.shown) batches ran.done ran.due asked ran.all ran.history ran.served ran.none taken
+      (were_all x u v before.shown w ran.shown ran.were_shown) (all_in_order x u v before.shown before.keeps y z w batches status line ran)))
       (written_after x y z (added_text opened (drop (length opened) first.history)) _ ran.due status line ran.written)
 
   -- the sink failed at the lines of the abandonments
-  pub wrote_begun : (x y : Option (List ℕ)) → last ≡ first → AppendsPart x y (printed_of (take first.opened_with first.history) (drop first.opened_with first.history) [])
-      → WroteTaking (λ Taken. IsNotBegunDue seen Taken old last.disk) x y statuses.Sink
-  wrote_begun x y same part =
+  pub wrote_begun : (x y : Option (List ℕ)) (u v : List (Shown D)) → last ≡ first → AppendsPart x y (printed_of (take first.opened_with first.history) (drop first.opened_with first.history) [])
+      → v ≡ u ++ (record { held = x; disk = first.disk }) ∷ [] → WroteTaking (λ output. IsNotBegunDue seen output old last.disk) x y u v statuses.Sink
+  wrote_begun x y u v same part shown =
       let none : List Done = [] in
-      let Taken : List ℕ → Type 0 = HasTaken x y in
-      wrote_line (IsNotBegunDue seen Taken old last.disk) x y statuses.Sink (run_text opened first.history none) statuses.Sink (
+      let output : Output D = output_of x y u v in
+      let held : IsTrue (seen last.disk).tells → IsHeldFrom seen first.disk last.disk (length first.history) last.history =
+      λ told. subst (λ (d : DeskView D). IsHeldFrom seen d.disk last.disk (length d.history) last.history) same (held_now seen last.disk last.history (keeps.present told)) in
+      wrote_line (IsNotBegunDue seen output old last.disk) x y statuses.Sink (run_text opened first.history none) statuses.Sink (
         (λ is. cc),
         (λ batches asked. served_due statuses.Sink (run_text opened first.history none)
-            (headline Taken batches none statuses.Sink asked (record { rest = batches; in_order = refl; ended = inr refl }) (ap (λ (d : DeskView D). d.history) same ∙ sym (append-nil first.history)) tt (λ e. same) (part.0, part.3))),
+            (headline output (at_first x u v shown ∷ []) batches none statuses.Sink asked (record { rest = batches; in_order = refl; ended = inr refl }) (ap (λ (d : DeskView D). d.history) same ∙ sym (append-nil first.history)) tt (λ e. same) (part.0, part.3)
+            shown (first_shown x u v shown held, tt))),
       )
       (broken (AppendsPart-front x y (added_text opened (drop (length opened) first.history)) [] (subst (AppendsPart x y) begun_text part)))
 
   -- ---- an input that was served while it was read
 
-  module _ {S : Type 0} (left : S → Option (List ℕ)) (source source' : S) (low high : ℕ) (x y z w : Option (List ℕ)) (why : Stop)
-      (before : Appends x y (printed_of (take first.opened_with first.history) (drop first.opened_with first.history) [])) where
+  module _ {S : Type 0} (left : S → Option (List ℕ)) (source source' : S) (low high : ℕ) (x y z w : Option (List ℕ)) (p q r : List (Shown D)) (why : Stop)
+      (before : HasBegun seen old first x y p q) where
+    line : Appends x y (added_text opened (drop (length opened) first.history))
+    line = subst (Appends x y) begun_text before.printed
+
     -- the batches are those of its front
-    live_headline : (due : ExitStatus) (h : HasServedInput seen (left source) (left source') low high first last y z why due) → AreOf h.batches due h.ran.done → HasTaken x w (sure_text opened first.history h.ran.done)
-        → IsLiveHeadline seen (HasTaken x w) (left source) (left source') old last.disk why due (run_text opened first.history h.ran.done)
+    live_headline : (due : ExitStatus) (h : HasServedInput seen (left source) (left source') low high first last y z q r why due) → AreOf h.batches due h.ran.done → HasTaken x w (sure_text opened first.history h.ran.done)
+        → IsLiveHeadline seen (output_of x w p r) (left source) (left source') old last.disk why due (run_text opened first.history h.ran.done)
     unfolding headline
     live_headline due h all taken = record {
       taken = h.taken;
       consumed = h.consumed;
       batches = h.batches;
       front = h.front;
-      ran = headline (HasTaken x w) h.batches h.ran.done due (front_asked (left source') h.taken h.batches why h.front) all h.ran.history h.ran.served h.ran.none taken;
+      ran = headline (output_of x w p r) (at_first x p q before.shown ∷ h.ran.shown) h.batches h.ran.done due (front_asked (left source') h.taken h.batches why h.front) all h.ran.history h.ran.served h.ran.none taken
+          (were_all x p q before.shown r h.ran.shown h.ran.were_shown) (all_in_order x p q before.shown before.keeps y z r h.batches due line h.ran);
       no_more = h.no_more;
     }
 
-    line : Appends x y (added_text opened (drop (length opened) first.history))
-    line = subst (Appends x y) begun_text before
-
-    surely : (due : ExitStatus) (h : HasServedInput seen (left source) (left source') low high first last y z why due) → HasTaken x z (sure_text opened first.history h.ran.done)
+    surely : (due : ExitStatus) (h : HasServedInput seen (left source) (left source') low high first last y z q r why due) → HasTaken x z (sure_text opened first.history h.ran.done)
     surely due h = sure_taken x z h.ran.done (taken_after x y z (added_text opened (drop (length opened) first.history)) (text_of first.history (but_last h.ran.done)) line h.ran.told)
 
     -- all were, and the fault by which the reading ended was told, where there was one
-    pub wrote_live : (due status : ExitStatus) → (due ≡ statuses.Sink → ⊥) → HasServedInput seen (left source) (left source') low high first last y z why due → IsWritten z w (stop_status why due) (stop_text why) status
-        → WroteTaking (λ Taken. IsLiveDue left seen Taken source source' old last.disk) x w status
+    pub wrote_live : (due status : ExitStatus) → (due ≡ statuses.Sink → ⊥) → HasServedInput seen (left source) (left source') low high first last y z q r why due → IsWritten z w (stop_status why due) (stop_text why) status
+        → WroteTaking (λ output. IsLiveDue left seen output source source' old last.disk) x w p r status
     unfolding live_headline
     wrote_live due status took h told =
         let text = run_text opened first.history h.ran.done in
         let same = took_all y z h.ran.due (text_of first.history h.ran.done) due took h.ran.written in
         let taken = taken_later x z w (sure_text opened first.history h.ran.done) (stop_text why) (stop_status why due) status (surely due h) told in
-        wrote_line (IsLiveDue left seen (HasTaken x w) source source' old last.disk) x w (stop_status why due) (text ++ stop_text why) status
+        wrote_line (IsLiveDue left seen (output_of x w p r) source source' old last.disk) x w (stop_status why due) (text ++ stop_text why) status
         (all_served why due text took (live_headline due h (subst (λ (n : ExitStatus). AreOf h.batches n h.ran.done) same.0 h.ran.all) taken) (h.ended took) (h.all took))
         (written_after x z w text (stop_text why) (stop_status why due) status
         (Appends-then x y z (added_text opened (drop (length opened) first.history)) (text_of first.history h.ran.done) line same.1) told)
 
   -- the sink failed at the text of a batch
-  pub wrote_broken : {S : Type 0} (left : S → Option (List ℕ)) (source source' : S) (low high : ℕ) (x y z : Option (List ℕ)) (why : Stop) (due : ExitStatus) → due ≡ statuses.Sink
-      → Appends x y (printed_of (take first.opened_with first.history) (drop first.opened_with first.history) [])
-      → HasServedInput seen (left source) (left source') low high first last y z why due → WroteTaking (λ Taken. IsLiveDue left seen Taken source source' old last.disk) x z statuses.Sink
-  wrote_broken left source source' low high x y z why due sink before served =
-      let h = subst (λ (n : ExitStatus). HasServedInput seen (left source) (left source') low high first last y z why n) sink served in
+  pub wrote_broken : {S : Type 0} (left : S → Option (List ℕ)) (source source' : S) (low high : ℕ) (x y z : Option (List ℕ)) (p q r : List (Shown D)) (why : Stop) (due : ExitStatus) → due ≡ statuses.Sink
+      → HasBegun seen old first x y p q
+      → HasServedInput seen (left source) (left source') low high first last y z q r why due → WroteTaking (λ output. IsLiveDue left seen output source source' old last.disk) x z p r statuses.Sink
+  wrote_broken left source source' low high x y z p q r why due sink before served =
+      let h = subst (λ (n : ExitStatus). HasServedInput seen (left source) (left source') low high first last y z q r why n) sink served in
       let text = run_text opened first.history h.ran.done in
-      wrote_line (IsLiveDue left seen (HasTaken x z) source source' old last.disk) x z statuses.Sink text statuses.Sink
-      (broken_off why text (live_headline left source source' low high x y z z why before statuses.Sink h (record { rest = h.ran.all.rest; in_order = h.ran.all.in_order; ended = inr refl }) (surely left source source' low high x y z z why before statuses.Sink h)))
-      (written_after x y z (added_text opened (drop (length opened) first.history)) (text_of first.history h.ran.done) statuses.Sink statuses.Sink (line left source source' low high x y z z why before)
+      wrote_line (IsLiveDue left seen (output_of x z p r) source source' old last.disk) x z statuses.Sink text statuses.Sink
+      (broken_off why text (live_headline left source source' low high x y z z p q r why before statuses.Sink h (record { rest = h.ran.all.rest; in_order = h.ran.all.in_order; ended = inr refl }) (surely left source source' low high x y z z p q r why before statuses.Sink h)))
+      (written_after x y z (added_text opened (drop (length opened) first.history)) (text_of first.history h.ran.done) statuses.Sink statuses.Sink (line left source source' low high x y z z p q r why before)
       (sink_due y z h.ran.due (text_of first.history h.ran.done) statuses.Sink refl h.ran.written))

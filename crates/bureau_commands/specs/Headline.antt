@@ -1,6 +1,7 @@
 -- What a run of batches is.
-use Rattle.std.specs.Prelude.{◌≡◌, ℕ, Bool, false, List, [], ◌∷◌, ◌++◌, length, drop, IsTrue}
+use Rattle.std.specs.Prelude.{◌≡◌, ◌^◌, ◌<◌, ℕ, Bool, false, List, [], ◌∷◌, ◌++◌, length, drop, Option, IsTrue}
 use Rattle.disk_model.specs.Calls.{Seen, GoesOn, IsPresent}
+use Rattle.live_runs.specs.disk_witness.specs.Shown.{Shown}
 use Rattle.live_runs.specs.claim_history.specs.declared.call.PoolEntry.{PoolEntry}
 use Rattle.live_runs.specs.claim_history.specs.declared.entry.Reply.TheVariants as reply
 use Rattle.live_runs.specs.claim_history.specs.Pools.{AreValid, IsLegal, accepted_calls, entries_in}
@@ -18,7 +19,8 @@ use Rattle.live_runs.specs.recorded_book.specs.Moments.{HasMoments}
 use Rattle.live_runs.specs.printed_text.specs.declared.exit_status.ExitStatus.{ExitStatus}
 use Rattle.live_runs.specs.printed_text.specs.Printing.{added_text}
 use Rattle.live_runs.specs.served_lines.specs.Ends.{is_full_end}
-use Rattle.live_runs.specs.batch_runs.specs.Runs.{Done, AreOf, AreServed, all_added, but_last, requests_of, some_end, text_of}
+use Rattle.live_runs.specs.batch_runs.specs.Order.{AreInOrder, IsShownAt}
+use Rattle.live_runs.specs.batch_runs.specs.Runs.{Done, AreOf, AreServed, HasTaken, all_added, but_last, requests_of, some_end, text_of}
 use Rattle.bureau_commands.specs.Journals.{HasRoomForAll, HoldsSound}
 
 -- The history: that of the records that the disk held, with one abandonment for each round that they leave open, and then what the
@@ -65,12 +67,34 @@ pub record SurvivesCrashes {D : Type 0} (seen : D → Seen) (old new : D) (opene
   pub moments : HasMoments (seen new) first opened history
   pub at_exit : (c : List ℕ) → IsPresent (seen new) c → HoldsFirst (accepted_calls history) c
 
--- A run that served batches, and the status and the text that are due. Its parts: the history; what is written, and what the sink
--- took of it at least; what the disk reads at the end, which stands for the accepted calls, perhaps followed by one whose write
+-- What a call did to its sink and its witness: what the sink had taken before it and has taken after it, where it tells its bytes, and
+-- what the witness had been shown before it and has been shown after it.
+pub record Output (D : Type 0) : Type 0 where
+  pub held_old : Option (List ℕ)
+  pub held_new : Option (List ℕ)
+  pub shown_old : List (Shown D)
+  pub shown_new : List (Shown D)
+
+abbrev pub output_of : {D : Type 0} → Option (List ℕ) → Option (List ℕ) → List (Shown D) → List (Shown D) → Output D
+output_of held_old held_new shown_old shown_new =
+    record { held_old = held_old; held_new = held_new; shown_old = shown_old; shown_new = shown_new }
+
+-- Before the lines of the abandonments, when it had taken nothing of this call, the sink and the disk were shown, and each image of the
+-- disk from then on holds all that was accepted up to the end of the opening. Behind these lines it goes on so before the text of each
+-- batch: each image of the disk from then on holds all that was accepted up to the end of the batch.
+abbrev pub IsInOrder : {D : Type 0} → (D → Seen) → D → List PoolEntry → Option (List ℕ) → List PoolEntry → List PoolEntry → List Done
+    → List (Shown D) → Type 0
+IsInOrder seen new history held opened begun done [] = ⊥
+IsInOrder seen new history held opened begun done (s ∷ shown) =
+    IsShownAt seen new history held [] (length begun) s
+    × AreInOrder seen new history held (added_text opened (drop (length opened) begun)) begun done shown
+
+-- A run that served batches, and the status and the text that are due. Its parts: the history; what is written, what the sink
+-- took of it at least, and in which order with the disk; what the disk reads at the end, which stands for the accepted calls, perhaps followed by one whose write
 -- failed, and so for sound records; that the history is legal and within the limits, its acts are valid, its calls can be kept in a
--- journal, and the counts of its devices lie between those of the disk; the calls of each lane; that within the bound no line is full; the rounds; crashes; and
+-- journal, and the counts of its devices lie between those of the disk, which have 8 bytes; the calls of each lane; that within the bound no line is full; the rounds; crashes; and
 -- what a run leaves that failed to write the lines of the abandonments.
-pub record IsHeadline {D : Type 0} (seen : D → Seen) (Taken : List ℕ → Type 0) (old new : D) (batches : List (List Request))
+pub record IsHeadline {D : Type 0} (seen : D → Seen) (output : Output D) (old new : D) (batches : List (List Request))
     (status : ExitStatus) (text : List ℕ) : Type 0 where
   pub opened : List PoolEntry
   pub begun : List PoolEntry
@@ -79,7 +103,10 @@ pub record IsHeadline {D : Type 0} (seen : D → Seen) (Taken : List ℕ → Typ
   pub is_history : IsRunHistory (seen old).tells (seen old).reads opened begun done history
   pub all : AreOf batches status done
   pub text_is : text ≡ run_text opened begun done
-  pub taken : Taken (sure_text opened begun done)
+  pub taken : HasTaken output.held_old output.held_new (sure_text opened begun done)
+  pub shown : List (Shown D)
+  pub were_shown : output.shown_new ≡ output.shown_old ++ shown
+  pub order : IsInOrder seen new history output.held_old opened begun done shown
   pub on_disk : IsTrue (seen old).tells → StandsForLeft history (seen new).reads
   pub sound : IsTrue (seen old).tells → HoldsSound (seen new)
   pub legal : IsLegal history
@@ -87,6 +114,7 @@ pub record IsHeadline {D : Type 0} (seen : D → Seen) (Taken : List ℕ → Typ
   pub valid : AreValid history
   pub keepable : CanBeKept history
   pub between : AreBetween (seen old).count (seen new).count history
+  pub counted : (seen new).count < 2 ^ 64
   pub served : AreServed begun done
   pub none_full : HasRoomForAll is_history.records (requests_of batches) → some_end is_full_end done ≡ false
   pub greatest : RoundsAreGreatest history

@@ -1,10 +1,10 @@
 -- What the promise of a run comes to: of each moment after a crash, of the next call, and of what `history` prints later.
-use Rattle.std.specs.Prelude.{◌≡◌, ◌<◌, ◌≤◌, ◌⊎◌, ℕ, true, List, [], ◌∷◌, ◌++◌, All, length, drop, Option, None, IsTrue}
+use Rattle.std.specs.Prelude.{◌≡◌, ◌<◌, ◌≤◌, ◌⊎◌, ℕ, true, List, [], ◌∷◌, ◌++◌, All, length, drop, None, IsTrue}
 use Rattle.disk_model.specs.Calls.{Seen, IsPresent}
 use Rattle.live_runs.specs.claim_history.specs.declared.call.Call.{Call}
 use Rattle.live_runs.specs.claim_history.specs.declared.call.PoolEntry.{PoolEntry}
 use Rattle.live_runs.specs.claim_history.specs.History.{is_accepted}
-use Rattle.live_runs.specs.claim_history.specs.Pools.{accepted_members, answered, due_reply}
+use Rattle.live_runs.specs.claim_history.specs.Pools.{accepted_calls, accepted_members, answered, due_reply}
 use Rattle.live_runs.specs.claim_history.specs.PoolRounds.{open_cut_in}
 use Rattle.request_text.specs.declared.request.Request.{Request}
 use Rattle.live_runs.specs.printed_text.specs.declared.exit_status.ExitStatus.{ExitStatus}
@@ -12,10 +12,11 @@ use Rattle.live_runs.specs.printed_text.specs.Printing.{added_text, ends_text, s
 use Rattle.bureau_reports.specs.history_text.specs.Histories.{IsRoundText, history_text, publishes_round}
 use Rattle.bureau_reports.specs.history_text.specs.Accepted.{accepted_text}
 use Rattle.live_runs.specs.recorded_book.specs.Calls.{TriedLast}
-use Rattle.live_runs.specs.batch_runs.specs.Runs.{Done, HasTaken, all_added}
+use Rattle.live_runs.specs.recorded_book.specs.Moments.{HoldsAt}
+use Rattle.live_runs.specs.batch_runs.specs.Runs.{Done, all_added}
 use Rattle.live_runs.specs.bureau_desk.specs.Opening.{HasViewed, HoldsOpened}
 use Rattle.bureau_commands.specs.Journals.{HasAuditFault, HoldsSound}
-use Rattle.bureau_commands.specs.Headline.{IsHeadline, SurvivesCrashes, run_text}
+use Rattle.bureau_commands.specs.Headline.{IsHeadline, Output, SurvivesCrashes, run_text}
 use Rattle.bureau_commands.specs.Causes.{HoldsUnsound}
 
 -- The disk that comes back is tied to the one that was handed in: the images of the start are as they were, and none between it and
@@ -34,6 +35,13 @@ pub record IsTied (old new : Seen) (first ended : ℕ) : Type 0 where
 abbrev pub CrashLaw : {D : Type 0} → (D → Seen) → Type 0
 CrashLaw {D} seen = (old new : D) (opened : ℕ) (history : List PoolEntry) (s : SurvivesCrashes seen old new opened history)
     → IsTied (seen old) (seen new) s.first (seen s.begun).moment
+
+-- Each image of the disk that comes back, of any moment from the start of the call to its end, is one that a crash could leave at the
+-- start; or it holds the first so many accepted calls, from those that were opened to all of them, alone or with one more.
+abbrev pub ImageLaw : {D : Type 0} → (D → Seen) → Type 0
+ImageLaw {D} seen = (old new : D) (opened : ℕ) (history : List PoolEntry) → SurvivesCrashes seen old new opened history → (t : ℕ)
+    (c : List ℕ) → (seen old).moment ≤ t → t ≤ (seen new).moment → (seen new).image t c
+    → IsPresent (seen old) c ⊎ ((i : ℕ) × (opened ≤ i) × (i ≤ length (accepted_calls history)) × HoldsAt history i c)
 
 -- no cause of the status `Unsound` is there, and none of `No` of an audit
 pub record HasNoFault (disk : Seen) : Type 0 where
@@ -75,7 +83,7 @@ pub record IsRetold (opened begun : List PoolEntry) (done : List Done) (history 
 
 -- So it is whatever the batches, and in whichever order their lanes were served, with refusals among them and earlier runs before.
 abbrev pub HistoryLaw : {D : Type 0} → (D → Seen) → Type 0
-HistoryLaw {D} seen = (held_old held_new : Option (List ℕ)) (old new : D) (batches : List (List Request)) (status : ExitStatus)
-    (text : List ℕ) (ran : IsHeadline seen (HasTaken held_old held_new) old new batches status text) → IsTrue (seen old).tells
+HistoryLaw {D} seen = (output : Output D) (old new : D) (batches : List (List Request)) (status : ExitStatus)
+    (text : List ℕ) (ran : IsHeadline seen output old new batches status text) → IsTrue (seen old).tells
     → (read : List PoolEntry) → HasViewed (seen new).tells (seen new).reads read
     → IsRetold ran.opened ran.begun ran.done ran.history read

@@ -1,5 +1,5 @@
 //! What the promise of a run comes to. Each of these calls does nothing.
-ghost use Rattle.bureau_commands.specs.Laws.{CrashLaw, HistoryLaw, NextLaw};
+ghost use Rattle.bureau_commands.specs.Laws.{CrashLaw, HistoryLaw, ImageLaw, NextLaw};
 
 use disk_model::Disk;
 
@@ -8,6 +8,12 @@ use disk_model::Disk;
 /// with the first of the abandonments, any number of them.
 pub fn crashes_are_told_of_the_disk<D: Disk>()
     ensures { CrashLaw D.seen }
+{}
+
+/// Each image of the disk that comes back, of any moment from the start of the call to its end, is one that a crash could leave at the
+/// start; or it holds the first accepted acts, alone or with one more: no fewer than were opened, and at most all.
+pub fn each_image_holds_a_beginning<D: Disk>()
+    ensures { ImageLaw D.seen }
 {}
 
 /// Of a disk that holds sound records, as a run that opened it leaves it, an audit says yes, and no later call ends with status 8.

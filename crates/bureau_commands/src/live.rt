@@ -12,8 +12,8 @@ use crate::opening::{Begun, NotBegun, begin};
 use bureau_edge::{Sink, Source};
 use disk_model::Disk;
 use live_runs::{
-    ExitStatus, Gate, Intake, Pause, Stop, end_with, serve_input, tell_no_memory, tell_read_fault,
-    tell_too_long, write_bad_line,
+    ExitStatus, Gate, Intake, Pause, Stop, Witness, end_with, serve_input, tell_no_memory,
+    tell_read_fault, tell_too_long, write_bad_line,
 };
 use request_text::LineCause;
 use setoff_model::limits::MOST_INPUT_BYTES;
@@ -61,11 +61,12 @@ fn sink_failed(status: ExitStatus) -> bool
 }
 
 /// Reads requests from a source, serves each batch on a disk when its FENCE has come, and prints what came of it. Behind that it tells
-/// the fault by which the reading ended, where there was one. After a fault of the sink nothing more is served or told.
+/// the fault by which the reading ended, where there was one. Before the text of each batch a witness is shown the sink and the disk. After a fault of the sink nothing more is served or told.
 pub fn serve_source<
     R: Threads + Wait + Sync,
     S: Source,
     K: Sink,
+    W: Witness<K, D>,
     D: Disk + Send + Sync,
     G: Gate + Sync,
     P: Pause + Sync,
@@ -74,19 +75,20 @@ pub fn serve_source<
     alloc: Global,
     source: &mut S,
     sink: &mut K,
+    witness: &mut W,
     disk: D,
     gate: &G,
     pause: &P,
 ) -> (ExitStatus, D)
-    ensures wrote { WroteTaking (λ taken. IsLiveDue S.left D.seen taken source.old source.new disk result.1) (K.held sink.old)
-        (K.held sink.new) result.0 }
+    ensures wrote { WroteTaking (λ output. IsLiveDue S.left D.seen output source.old source.new disk result.1) (K.held sink.old)
+        (K.held sink.new) (W.shown witness.old) (W.shown witness.new) result.0 }
     ensures read_fault { result.0 ≡ statuses.Source → HasRisen (S.faults source.old) (S.faults source.new) }
     ensures write_fault { TellsSinkFault (K.faults sink.old) (K.faults sink.new) result.0 }
 {
     let Ok(intake) = Intake::new(alloc, MOST_INPUT_BYTES) else {
         return (tell_no_memory(sink), disk);
     };
-    let Begun { desk, mut buffer } = match begin(alloc, sink, disk) {
+    let Begun { desk, mut buffer } = match begin(alloc, sink, witness, disk) {
         Ok(begun) => begun,
         Err(NotBegun { status, disk }) => return (status, disk),
     };
@@ -96,6 +98,7 @@ pub fn serve_source<
         intake,
         source,
         sink,
+        witness,
         &mut buffer,
         desk,
         gate,

@@ -7,7 +7,9 @@ ghost use Rattle.bureau_commands.specs.Due.{HasBegun, IsNotBegunDue, WroteTaking
 use bureau_edge::Sink;
 use bureau_reports::tell_refused;
 use disk_model::Disk;
-use live_runs::{Desk, DeskRefused, ExitStatus, output_buffer, print_added, tell_no_memory};
+use live_runs::{
+    Desk, DeskRefused, ExitStatus, Witness, output_buffer, print_added, tell_no_memory,
+};
 use std::alloc::Global;
 
 /// A desk on which no batch was served yet, and the buffer of the output.
@@ -28,20 +30,23 @@ pub struct NotBegun<D> {
     pub disk: D,
 }
 
-/// Opens a desk on a disk, and prints the abandonments of the rounds that its journal left open.
+/// Opens a desk on a disk, shows a witness the sink and the disk, and then prints the abandonments of the rounds that its journal left
+/// open.
 ///
 /// An Err has told that there was no memory for the output, or why no desk was opened; or the sink failed.
-pub fn begin<K: Sink, D: Disk>(
+pub fn begin<K: Sink, W: Witness<K, D>, D: Disk>(
     alloc: Global,
     sink: &mut K,
+    witness: &mut W,
     disk: D,
 ) -> Result<Begun<D>, NotBegun<D>>
-    ensures begun { IfOk result (λ b. HasBegun D.seen disk b.desk (K.held sink.old) (K.held sink.new)) }
+    ensures begun { IfOk result (λ b. HasBegun D.seen disk b.desk (K.held sink.old) (K.held sink.new)
+        (W.shown witness.old) (W.shown witness.new)) }
     ensures empty { IfOk result (λ b. b.buffer.items ≡ []) }
     ensures room { IfOk result (λ b. OUTPUT_BYTES ≤ vec_capacity b.buffer) }
     ensures kept { IfOk result (λ _. K.faults sink.new ≡ K.faults sink.old) }
-    ensures wrote { IfErr result (λ e. WroteTaking (λ taken. IsNotBegunDue D.seen taken disk e.disk) (K.held sink.old)
-        (K.held sink.new) e.status) }
+    ensures wrote { IfErr result (λ e. WroteTaking (λ output. IsNotBegunDue D.seen output disk e.disk) (K.held sink.old)
+        (K.held sink.new) (W.shown witness.old) (W.shown witness.new) e.status) }
     ensures write_fault { IfErr result (λ e. TellsSinkFault (K.faults sink.old) (K.faults sink.new) e.status) }
 {
     let Ok(mut buffer) = output_buffer(alloc) else {
@@ -60,6 +65,8 @@ pub fn begin<K: Sink, D: Disk>(
         }
     };
     let from = desk.opened_with();
+    let _books = desk.books();
+    witness.show(sink, desk.disk());
     if print_added(sink, &mut buffer, &desk, from, &[]).is_err() {
         return Err(NotBegun {
             status: ExitStatus::Sink,

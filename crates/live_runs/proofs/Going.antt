@@ -1,6 +1,6 @@
 -- The batches that were served so far of an input that is still read, and one more.
 use Rattle.std.specs.Prelude.{Option, Result}
-use Rattle.std.proofs.Common.{true≢false, ◌≡◌, ◌≢◌, ◌∙◌, ◌⊎◌, inl, inr, ⊎_elim, ℕ, ◌≤◌, true, false, List, [], ◌∷◌, ◌++◌, length, drop, refl, sym, ap, subst, arith}
+use Rattle.std.proofs.Common.{true≢false, ◌≡◌, ◌∙◌, inl, inr, ⊎_elim, ℕ, ◌≤◌, true, false, List, [], ◌∷◌, ◌++◌, length, drop, refl, sym, ap, subst, arith}
 use Rattle.std.proofs.lemmas.List.{append-nil, take-append-drop}
 use Rattle.std.proofs.lemmas.List.Splits.{slice_split_none}
 use Rattle.std.specs.Io.KnownBytes.{Appends, Consumes}
@@ -10,6 +10,7 @@ use Rattle.batch_runs.specs.fault_count.specs.Counts.{HasRisen}
 use Rattle.batch_runs.specs.fault_count.proofs.Rising.{risen_within}
 use Rattle.bureau_edge.specs.Streams.{AppendsPart}
 use Rattle.disk_model.specs.Calls.{Seen}
+use Rattle.batch_runs.specs.disk_witness.specs.Shown.{Shown}
 use Rattle.batch_runs.specs.request_text.specs.declared.request.Request.{Request}
 use Rattle.batch_runs.specs.request_text.specs.Grammar.{AreBatches, IsRequestText}
 use Rattle.batch_runs.specs.bureau_desk.specs.Desks.{DeskView}
@@ -30,9 +31,9 @@ use Rattle.live_runs.specs.Serving.{HasServedInput, HasToldLive}
 
 -- these batches were served, each up to its FENCE
 pub record IsServing {D : Type 0} (seen : D → Seen) (left_first left_now : Option (List ℕ)) (faults_first faults_now : ℕ)
-    (first : DeskView D) (x : Option (List ℕ)) (now : DeskView D) (v : IntakeView) (y : Option (List ℕ)) (tally : Tally) : Type 0 where
+    (first : DeskView D) (x : Option (List ℕ)) (a : List (Shown D)) (now : DeskView D) (v : IntakeView) (y : Option (List ℕ)) (b : List (Shown D)) (tally : Tally) : Type 0 where
   pub batches : List (List Request)
-  pub so_far : SoFar seen first x now batches y tally
+  pub so_far : SoFar seen first x a now batches y b tally
   pub read : HasRead v batches []
   pub fenced : v.fenced ≡ true
   pub limit_is : v.limit ≡ MOST_INPUT_BYTES
@@ -64,12 +65,12 @@ nothing_read : HasBatches fresh → HasRead fresh [] []
 nothing_read h =
     subst (λ (e : List (List Request)). HasRead fresh e []) (none_served h.ended h.places.1) (subst (HasRead fresh h.ended) h.places.0 h.read)
 
-module _ {D : Type 0} (seen : D → Seen) (left_first : Option (List ℕ)) (faults_first : ℕ) (first : DeskView D) (x : Option (List ℕ)) where
+module _ {D : Type 0} (seen : D → Seen) (left_first : Option (List ℕ)) (faults_first : ℕ) (first : DeskView D) (x : Option (List ℕ)) (a : List (Shown D)) where
   pub serving_none : (v : IntakeView) → v ≡ fresh → HasBatches v → (tally : Tally) → IsTally tally []
-      → IsServing seen left_first left_first faults_first faults_first first x first v x tally
+      → IsServing seen left_first left_first faults_first faults_first first x a first v x a tally
   serving_none v is h tally told = record {
     batches = [];
-    so_far = begins seen first x tally told;
+    so_far = begins seen first x a tally told;
     read = subst (λ (w : IntakeView). HasRead w [] []) (sym is) (nothing_read (subst HasBatches is h));
     fenced = ap (λ (w : IntakeView). w.fenced) is;
     limit_is = ap (λ (w : IntakeView). w.limit) is;
@@ -78,9 +79,9 @@ module _ {D : Type 0} (seen : D → Seen) (left_first : Option (List ℕ)) (faul
   }
 
   module _ {S T E : Type 0} (left : S → Option (List ℕ)) (faults : S → ℕ) (now new : DeskView D) (s0 s1 : S) (v w : IntakeView) (tally after : Tally)
-      (y z : Option (List ℕ)) (why : Stop) (written : Result T E)
-      (so : IsServing seen left_first (left s0) faults_first (faults s0) first x now v y tally)
-      (t : HasToldLive seen left faults now new s0 s1 v w tally after y z why written) (rises : faults s0 ≤ faults s1) where
+      (y z : Option (List ℕ)) (b c : List (Shown D)) (why : Stop) (written : Result T E)
+      (so : IsServing seen left_first (left s0) faults_first (faults s0) first x a now v y b tally)
+      (t : HasToldLive seen left faults now new s0 s1 v w tally after y z b c why written) (rises : faults s0 ≤ faults s1) where
     abbrev served : List (List Request)
     served = so.batches ++ t.live.batch ∷ []
 
@@ -121,9 +122,9 @@ module _ {D : Type 0} (seen : D → Seen) (left_first : Option (List ℕ)) (faul
 
     -- the sink failed at its text
     pub serving_breaks : AppendsPart y z text
-        → HasServedInput seen left_first (left s1) faults_first (faults s1) first new x z why statuses.Sink
+        → HasServedInput seen left_first (left s1) faults_first (faults s1) first new x z a c why statuses.Sink
     serving_breaks part =
-        let last = breaks_at_last seen first x now new so.batches y z tally t.live.batch t.told.answers so.so_far t.told.ran part in
+        let last = breaks_at_last seen first x a now new so.batches y z b c tally t.live.batch t.told.answers so.so_far t.told.ran t.told.shown part in
         record {
           taken = w.taken;
           consumed = consumed_now;
@@ -138,10 +139,10 @@ module _ {D : Type 0} (seen : D → Seen) (left_first : Option (List ℕ)) (faul
 
     -- it was taken
     module _ (ok : Appends y z text) where
-      so_far_now : SoFar seen first x new served z after
-      so_far_now = more seen first x now new so.batches y z tally t.live.batch t.told.answers so.so_far t.told.ran after t.told.memory t.told.device t.told.full ok
+      so_far_now : SoFar seen first x a new served z c after
+      so_far_now = more seen first x a now new so.batches y z b c tally t.live.batch t.told.answers so.so_far t.told.ran t.told.shown after t.told.memory t.told.device t.told.full ok
 
-      pub serving_more : why ≡ stop.Fence → IsServing seen left_first (left s1) faults_first (faults s1) first x new w z after
+      pub serving_more : why ≡ stop.Fence → IsServing seen left_first (left s1) faults_first (faults s1) first x a new w z c after
       serving_more is = record {
         batches = served;
         so_far = so_far_now;
@@ -154,11 +155,11 @@ module _ {D : Type 0} (seen : D → Seen) (left_first : Option (List ℕ)) (faul
 
       module _ (status : ExitStatus) (is : status ≡ run_status after.memory after.device after.full) where
         -- these are the batches
-        ended_with : (q : Stop) → is_fence q ≡ false → (batches : List (List Request)) → SoFar seen first x new batches z after
+        ended_with : (q : Stop) → is_fence q ≡ false → (batches : List (List Request)) → SoFar seen first x a new batches z c after
             → IsFrontServed (left s1) w.taken batches q → (q ≡ stop.End → IsRequestText w.taken batches) → (q ≡ stop.Failed → HasRisen faults_first (faults s1))
-            → HasServedInput seen left_first (left s1) faults_first (faults s1) first new x z q status
+            → HasServedInput seen left_first (left s1) faults_first (faults s1) first new x z a c q status
         ended_with q off batches so_far front whole failed =
-            let all = ends_with seen first x new batches z after status so_far is in
+            let all = ends_with seen first x a new batches z c after status so_far is in
             record {
               taken = w.taken;
               consumed = consumed_now;
@@ -172,13 +173,13 @@ module _ {D : Type 0} (seen : D → Seen) (left_first : Option (List ℕ)) (faul
             }
 
         -- the last of them, or an empty one behind it
-        ended_at : (q : Stop) → is_fence q ≡ false → Stops q → HasServedInput seen left_first (left s1) faults_first (faults s1) first new x z q status
+        ended_at : (q : Stop) → is_fence q ≡ false → Stops q → HasServedInput seen left_first (left s1) faults_first (faults s1) first new x z a c q status
         ended_at stop.Fence off i = absurd (true≢false off)
         ended_at stop.End off i =
             let whole : IsTakenWhole (left s1) w.taken = (i.0, subst (λ (n : ℕ). length w.taken ≤ n) limit_now i.1) in
             ⊎_elim
             (λ one. ended_with stop.End off served so_far_now (whole, inl one) (λ e. one) (failed_of stop.End i))
-            (λ two. ended_with stop.End off (served ++ [] ∷ []) (more_empty seen first x new served z after so_far_now) (whole, inl two) (λ e. two) (failed_of stop.End i))
+            (λ two. ended_with stop.End off (served ++ [] ∷ []) (more_empty seen first x a new served z c after so_far_now) (whole, inl two) (λ e. two) (failed_of stop.End i))
             (i.2 so.batches so.read)
         ended_at (stop.BadLine line cause) off i =
             ended_with (stop.BadLine line cause) off served so_far_now (front_of (stop.BadLine line cause) i) (λ e. cc) (failed_of (stop.BadLine line cause) i)
@@ -186,7 +187,7 @@ module _ {D : Type 0} (seen : D → Seen) (left_first : Option (List ℕ)) (faul
         ended_at stop.TooLong off i = ended_with stop.TooLong off served so_far_now (front_of stop.TooLong i) (λ e. cc) (failed_of stop.TooLong i)
         ended_at stop.Memory off i = ended_with stop.Memory off served so_far_now (front_of stop.Memory i) (λ e. cc) (failed_of stop.Memory i)
 
-        pub serving_ends : is_fence why ≡ false → HasServedInput seen left_first (left s1) faults_first (faults s1) first new x z why status
+        pub serving_ends : is_fence why ≡ false → HasServedInput seen left_first (left s1) faults_first (faults s1) first new x z a c why status
         serving_ends off = ended_at why off t.live.stops
 
 -- only a FENCE is one

@@ -7,9 +7,9 @@
 mod serving;
 
 pub use batch_runs::{
-    Desk, DeskRefused, ExitStatus, Gate, Pause, Unhindered, bytes_hold_one_list, end_with,
-    output_buffer, print_added, run_batches, tell_no_memory, tell_read_fault, tell_too_long,
-    tell_words, write_bad_line,
+    Desk, DeskRefused, ExitStatus, Gate, Pause, SilentWitness, Unhindered, Witness,
+    bytes_hold_one_list, end_with, output_buffer, print_added, run_batches, tell_no_memory,
+    tell_read_fault, tell_too_long, tell_words, write_bad_line,
 };
 pub use live_intake::{Intake, Stop};
 pub use serving::serve_input;

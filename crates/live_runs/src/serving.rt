@@ -8,7 +8,9 @@ ghost use Rattle.batch_runs.specs.printed_text.specs.declared.exit_status.ExitSt
 ghost use Rattle.batch_runs.specs.printed_text.specs.Statuses.{TellsSinkFault};
 ghost use Rattle.live_runs.specs.Serving.{HasServedInput, HasToldLive};
 
-use batch_runs::{BatchEnd, Desk, ExitStatus, Gate, LevelSolver, Pause, Tally, print_counted};
+use batch_runs::{
+    BatchEnd, Desk, ExitStatus, Gate, LevelSolver, Pause, Tally, Witness, print_counted,
+};
 use bureau_edge::{Failed, Sink, Source};
 use disk_model::Disk;
 use live_intake::{Intake, LiveEnd, Stop, run_live};
@@ -33,12 +35,13 @@ fn lines_behind(stop: Stop) -> u64
     0
 }
 
-// Serves the next batch of an input on a desk, counts in what came of it, and prints it. Gives the desk back, why the batch ended,
-// and whether the sink took the text.
+// Serves the next batch of an input on a desk, counts in what came of it, shows a witness the sink and the disk, and then prints it.
+// Gives the desk back, why the batch ended, and whether the sink took the text.
 fn serve_next<
     R: Threads + Wait + Sync,
     S: Source,
     K: Sink,
+    W: Witness<K, D>,
     D: Disk + Send + Sync,
     G: Gate + Sync,
     P: Pause + Sync,
@@ -48,6 +51,7 @@ fn serve_next<
     intake: &mut Intake,
     source: &mut S,
     sink: &mut K,
+    witness: &mut W,
     buffer: &mut Vec<u8>,
     tally: &mut Tally,
     desk: Desk<D>,
@@ -61,7 +65,7 @@ fn serve_next<
 
     // What was served and told.
     ensures told { HasToldLive D.seen S.left S.faults desk result.0 source.old source.new intake.old intake.new
-        tally.old tally.new (K.held sink.old) (K.held sink.new) result.1 result.2 }
+        tally.old tally.new (K.held sink.old) (K.held sink.new) (W.shown witness.old) (W.shown witness.new) result.1 result.2 }
     ensures emptied { OnOk result.2 (buffer.new.items ≡ []) }
     ensures cause { CountsFaults (K.faults sink.old) (K.faults sink.new) result.2 }
     ensures room { OUTPUT_BYTES ≤ vec_capacity buffer.new }
@@ -86,13 +90,15 @@ fn serve_next<
     let count = intake.lines().saturating_sub(before + lines_behind(stop));
     let BatchEnd { desk, answers } = end;
     tally.add(count != 0, &answers, desk.books(), from);
+    witness.show(sink, desk.disk());
     let printed = print_counted(sink, buffer, &desk, from, before + 1, count, &answers);
     drop(answers);
     (desk, stop, printed)
 }
 
-/// Serves the batches of an input on a desk in turn while it is read, and prints what came of each after it was served. Gives the
-/// status, why the last batch ended, and the desk. The status is that of `run_batches`: `Sink` where the sink failed, which ends the
+/// Serves the batches of an input on a desk in turn while it is read, and prints what came of each after it was served. Before it is
+/// printed a witness is shown the sink and the disk, on which all is that was accepted up to the end of the batch. Gives the status,
+/// why the last batch ended, and the desk. The status is that of `run_batches`: `Sink` where the sink failed, which ends the
 /// run; else `Memory` where there was none for a line, else `Disk` where a member of the history tells of a device, else `Limit`
 /// where a line was full, else `Done`.
 ///
@@ -102,6 +108,7 @@ pub fn serve_input<
     R: Threads + Wait + Sync,
     S: Source,
     K: Sink,
+    W: Witness<K, D>,
     D: Disk + Send + Sync,
     G: Gate + Sync,
     P: Pause + Sync,
@@ -111,6 +118,7 @@ pub fn serve_input<
     intake: Intake,
     source: &mut S,
     sink: &mut K,
+    witness: &mut W,
     buffer: &mut Vec<u8>,
     desk: Desk<D>,
     gate: &G,
@@ -129,7 +137,7 @@ pub fn serve_input<
 
     // What was served and told.
     ensures served { HasServedInput D.seen (S.left source.old) (S.left source.new) (S.faults source.old) (S.faults source.new)
-        desk result.2 (K.held sink.old) (K.held sink.new) result.1 result.0 }
+        desk result.2 (K.held sink.old) (K.held sink.new) (W.shown witness.old) (W.shown witness.new) result.1 result.0 }
 
     // A fault is told only where it was counted.
     ensures write_fault { TellsSinkFault (K.faults sink.old) (K.faults sink.new) result.0 }
@@ -151,6 +159,7 @@ pub fn serve_input<
             &mut intake,
             source,
             sink,
+            witness,
             buffer,
             &mut tally,
             desk,

@@ -89,13 +89,9 @@ fn tables_of_the_triangle(rt: HostRuntime) {
 const TWO_POOLS: &[u8] =
     b"1 FIRM A\n1 @EAST FIRM A\n1 @EAST FIRM B\n1 @EAST FILE B I-1 A 10.00 2025-01-31\n1 @EAST CONFIRM B I-1 A\n";
 
-const POOL_TABLES: [(&[&str], &[u8]); 7] = [
+const POOL_TABLES: [(&[&str], &[u8]); 6] = [
     (
         &["positions"],
-        b"firm,balance,credit,ceiling,offer,receivable,payable\nA,0.00,0.00,10000000000000.00,0.00,0.00,0.00\n",
-    ),
-    (
-        &["positions", "MAIN"],
         b"firm,balance,credit,ceiling,offer,receivable,payable\nA,0.00,0.00,10000000000000.00,0.00,0.00,0.00\n",
     ),
     (

@@ -3,8 +3,8 @@ ghost use Rattle.std.specs.Prelude.{◌≡◌, ◌+◌, ◌≤◌, true, length}
 ghost use Rattle.fault_count.specs.Counts.{HasRisen, next_count};
 ghost use Rattle.disk_model.specs.Untold.{untold};
 
-use crate::runs::{disk_of, expect_end, is_like, program, sink_of, source_of, words_of};
-use bureau_commands::{Gate, Pause, Unhindered, bureau};
+use crate::runs::{disk_of, expect_end, is_like, sink_of, source_of, words_of};
+use bureau_commands::{Gate, Pause, SilentWitness, Unhindered, Witness, bureau, bureau_in_order};
 use bureau_edge::{BytesSink, Failed, Sink};
 use disk_model::{Disk, DiskFailed, MemoryDisk};
 use fault_count::next_count;
@@ -13,7 +13,7 @@ use std::marker::Model;
 use std::process::Abort;
 use std::sync::Wait;
 use std::sync::atomic::{AtomicU64, Ordering};
-use std::thread;
+use std::thread::{self, Threads};
 
 // ---- fences
 
@@ -146,6 +146,8 @@ const WRITE: u64 = 2;
 const BEFORE: u64 = 3;
 
 const AFTER: u64 = 4;
+
+const SHOWN: u64 = 5;
 
 // The calls so far, each in its place.
 #[derive(Drop)]
@@ -296,32 +298,71 @@ impl Disk for NotingDisk<'_> {
     }
 }
 
-// Two batches: all calls of the disk for one come before what is written of it, and that before the calls for the next one. The
-// calls at the opening are the first.
-#[test]
-fn a_batch_is_written_after_its_last_call_of_the_disk(rt: HostRuntime) {
-    let calls = Calls::new(&rt, rt.alloc());
+// Notes its calls, and hands them on.
+#[derive(Drop)]
+struct NotingWitness<'a, W> {
+    witness: W,
+    calls: &'a Calls,
+}
+
+impl<K: Sink, D, W: Witness<K, D>> Witness<K, D> for NotingWitness<'_, W> {
+    ghost shown = { λ w. W.shown w.witness };
+
+    fn show(&mut self, sink: &K, disk: &D) {
+        self.calls.note(SHOWN);
+        self.witness.show(sink, disk)
+    }
+}
+
+// The calls of a sink, a disk and a witness, for two batches and these words.
+fn calls_of_two_batches<R: Abort + Threads + Wait + Sync>(
+    rt: &R,
+    alloc: Global,
+    text: &str,
+) -> Vec<u64> {
+    let calls = Calls::new(rt, alloc);
+    let words = words_of(rt, alloc, &[text]);
+    let source = source_of(rt, alloc, WITH_SECOND);
     let sink = NotingSink {
-        sink: sink_of(&rt, rt.alloc(), 0),
+        sink: sink_of(rt, alloc, 0),
         calls: &calls,
     };
     let disk = NotingDisk {
-        disk: disk_of(&rt, rt.alloc(), b"", 0),
+        disk: disk_of(rt, alloc, b"", 0),
         faults: 0,
         calls: &calls,
     };
-    let ended = program(
-        &rt,
-        rt.alloc(),
-        &["run"],
-        source_of(&rt, rt.alloc(), WITH_SECOND),
+    let mut witness = NotingWitness {
+        witness: SilentWitness::new(),
+        calls: &calls,
+    };
+    let ended = bureau_in_order(
+        rt,
+        alloc,
+        words,
+        source,
         sink,
+        &mut witness,
         disk,
+        Unhindered,
+        Unhindered,
     );
     assert!(rt; ended.status == 0);
     assert!(rt; calls.next.load(Ordering::SeqCst) <= 500);
-    let kinds = calls.kinds(&rt, rt.alloc());
-    assert!(rt; kinds.as_slice() == [DISK_CALL, WRITE, DISK_CALL, WRITE].as_slice());
+    calls.kinds(rt, alloc)
+}
+
+// All calls of the disk for a batch come before the witness is shown both, and that before what is written of the batch; what is
+// written comes before the calls for the next one. The calls at the opening are the first.
+#[test]
+fn a_batch_is_written_after_its_last_call_of_the_disk(rt: HostRuntime) {
+    let due = [
+        DISK_CALL, SHOWN, DISK_CALL, SHOWN, WRITE, DISK_CALL, SHOWN, WRITE,
+    ];
+    for text in ["run", "live"] {
+        let kinds = calls_of_two_batches(&rt, rt.alloc(), text);
+        assert!(rt; kinds.as_slice() == due.as_slice());
+    }
 }
 
 // Notes its calls.

@@ -5,9 +5,11 @@ use crate::runs::{
 };
 use bureau_commands::{Gate, Unhindered, bureau};
 use bureau_edge::{Failed, Source, SureSource};
+use std::alloc::Global;
+use std::process::Abort;
 use std::sync::Wait;
 use std::sync::atomic::{AtomicU64, Ordering};
-use std::thread;
+use std::thread::{self, Threads};
 
 // ---- what is printed, and the status
 
@@ -248,23 +250,24 @@ fn sixteen_lanes_without_a_fence(rt: HostRuntime) {
 
 // ---- lines are served while reading goes on
 
-// Notes the last line that was answered.
+// Counts the lines that were answered.
 #[derive(Drop)]
 struct Told<'a>(&'a AtomicU64);
 
 impl Gate for Told<'_> {
     fn before<R: Wait>(&self, _rt: &R, _line: u64) {}
 
-    fn after<R: Wait>(&self, _rt: &R, line: u64) {
-        self.0.store(line, Ordering::SeqCst);
+    fn after<R: Wait>(&self, _rt: &R, _line: u64) {
+        let _ = self.0.fetch_add(1, Ordering::SeqCst);
     }
 }
 
-// Gives one line, and then nothing before that was answered.
+// Gives some lines, and then nothing before so many were answered.
 #[derive(Drop)]
 struct Patient<'a> {
     source: SureSource,
     told: &'a AtomicU64,
+    due: u64,
     given: bool,
     late: bool,
 }
@@ -282,7 +285,7 @@ impl Source for Patient<'_> {
             return self.source.read(into);
         }
         for _ in 0..1_000_000 {
-            if self.told.load(Ordering::SeqCst) == 1 {
+            if self.told.load(Ordering::SeqCst) == self.due {
                 return Ok(0);
             }
             thread::yield_now();
@@ -292,26 +295,50 @@ impl Source for Patient<'_> {
     }
 }
 
-#[test]
-fn a_line_is_answered_before_the_next_is_read(rt: HostRuntime) {
+// Each of so many lines is answered while the source waits, and the output is one of these.
+fn are_answered_meanwhile<R: Threads + Wait + Abort + Sync>(
+    rt: &R,
+    alloc: Global,
+    lines: &[u8],
+    due: u64,
+    outputs: [&[u8]; 2],
+) {
     let told = AtomicU64::new(0);
     let source = Patient {
-        source: source_of(&rt, rt.alloc(), b"1 FIRM A\n"),
+        source: source_of(rt, alloc, lines),
         told: &told,
+        due,
         given: false,
         late: false,
     };
-    let words = words_of(&rt, rt.alloc(), &["live"]);
+    let words = words_of(rt, alloc, &["live"]);
     let ended = bureau(
-        &rt,
-        rt.alloc(),
+        rt,
+        alloc,
         words,
         source,
-        sink_of(&rt, rt.alloc(), 0),
-        disk_of(&rt, rt.alloc(), b"", 0),
+        sink_of(rt, alloc, 0),
+        disk_of(rt, alloc, b"", 0),
         Told(&told),
         Unhindered,
     );
     assert!(rt; ended.status == 0 && !ended.source.late);
-    assert!(rt; ended.sink.bytes() == b"1 FIRM A = ok\n".as_slice());
+    let printed = ended.sink.bytes();
+    assert!(rt; printed == outputs[0] || printed == outputs[1]);
+}
+
+#[test]
+fn a_line_is_answered_before_the_next_is_read(rt: HostRuntime) {
+    let output = b"1 FIRM A = ok\n".as_slice();
+    are_answered_meanwhile(&rt, rt.alloc(), b"1 FIRM A\n", 1, [output, output]);
+}
+
+// A batch of two lanes that stays open.
+#[test]
+fn lines_of_two_lanes_are_answered_before_more_is_read(rt: HostRuntime) {
+    let outputs: [&[u8]; 2] = [
+        b"1 FIRM A = ok\n2 FIRM B = ok\n",
+        b"2 FIRM B = ok\n1 FIRM A = ok\n",
+    ];
+    are_answered_meanwhile(&rt, rt.alloc(), b"1 FIRM A\n2 FIRM B\n", 2, outputs);
 }

@@ -1,8 +1,8 @@
-use Rattle.std.proofs.Common.{ℕ, List, [], refl, subst, sym, arith, ◌∙◌}
+use Rattle.std.proofs.Common.{[], refl, subst, sym, arith, ◌∙◌}
 use Rattle.live_runs.specs.printed_text.specs.declared.exit_status.ExitStatus.TheVariants as statuses
 use Rattle.live_runs.specs.printed_text.specs.Texts.{memory_text}
-use Rattle.live_runs.specs.batch_runs.specs.Runs.{HasTaken}
 use Rattle.bureau_reports.proofs.Written.{no_other, wrote_for, wrote_line}
+use Rattle.bureau_commands.specs.Headline.{Output, output_of}
 use Rattle.bureau_commands.specs.Due.{IsLiveDue, IsNotBegunDue, WroteTaking, no_output_memory, not_begun}
 use Rattle.bureau_commands.proofs.Bound.{none_asked}
 use Rattle.bureau_commands.proofs.LiveCauses.{begun_no_source, stopped_failed}
@@ -14,7 +14,7 @@ use Rattle.bureau_commands.proofs.live.serve_source.Goals as goal
 
 pub returns-in_default-clause-wrote : goal.returns-in_default-clause-wrote
 returns-in_default-clause-wrote g c =
-    wrote_line (IsLiveDue g.S.Source.left g.D.Disk.seen (HasTaken (g.K.Sink.held c.args.sink.now) (g.K.Sink.held c.tell_no_memory.new.sink)) c.args.source.now c.args.source.now c.args.disk c.args.disk) _ _ statuses.Memory memory_text _
+    wrote_line (IsLiveDue g.S.Source.left g.D.Disk.seen (output_of (g.K.Sink.held c.args.sink.now) (g.K.Sink.held c.tell_no_memory.new.sink) (g.W.Witness.shown c.args.witness.now) (g.W.Witness.shown c.args.witness.now)) c.args.source.now c.args.source.now c.args.disk c.args.disk) _ _ statuses.Memory memory_text _
     (not_begun refl statuses.Memory memory_text (λ is. cc) (no_output_memory refl)) c.tell_no_memory.ensures.written
 
 pub returns-in_default-clause-read_fault : goal.returns-in_default-clause-read_fault
@@ -30,12 +30,12 @@ new-requires g c = omega arith
 
 pub returns-in-Err-clause-wrote : goal.returns-in-Err-clause-wrote
 returns-in-Err-clause-wrote g c =
-    let Taken : List ℕ → Type 0 = HasTaken (g.K.Sink.held c.args.sink.now) (g.K.Sink.held c.begin.new.sink) in
-    wrote_for (IsNotBegunDue g.D.Disk.seen Taken c.args.disk c.in-Err.field-0.disk) (IsLiveDue g.S.Source.left g.D.Disk.seen Taken c.args.source.now c.args.source.now c.args.disk c.in-Err.field-0.disk) (g.K.Sink.held c.args.sink.now) (g.K.Sink.held c.begin.new.sink) c.in-Err.field-0.status
+    let output : Output g.row.D.Denot = output_of (g.K.Sink.held c.args.sink.now) (g.K.Sink.held c.begin.new.sink) (g.W.Witness.shown c.args.witness.now) (g.W.Witness.shown c.begin.new.witness) in
+    wrote_for (IsNotBegunDue g.D.Disk.seen output c.args.disk c.in-Err.field-0.disk) (IsLiveDue g.S.Source.left g.D.Disk.seen output c.args.source.now c.args.source.now c.args.disk c.in-Err.field-0.disk) (g.K.Sink.held c.args.sink.now) (g.K.Sink.held c.begin.new.sink) c.in-Err.field-0.status
     (λ s t h. not_begun refl s t h.0 (h.1 [] none_asked)) c.in-Err.ensures.wrote
 
 pub returns-in-Err-clause-read_fault : goal.returns-in-Err-clause-read_fault
-returns-in-Err-clause-read_fault g c = λ source. absurd (begun_no_source g.D.Disk.seen (HasTaken (g.K.Sink.held c.args.sink.now) (g.K.Sink.held c.begin.new.sink)) c.args.disk c.in-Err.field-0.disk (g.K.Sink.held c.args.sink.now) (g.K.Sink.held c.begin.new.sink) c.in-Err.field-0.status c.in-Err.ensures.wrote source)
+returns-in-Err-clause-read_fault g c = λ source. absurd (begun_no_source g.D.Disk.seen (output_of (g.K.Sink.held c.args.sink.now) (g.K.Sink.held c.begin.new.sink) (g.W.Witness.shown c.args.witness.now) (g.W.Witness.shown c.begin.new.witness)) c.args.disk c.in-Err.field-0.disk (g.K.Sink.held c.args.sink.now) (g.K.Sink.held c.begin.new.sink) c.in-Err.field-0.status c.in-Err.ensures.wrote source)
 
 pub returns-in-Err-clause-write_fault : goal.returns-in-Err-clause-write_fault
 returns-in-Err-clause-write_fault g c = c.in-Err.ensures.write_fault
@@ -56,8 +56,9 @@ returns-then-sink_failed-clause-wrote g c =
     let begun = c.in-Ok-begin.ensures.begun in
     let served = c.serve_input-due.ensures.served in
     let sink = c.sink_failed.ensures.failed c.if-sink_failed.true in
-    subst (λ (d : g.row.D.Denot). WroteTaking (λ Taken. IsLiveDue g.S.Source.left g.D.Disk.seen Taken c.args.source.now c.serve_input-due.new.source c.args.disk d) (g.K.Sink.held c.args.sink.now) (g.K.Sink.held c.serve_input-due.new.sink) statuses.Sink) (sym c.close-disk.ensures.disk)
-    (wrote_broken g.D.Disk.seen c.args.disk c.in-Ok-begin.begun.desk c.serve_input-due.result.2 begun.opening c.close-disk.ensures.keeps served.ran.opening g.S.Source.left c.args.source.now c.serve_input-due.new.source (g.S.Source.faults c.args.source.now) (g.S.Source.faults c.serve_input-due.new.source) (g.K.Sink.held c.args.sink.now) (g.K.Sink.held c.begin.new.sink) (g.K.Sink.held c.serve_input-due.new.sink) c.serve_input-due.result.1 c.serve_input-due.result.0 sink begun.printed served)
+    subst (λ (d : g.row.D.Denot). WroteTaking (λ output. IsLiveDue g.S.Source.left g.D.Disk.seen output c.args.source.now c.serve_input-due.new.source c.args.disk d) (g.K.Sink.held c.args.sink.now) (g.K.Sink.held c.serve_input-due.new.sink) (g.W.Witness.shown c.args.witness.now) (g.W.Witness.shown c.serve_input-due.new.witness) statuses.Sink) (sym c.close-disk.ensures.disk)
+    (wrote_broken g.D.Disk.seen c.args.disk c.in-Ok-begin.begun.desk c.serve_input-due.result.2 begun.opening c.close-disk.ensures.keeps c.close-disk.ensures.counted served.ran.opening g.S.Source.left c.args.source.now c.serve_input-due.new.source (g.S.Source.faults c.args.source.now) (g.S.Source.faults c.serve_input-due.new.source) (g.K.Sink.held c.args.sink.now) (g.K.Sink.held c.begin.new.sink) (g.K.Sink.held c.serve_input-due.new.sink)
+    (g.W.Witness.shown c.args.witness.now) (g.W.Witness.shown c.begin.new.witness) (g.W.Witness.shown c.serve_input-due.new.witness) c.serve_input-due.result.1 c.serve_input-due.result.0 sink begun served)
 
 pub returns-then-sink_failed-clause-read_fault : goal.returns-then-sink_failed-clause-read_fault
 returns-then-sink_failed-clause-read_fault g c = λ source. cc
@@ -82,8 +83,9 @@ returns-clause-wrote g c =
     let begun = c.in-Ok-begin.ensures.begun in
     let served = c.serve_input-due.ensures.served in
     let took = c.sink_failed.ensures.took c.if-sink_failed.false in
-    subst (λ (d : g.row.D.Denot). WroteTaking (λ Taken. IsLiveDue g.S.Source.left g.D.Disk.seen Taken c.args.source.now c.serve_input-due.new.source c.args.disk d) (g.K.Sink.held c.args.sink.now) (g.K.Sink.held c.tell_stop.new.sink) c.tell_stop.result) (sym c.close-disk.ensures.disk)
-    (wrote_live g.D.Disk.seen c.args.disk c.in-Ok-begin.begun.desk c.serve_input-due.result.2 begun.opening c.close-disk.ensures.keeps served.ran.opening g.S.Source.left c.args.source.now c.serve_input-due.new.source (g.S.Source.faults c.args.source.now) (g.S.Source.faults c.serve_input-due.new.source) (g.K.Sink.held c.args.sink.now) (g.K.Sink.held c.begin.new.sink) (g.K.Sink.held c.serve_input-due.new.sink) (g.K.Sink.held c.tell_stop.new.sink) c.serve_input-due.result.1 begun.printed c.serve_input-due.result.0 c.tell_stop.result took served c.tell_stop.ensures.written)
+    subst (λ (d : g.row.D.Denot). WroteTaking (λ output. IsLiveDue g.S.Source.left g.D.Disk.seen output c.args.source.now c.serve_input-due.new.source c.args.disk d) (g.K.Sink.held c.args.sink.now) (g.K.Sink.held c.tell_stop.new.sink) (g.W.Witness.shown c.args.witness.now) (g.W.Witness.shown c.serve_input-due.new.witness) c.tell_stop.result) (sym c.close-disk.ensures.disk)
+    (wrote_live g.D.Disk.seen c.args.disk c.in-Ok-begin.begun.desk c.serve_input-due.result.2 begun.opening c.close-disk.ensures.keeps c.close-disk.ensures.counted served.ran.opening g.S.Source.left c.args.source.now c.serve_input-due.new.source (g.S.Source.faults c.args.source.now) (g.S.Source.faults c.serve_input-due.new.source) (g.K.Sink.held c.args.sink.now) (g.K.Sink.held c.begin.new.sink) (g.K.Sink.held c.serve_input-due.new.sink) (g.K.Sink.held c.tell_stop.new.sink)
+    (g.W.Witness.shown c.args.witness.now) (g.W.Witness.shown c.begin.new.witness) (g.W.Witness.shown c.serve_input-due.new.witness) c.serve_input-due.result.1 begun c.serve_input-due.result.0 c.tell_stop.result took served c.tell_stop.ensures.written)
 
 pub returns-clause-read_fault : goal.returns-clause-read_fault
 returns-clause-read_fault g c = λ source.

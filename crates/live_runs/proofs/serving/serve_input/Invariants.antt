@@ -6,7 +6,7 @@ use Rattle.live_runs.proofs.serving.serve_input.Given as goal
 abbrev pub invariant-loop-alloc : goal.invariant-loop-alloc
 invariant-loop-alloc g l = record {
   serving : IsServing g.D.Disk.seen (g.S.Source.left l.fn.source) (g.S.Source.left l.source) (g.S.Source.faults l.fn.source) (g.S.Source.faults l.source)
-      l.fn.desk (g.K.Sink.held l.fn.sink) l.desk l.intake (g.K.Sink.held l.sink) l.tally;
+      l.fn.desk (g.K.Sink.held l.fn.sink) (g.W.Witness.shown l.fn.witness) l.desk l.intake (g.K.Sink.held l.sink) (g.W.Witness.shown l.witness) l.tally;
   few : l.intake.served ≤ MOST_INPUT_BYTES + 2;
   empty : l.buffer.items ≡ [];
   room : OUTPUT_BYTES ≤ vec_capacity l.buffer;

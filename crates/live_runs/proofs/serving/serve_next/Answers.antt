@@ -9,7 +9,7 @@ use Rattle.batch_runs.specs.served_lines.specs.declared.answer.Answer.{Answer}
 use Rattle.batch_runs.specs.served_lines.specs.Ends.{has_line_end, is_full_end, is_memory_end}
 use Rattle.batch_runs.specs.printed_text.specs.Printing.{printed_of}
 use Rattle.batch_runs.specs.Serving.{answers_of, counted_answers}
-use Rattle.batch_runs.proofs.Batches.{unasked_adds}
+use Rattle.batch_runs.proofs.Batches.{shown_at, unasked_adds}
 use Rattle.batch_runs.proofs.Told.{tells}
 use Rattle.batch_runs.proofs.Unasked.{counted_ends}
 use Rattle.live_runs.proofs.Counted.{told_same}
@@ -69,6 +69,8 @@ returns-clause-told g c =
     ∙ ap (λ (a : List Answer). before.full || has_line_end is_full_end a) same in
     let x = g.K.Sink.held c.args.sink.now in
     let y = g.K.Sink.held c.print_counted-printed.new.sink in
+    let v = g.W.Witness.shown c.args.witness.now in
+    let w = g.W.Witness.shown c.show.new.self in
     let written = c.print_counted-printed.result in
     let text : List Answer → List ℕ = λ a. printed_of (take from new.history) (drop from new.history) a in
     let ok = subst (λ (a : List Answer). OnOk written (Appends x y (text a))) same c.print_counted-printed.ensures.ok in
@@ -77,7 +79,8 @@ returns-clause-told g c =
       answers = answers;
       live = live;
       told = tells g.D.Disk.seen c.args.desk new live.batch answers live.ran from place live.batch refl c.books-2.result.now.members c.books-2.ensures.history
-          before c.add.new.self memory c.add.ensures.device full x y written ok part;
+          before c.add.new.self memory c.add.ensures.device full x y v w written ok part
+          (shown_at g.W.Witness.shown c.args.witness.now c.show.new.self x c.disk.result.now new.disk c.show.ensures c.disk.ensures);
       batches = c.batches-2.ensures.batches;
       held = c.batches-2.ensures.held;
     }
