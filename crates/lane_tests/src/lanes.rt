@@ -1,5 +1,7 @@
 //! Batches, served by lanes side by side.
-use crate::acts::{MemoryDesk, desk_on, main_entries};
+ghost use Rattle.std.specs.Prelude.{◌≤◌};
+
+use crate::acts::{MemoryDesk, desk_on, main_entries, pool};
 use crate::steps::{Steps, UntilAllCome};
 use claim_history::{Act, Entry, Position, Reply};
 use flow_solver::PlainSolver;
@@ -57,16 +59,18 @@ pub fn served<R: Threads + Wait + Abort + Sync, G: Gate + Sync, P: Pause + Sync>
 
 // ---- lanes at the same time
 
-// Each lane from 1 to 16 has one entry, and the reply of each is that it is done.
-fn each_has_one(rt: &impl Abort, history: &[Entry]) {
-    assert!(rt; history.len() == 16);
+// The lanes from 1 to 8, or from 9 to 16, have one entry each in a pool, and the reply of each is that it is done.
+fn each_has_one(rt: &impl Abort, history: &[Entry], first: u32)
+    requires { first ≤ 100 }
+{
+    assert!(rt; history.len() == 8);
     assert!(rt; history.iter().all(|entry| entry.reply == Reply::Done));
-    for lane in 1..=16 {
-        assert!(rt; history.iter().any(|entry| entry.caller == lane));
+    for past in 0..8 {
+        assert!(rt; history.iter().any(|entry| entry.caller == first + past));
     }
 }
 
-// The gate of each line waits until all sixteen lines have come to it, so lanes in turn fail this.
+// The gate of each line waits until all sixteen lines have come to it, those of another pool, too, so lanes in turn fail this.
 #[test]
 fn lanes_are_served_at_the_same_time(rt: HostRuntime) {
     let alloc = rt.alloc();
@@ -78,14 +82,14 @@ fn lanes_are_served_at_the_same_time(rt: HostRuntime) {
 6 FIRM F-6
 7 FIRM F-7
 8 FIRM F-8
-9 FIRM F-9
-10 FIRM F-10
-11 FIRM F-11
-12 FIRM F-12
-13 FIRM F-13
-14 FIRM F-14
-15 FIRM F-15
-16 FIRM F-16
+9 @EAST FIRM F-9
+10 @EAST FIRM F-10
+11 @EAST FIRM F-11
+12 @EAST FIRM F-12
+13 @EAST FIRM F-13
+14 @EAST FIRM F-14
+15 @EAST FIRM F-15
+16 @EAST FIRM F-16
 ";
     let batches = batches_of(&rt, alloc, lines);
     assert!(rt; batches.len() == 1);
@@ -103,7 +107,8 @@ fn lanes_are_served_at_the_same_time(rt: HostRuntime) {
         &Nothing,
     );
     assert!(rt; !steps.was_late(&rt));
-    each_has_one(&rt, main_entries(&desk));
+    each_has_one(&rt, main_entries(&desk), 1);
+    each_has_one(&rt, desk.books().book(&pool(&rt, b"EAST")).history(), 9);
     drop(desk.close());
 }
 

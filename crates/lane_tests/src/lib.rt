@@ -18,6 +18,8 @@ mod pools;
 #[cfg(test)]
 mod rounds;
 #[cfg(test)]
+mod sixteen;
+#[cfg(test)]
 mod steps;
 #[cfg(test)]
 mod thousand;

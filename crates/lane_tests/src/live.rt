@@ -248,19 +248,19 @@ fn batches_follow_one_another(rt: HostRuntime) {
     }
 }
 
-// ---- a line is served before the next is read
+// ---- lines are served while the source waits
 
-// Notes the last line that was answered.
+// Counts the lines that were answered.
 #[derive(Drop)]
 struct Told {
-    line: AtomicU64,
+    lines: AtomicU64,
 }
 
 impl Told {
-    // Waits until a line was answered, for at most 1,000,000 turns; false where none was.
-    fn has_come(&self) -> bool {
+    // Waits until so many lines were answered, for at most 1,000,000 turns; false where fewer were.
+    fn have_come(&self, due: u64) -> bool {
         for _ in 0..1_000_000 {
-            if self.line.load(Ordering::SeqCst) > 0 {
+            if self.lines.load(Ordering::SeqCst) >= due {
                 return true;
             }
             thread::yield_now();
@@ -272,15 +272,16 @@ impl Told {
 impl Gate for Told {
     fn before<R: Wait>(&self, _rt: &R, _line: u64) {}
 
-    fn after<R: Wait>(&self, _rt: &R, line: u64) {
-        self.line.store(line, Ordering::SeqCst);
+    fn after<R: Wait>(&self, _rt: &R, _line: u64) {
+        let _ = self.lines.fetch_add(1, Ordering::SeqCst);
     }
 }
 
-// Gives one text, and another only when a line was answered.
+// Gives one text, and another only when so many lines were answered.
 #[derive(Drop)]
 struct Patient<'a> {
     told: &'a Told,
+    due: u64,
     first: SureSource,
     second: SureSource,
     late: bool,
@@ -298,31 +299,67 @@ impl Source for Patient<'_> {
             Ok(0) => {}
             given => return given,
         }
-        if !self.told.has_come() {
+        if !self.told.have_come(self.due) {
             self.late = true;
         }
         self.second.read(into)
     }
 }
 
-#[test]
-fn a_line_is_served_before_the_next_is_read(rt: HostRuntime) {
+// So many lines of a first text are answered while the source waits, and with a second one it comes to this.
+fn is_answered_meanwhile<R: Threads + Wait + Abort + Sync>(
+    rt: &R,
+    alloc: Global,
+    first: &[u8],
+    answered: u64,
+    second: &[u8],
+    due: &Due,
+) {
     let told = Told {
-        line: AtomicU64::new(0),
+        lines: AtomicU64::new(0),
     };
-    let first = Vec::from_slice(rt.alloc(), b"1 FIRM A\n2 FI").expect(&rt, "memory");
-    let second = Vec::from_slice(rt.alloc(), b"RM B\n").expect(&rt, "memory");
+    let first = Vec::from_slice(alloc, first).ok().expect(rt, "memory");
+    let second = Vec::from_slice(alloc, second).ok().expect(rt, "memory");
     let mut source = Patient {
         told: &told,
+        due: answered,
         first: SureSource::new(first),
         second: SureSource::new(second),
         late: false,
     };
-    let due = Due {
-        lines: 2,
-        members: 2,
-        stop: Stop::End,
-    };
-    comes_to(&rt, rt.alloc(), &mut source, 1_000, &told, &due);
+    comes_to(rt, alloc, &mut source, 1_000, &told, due);
     assert!(rt; !source.late);
+}
+
+// A line of a lane before one that is not whole; lines of two lanes; and those that come with a CLOSE, while each lane may be handed
+// more.
+#[test]
+fn lines_are_answered_while_the_source_waits(rt: HostRuntime) {
+    let close = b"1 CLOSE PLAIN 2025-12-31\n2 FIRM A\n16 FIRM B\n";
+    let cases: [(&[u8], u64, &[u8], usize, u64); 3] = [
+        (b"1 FIRM A\n2 FI", 1, b"RM B\n", 2, 2),
+        (b"1 FIRM A\n2 FIRM B\n", 2, b"2 FIRM C\n", 3, 3),
+        (close, 3, b"1 FIRM C\n16 FIRM D\n", 5, 6),
+    ];
+    for (first, answered, second, lines, members) in cases {
+        let due = Due {
+            lines,
+            members,
+            stop: Stop::End,
+        };
+        is_answered_meanwhile(&rt, rt.alloc(), first, answered, second, &due);
+    }
+}
+
+// A batch with a round ends with its FENCE, and its lanes are served side by side: those up to the last that was handed a line.
+#[test]
+fn a_round_beside_lines_of_other_lanes(rt: HostRuntime) {
+    let bytes = b"1 FIRM A\n1 CLOSE PLAIN 2025-12-31\n2 FIRM B\n5 FIRM C\nFENCE\n";
+    let mut source = source_of(&rt, rt.alloc(), bytes.as_slice(), 0);
+    let due = Due {
+        lines: 4,
+        members: 5,
+        stop: Stop::Fence,
+    };
+    comes_to(&rt, rt.alloc(), &mut source, 1_000, &Nothing, &due);
 }

@@ -147,3 +147,26 @@ fn lanes_ask_in_eight_pools(rt: HostRuntime) {
     }
     drop(desk.close());
 }
+
+// ---- many pools
+
+// So many lines, each of which registers a firm in a pool of its own.
+fn pools_of_one_firm(rt: &impl Abort, alloc: Global, count: u32) -> Vec<u8> {
+    let mut text = Vec::new(alloc);
+    for number in 0..count {
+        let line = format!(in alloc; "1 @P-{number} FIRM A\n").expect(rt, "memory");
+        text.extend_from_slice(line.as_bytes()).expect(rt, "memory");
+    }
+    text
+}
+
+#[test]
+fn six_thousand_pools(rt: HostRuntime) {
+    let alloc = rt.alloc();
+    let batches = batches_of(&rt, alloc, &pools_of_one_firm(&rt, alloc, 6_000));
+    assert!(rt; batches.len() == 1);
+    let desk = desk_on(&rt, alloc, b"");
+    let desk = served(&rt, alloc, desk, &batches[0], &Nothing, &Nothing);
+    assert!(rt; desk.books().len() == 6_000);
+    drop(desk.close());
+}
