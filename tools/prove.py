@@ -2,21 +2,25 @@
 """Proves crates of this repository and all that they stand on, several at a time.
 
     tools/prove.py [--at-once N] [--log FOLDER] [--costs] [CRATE..]
+    tools/prove.py --check CRATE [WORD..]
 
-Without a name it proves every crate and the tests of every crate of tests. A library is built, too, and a program is linked. What earlier runs proved is
-kept in crates/NAME/out and not proved again. The crate with the longest way still to go behind it comes first; where fewer crates are ready than there are
-processors, a crate gets several. How many seconds of a processor a crate takes is read from bench/costs.txt, and guessed from its lines where it is not
-listed there; --costs writes what the crates took that this run proved from scratch.
+Without a name it proves every crate and the tests of every crate of tests. A library is built, too, and a program is linked. The crate with the longest way
+still to go behind it comes first; where fewer crates are ready than there are processors, a crate gets several. How many seconds of a processor a crate
+takes is read from bench/costs.txt, and guessed from its lines where it is not listed there; --costs writes what the crates took that this run proved.
 
-`rt` does the same one crate after another, and sums up a crate's sources by walking every path of crates.txt below it. This script works over the modules
-of the kit's own `rt`, sums up each crate once, and leaves what `rt` leaves, so either goes on from the other. Status 0: all is proved; 1: something is not;
-2: this kit's `rt` has another form, and nothing was done."""
+With --check it proves what the crate stands on, and then checks the crate as `rt check` does, over what earlier checks of it kept. The further words go to
+the toolchain's checker: `--only PATH`, `--allow-holes`, `--start FUNCTION`, `--test`.
+
+As `rt ci` does, it builds each library with its statements alone, without the proofs: the checks of the crates above take half the time then. Such
+libraries stand in crates/NAME/out/statements, beside those with proofs that `rt check` builds for itself in crates/NAME/out/rlib. It works over the
+modules of the kit's own `rt`, and sums up each crate's sources once. Where the kit builds no such libraries, it builds those of `rt check`.
+Status 0: all is proved; 1: something is not; 2: this kit's `rt` has another form, and nothing was done."""
 import argparse
 import contextlib
+import hashlib
 import importlib.machinery
 import importlib.util
 import os
-import re
 import subprocess
 import sys
 import threading
@@ -62,9 +66,43 @@ def kit():
         return list(sets[crate.folder])
 
     rt.rtlib.Crate.__init__, rt.rtlib.Crate.stamp, rt.rtlib.Crate.below = make, stamp, below_once
-    for needed in ("build_rlib", "check", "run", "has_tests"):
+    for needed in ("build_rlib", "call", "check", "run", "words", "has_tests"):
         getattr(rt.rtlib.Crate, needed)
+    if "--statements" in rt.rtlib.help_of("build"):
+        build_statements(rt.rtlib)
     return rt.rtlib
+
+
+def build_statements(rtlib):
+    """Has libraries built with their statements alone, in a folder of their own. One fits only the very libraries that it was built over, so what is kept
+    with it names these by the sums in their formats."""
+    made = rtlib.Crate.__init__
+
+    def make(crate, *given, **named):
+        made(crate, *given, **named)
+        crate.rlib = f"{crate.folder}/out/statements/{crate.name}.rlib"
+
+    def sums(crate):
+        found = [crate.stamp(), *[rtlib.sum_of(f"{low.rlib}/format") for low in crate.below()]]
+        return hashlib.sha256(repr(found).encode()).hexdigest()
+
+    def is_built(crate):
+        return os.path.isdir(crate.rlib) and rtlib.text_of(f"{crate.rlib}.sums") == sums(crate)
+
+    def build_rlib(crate, flags, anew):
+        if not anew and crate.is_built():
+            return 0
+        with contextlib.suppress(FileNotFoundError):
+            os.remove(f"{crate.rlib}.sums")
+        os.makedirs(os.path.dirname(crate.rlib), exist_ok=True)
+        found = sums(crate)
+        status = crate.call(rtlib.RATTLE, "build", *crate.words(flags, keeps=False), "--statements", "-o", crate.rlib)
+        if status == 0 and found == sums(crate):
+            with open(f"{crate.rlib}.sums", "w", encoding="utf-8") as it:
+                it.write(found)
+        return status
+
+    rtlib.Crate.__init__, rtlib.Crate.is_built, rtlib.Crate.build_rlib = make, is_built, build_rlib
 
 
 def costs(crates):
@@ -100,7 +138,8 @@ class Work:
 
     def __init__(self, rtlib, crates, at_once, logs):
         self.rtlib, self.crates, self.at_once, self.logs = rtlib, crates, at_once, logs
-        self.spent, self.new = {}, {it.name for it in crates if not it.has_kept()}
+        # (what a check has kept makes the next one shorter, and a library is built without)
+        self.spent, self.new = {}, {it.name for it in crates if not it.has_kept() or not (it.is_program or it.has_tests())}
         self.cost = costs(crates)
         self.waits = {it.name: {low.name for low in it.below()} for it in crates}
         self.behind = {}
@@ -153,16 +192,6 @@ class Work:
             self.running[crate.name], self.since[crate.name] = jobs, time.time()
             threading.Thread(target=self.run, args=(crate, jobs), daemon=True).start()
 
-    def checked(self, name):
-        """How many functions of a crate at work are checked: each leaves its last module in what the check keeps."""
-        folder, since = f"{HOME}/crates/{name}/out/incremental", self.since[name]
-        ties = (f"{at}/{file}" for at, _, files in os.walk(folder) for file in files if file.endswith(".Tie.oantt") and f"Rattle-{name}-" in file)
-        found = 0
-        for it in ties:
-            with contextlib.suppress(FileNotFoundError):
-                found += os.path.getmtime(it) >= since
-        return found
-
     def write_costs(self):
         """Puts what the crates took that were proved from scratch into the table."""
         found = {**self.cost, **{name: spent for name, spent in self.spent.items() if name in self.new and self.done[name] == 0}}
@@ -170,13 +199,8 @@ class Work:
             table.writelines(f"{name} {seconds:.0f}\n" for name, seconds in sorted(found.items()))
 
     def at_work(self):
-        """Each crate at work with the functions that are checked out of all that have to be."""
-        told = []
-        for name in self.running:
-            with contextlib.suppress(OSError), open(self.log_of(name), encoding="utf-8", errors="replace") as log:
-                found = re.findall(r"\d+ of (\d+)", log.read())
-                told.append(f"{name} {min(self.checked(name), int(found[-1]))}/{found[-1]}" if found else name)
-        return ", ".join(told)
+        """Each crate at work, with the seconds that have gone of those that its check usually takes."""
+        return ", ".join(f"{name} {time.time() - self.since[name]:.0f}/{self.cost[name] / jobs:.0f} s" for name, jobs in self.running.items())
 
     def tell(self):
         whole = sum(self.cost.values())
@@ -205,9 +229,12 @@ def main():
     asks.add_argument("--at-once", type=int, default=len(os.sched_getaffinity(0)))
     asks.add_argument("--log", default=f"{HOME}/crates/bureau_program/out/logs")
     asks.add_argument("--costs", action="store_true")
+    asks.add_argument("--check", nargs=argparse.REMAINDER, metavar="CRATE")
     asks.add_argument("--alone", type=int, help=argparse.SUPPRESS)
     asks.add_argument("crates", nargs="*")
     given = asks.parse_args()
+    if given.check is not None:
+        given.crates = given.check[:1] or asks.error("--check takes the name of a crate")
     try:
         rtlib = kit()
     except (OSError, AttributeError, subprocess.CalledProcessError) as why:
@@ -226,10 +253,14 @@ def main():
         return prove(named[0], given.alone)
     held = rtlib.lock(crates)
     os.makedirs(given.log, exist_ok=True)
+    checked = crates.pop() if given.check else None
     work = Work(rtlib, crates, given.at_once, given.log)
-    status = work.go()
+    status = work.go() if crates else 0
     if given.costs:
         work.write_costs()
+    if checked and status == 0:
+        # (its last line tells what was proved)
+        return checked.check(["--jobs", str(min(4, given.at_once)), *given.check[1:]])
     said = "all is proved" if status == 0 else "NOT ALL IS PROVED"
     print(f"{said}: {(time.time() - work.begun) / 60:.1f} minutes by the clock, {sum(work.spent.values()) / 60:.1f} of the processors", flush=True)
     del held

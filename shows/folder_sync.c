@@ -1,4 +1,4 @@
-/* Lets every sync of a folder fail with the error of the number FOLDER_SYNC, for bench/edges.sh. Loaded by LD_PRELOAD. */
+/* Lets every sync of a folder fail with the error of the number FOLDER_SYNC, for shows/edges.sh. Loaded by LD_PRELOAD. */
 #define _GNU_SOURCE
 #include <dlfcn.h>
 #include <errno.h>

@@ -1,5 +1,5 @@
 #!/usr/bin/env bash
-# Refuses one growth of memory at a time in a run of the bureau: bench/refused_memory.sh [FILE.. | day]
+# Refuses one growth of memory at a time in a run of the bureau: shows/refused_memory.sh [FILE.. | day]
 # Each growth of the run, from the first to the last, is refused in a run of its own, by bench/allocations.c. Such a run ends with
 # status 9; or with 3, 4 or 5 where the growth was inside the source, the sink or the disk, which count it as a fault; or with the same
 # lines, where no thread could be started and the work was done without it. The journal that it leaves is sound. Prints how many growths
@@ -7,7 +7,7 @@
 # rounds of three firms and on the day of bench/day.sh.
 set -eu
 
-. "$(dirname "$0")/program.sh"
+. "$(dirname "$0")/../bench/program.sh"
 [ $# -gt 0 ] || set -- "$here/../examples/rounds.requests" day
 cc -O2 -shared -fPIC -o counter.so "$here/allocations.c" -ldl
 bad=0

@@ -1,5 +1,5 @@
 #!/usr/bin/env python3
-"""Shows that `run` and `live` serve alike where no thread can be made: bench/no_threads.py [PROGRAM]
+"""Shows that `run` and `live` serve alike where no thread can be made: shows/no_threads.py [PROGRAM]
 
 Both serve two inputs as a user who may have one process and no thread, which is tried in that process before the program is begun. One
 has lines of sixteen lanes, a FENCE after each hundred, and a round among them, the other those of one lane alone; the last line of each

@@ -5,12 +5,13 @@
 # what came to something else; then the status is 1. Run by hand, as root: it mounts small disks in memory, and makes a device.
 set -eu
 
-. "$(dirname "$0")/program.sh"
+shows=$(cd "$(dirname "$0")" && pwd)
+. "$shows/../bench/program.sh"
 folder=$PWD
 trap 'for at in "$folder"/*/disk; do ! mountpoint -q "$at" || umount "$at"; done; rm -rf "$folder"' EXIT
 chmod 755 "$folder"
 install -m 755 "$program" bureau
-cc -O2 -shared -fPIC -o folder_sync.so "$here/folder_sync.c" -ldl
+cc -O2 -shared -fPIC -o folder_sync.so "$shows/folder_sync.c" -ldl
 "$here/inputs.sh" 300 >requests
 python3 - "$folder" <<'PYTHON'
 import os

@@ -1,4 +1,4 @@
-"""Runs the commands of a document and compares what they write: python3 bench/tour.py [--on] [DOCUMENT [PROGRAM]]
+"""Runs the commands of a document and compares what they write: python3 tools/tour.py [--on] [DOCUMENT [PROGRAM]]
 
 A command stands behind `$ ` in a block of the document, which is README.md where none is named, with its output below it. Each block is
 run in a folder of its own, which has no journal at first; with --on all blocks go on in one folder. PROGRAM stands in for ./bureau.

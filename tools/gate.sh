@@ -1,5 +1,5 @@
 #!/usr/bin/env bash
-# Times a run of the gate from nothing, crate by crate: bench/gate.sh [--kept] [CRATE..]
+# Times a run of the gate from nothing, crate by crate: tools/gate.sh [--kept] [CRATE..]
 # Runs `rt ci --anew` with one processor for each check, and looks once a second at what each of its checks has used. It prints a
 # table in processor minutes: of each crate the check, that of its tests, and its must-fail edits. `rest` is what the looks do not
 # see: the last second of each check, the programs, and rt itself. The words of rt go to bench/out/gate.log. With names it runs

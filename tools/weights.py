@@ -1,4 +1,4 @@
-"""Prints what the proofs of each function weigh: python3 bench/weights.py [CRATE..]
+"""Prints what the proofs of each function weigh: python3 tools/weights.py [CRATE..]
 
 A check leaves what it proved in crates/NAME/out/. By this one sees what is dear to prove, whatever else the machine does. Most bytes
 are the states of a body, which grow faster than the body does, and most where a large value is given up on many paths. Most steps are

@@ -1,5 +1,5 @@
 #!/usr/bin/env bash
-# Turns one bit of a journal at a time and runs the bureau on it: bench/damaged_journal.sh [DRAWS [SEED]]
+# Turns one bit of a journal at a time and runs the bureau on it: shows/damaged_journal.sh [DRAWS [SEED]]
 # The journal is that of 300 requests, with a round. A run without requests either ends with status 8 and changes no byte, or with 0,
 # and `audit` then calls the journal sound. Prints how many draws gave what, and each that gave something else; then the status is 1.
 # The bits are drawn by x -> (x * 1664525 + 1013904223) mod 2^32 from the seed. Run by hand: 1,000 draws with the seed 1.
@@ -7,7 +7,7 @@ set -eu
 
 draws=${1:-1000}
 seed=${2:-1}
-. "$(dirname "$0")/program.sh"
+. "$(dirname "$0")/../bench/program.sh"
 
 { "$here/inputs.sh" 300; echo "1 CLOSE PLAIN 2025-12-31"; "$here/inputs.sh" 330 | tail -n 30; } | "$program" run >/dev/null
 exec python3 - "$program" "$draws" "$seed" <<'PYTHON'

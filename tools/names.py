@@ -1,4 +1,4 @@
-"""Compares the names of the crates with the documents: python3 bench/names.py [CRATE..]
+"""Compares the names of the crates with the documents: python3 tools/names.py [CRATE..]
 
 Prints each name that stands on one side alone, and nothing where all agree. In docs/PROVED.md each public function, law and trait has an
 item, and each clause in parentheses there is one. In docs/LAYERS.md each crate has an item, and each file of a walk is there. In
@@ -18,7 +18,7 @@ GIVEN_ON = re.compile(r"\bRattle\.\w+\.specs\.(?=\w+\.(?:specs|proofs)\.)")
 WORD = r"(?:abbrev |unfoldable )?pub (?:(record|data) )?([^\s:({]+)"
 INDEX_HEAD = """# Index
 
-`python3 bench/names.py --write` makes this file of the crates, and nobody edits it.
+`python3 tools/names.py --write` makes this file of the crates, and nobody edits it.
 """
 
 
@@ -99,6 +99,15 @@ def definitions(text):
     return found
 
 
+def given_on_modules():
+    """Of each module of specs/ that a crate gives on from another one, `(crate, Module)`, where it stands."""
+    homes = {}
+    for file in CRATES.glob("*/specs/Lib.antt"):
+        for home, module in re.findall(r"^pub use Rattle\.(\w+)\.specs\.([A-Z]\w*) as \w+$", text_of(file), re.M):
+            homes[file.parent.parent.name, module] = (home, module)
+    return homes
+
+
 def reached():
     """The files of specs/ that the clauses of `bureau` and the definitions of these reach, as `crate Module`."""
     files = [f for f in CRATES.glob("*/specs/*.antt") if f.stem != "Lib"]
@@ -108,10 +117,12 @@ def reached():
     top = text_of(CRATES / "bureau_commands" / "src" / "top.rt")
     asked = set(re.findall(r"[\w']+", re.search(r"pub fn bureau<.*?^\{", top, re.M | re.S)[0]))
     imports = re.findall(r"use Rattle\.(\w+)\.specs\.(\w+)\.\{([^}]*)\}", top)
+    homes = given_on_modules()
     to_do = [((crate, module), name) for crate, module, names in imports for name in asked & set(names.split(", ")) if name[0].isupper()]
     found = set()
     while to_do:
         place, word = to_do.pop()
+        place = homes.get(place, place)
         if (place, word) in found or word not in known.get(place, {}):
             continue
         found.add((place, word))
