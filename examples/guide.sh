@@ -3,4 +3,4 @@
 # PROGRAM stands in for ./bureau. Status 1: some output is another one.
 set -eu
 home=$(cd "$(dirname "$0")/.." && pwd)
-exec python3 "$home/bench/tour.py" --on "$home/docs/GUIDE.md" "$@"
+exec python3 "$home/tools/tour.py" --on "$home/docs/GUIDE.md" "$@"
