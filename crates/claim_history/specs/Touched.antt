@@ -32,7 +32,10 @@ is_of_firm l firm (act.Fund other amount) = same_name firm other
 is_of_firm l firm (act.Draw other amount) = same_name firm other
 is_of_firm l firm (act.Limit other credit ceiling) = same_name firm other
 is_of_firm l firm (act.Offer other amount) = same_name firm other
-is_of_firm l firm _ = false
+is_of_firm l firm (act.Position other) = false
+is_of_firm l firm (act.Close kind horizon) = false
+is_of_firm l firm act.Abandon = false
+is_of_firm l firm (act.Publish round outcome) = false
 
 -- a refusal touches no firm, and a publication any; another accepted act those that are named
 abbrev pub touches_by : Ledger → List ℕ → Act → Reply → Bool
