@@ -1,12 +1,12 @@
 -- Which batches of an input were served, by why the last of them ended.
-use Rattle.std.specs.Prelude.{◌≡◌, ◌⊎◌, ◌+◌, ◌≤◌, ℕ, Bool, true, false, Option, List, [], ◌∷◌, ◌++◌, length, take}
+use Rattle.std.specs.Prelude.{◌≡◌, ◌⊎◌, ◌+◌, ◌≤◌, ℕ, Bool, true, false, Option, List, [], ◌∷◌, ◌++◌, drop, length, take}
 use Rattle.std.specs.Io.KnownBytes.{IsAtEnd}
 use Rattle.setoff_model.specs.declared.limits.TheConstants.{MOST_INPUT_BYTES}
 use Rattle.served_lines.specs.request_text.specs.declared.error.LineCause.{LineCause}
 use Rattle.served_lines.specs.request_text.specs.declared.request.Request.{Request}
 use Rattle.served_lines.specs.request_text.specs.Grammar.{AreBatches, IsFirstBadLine, IsRequestText}
 use Rattle.input_front.specs.Front.{IsFrontOf, whole_lines}
-use Rattle.input_front.specs.Taken.{IsFirstWholeBad, IsWhole}
+use Rattle.input_front.specs.Taken.{HasNoFeed, IsFirstWholeBad, IsWhole}
 use Rattle.live_reading.specs.declared.stop.Stop.{Stop}
 use Rattle.live_reading.specs.declared.stop.Stop.TheVariants as stop
 
@@ -35,7 +35,8 @@ IsBadLineOf left taken line cause = IsFirstBadLine taken line cause
 
 -- These batches were served of the bytes that were taken. At the end of the input they are all, or all but an empty one behind a
 -- FENCE without a line feed. Where the source failed, and where it had a byte more than may be taken, each whole line that was taken
--- is one of theirs. Where there was no memory for a line, they are those of the lines before it.
+-- is one of theirs. Where there was no memory for a line, they are those of the lines before it; where no whole line is left unread,
+-- those of all bytes that were taken.
 abbrev pub IsFrontServed : Option (List ℕ) → List ℕ → List (List Request) → Stop → Type 0
 IsFrontServed left taken batches stop.Fence = BeginsWith taken batches
 IsFrontServed left taken batches stop.End =
@@ -43,4 +44,5 @@ IsFrontServed left taken batches stop.End =
 IsFrontServed left taken batches (stop.BadLine line cause) = IsFrontOf taken false batches × IsBadLineOf left taken line cause
 IsFrontServed left taken batches stop.Failed = AreBatches 1 (whole_lines taken) batches × (length taken ≤ MOST_INPUT_BYTES)
 IsFrontServed left taken batches stop.TooLong = AreBatches 1 (whole_lines taken) batches × (length taken ≡ MOST_INPUT_BYTES + 1)
-IsFrontServed left taken batches stop.Memory = (read : ℕ) × IsFrontOf (take read taken) false batches
+IsFrontServed left taken batches stop.Memory =
+    (read : ℕ) × IsFrontOf (take read taken) false batches × (HasNoFeed (drop read taken) → IsFrontOf taken false batches)

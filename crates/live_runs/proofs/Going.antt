@@ -110,7 +110,7 @@ module _ {D : Type 0} (seen : D → Seen) (left_first : Option (List ℕ)) (faul
     )
     front_of stop.Failed i = (all_whole w t.batches i.1 served (i.0 so.batches so.read), subst (λ (n : ℕ). length w.taken ≤ n) limit_now i.3)
     front_of stop.TooLong i = (all_whole w t.batches i.1 served (i.0 so.batches so.read), omega (arith, limit_now, i.2, t.held))
-    front_of stop.Memory i = (w.read, i.0 so.batches so.read)
+    front_of stop.Memory i = (w.read, i.0 so.batches so.read, λ none. (i.1 none).0 so.batches so.read)
 
     failed_of : (q : Stop) → Stops q → q ≡ stop.Failed → HasRisen faults_first (faults s1)
     failed_of stop.Failed i is = risen_within faults_first (faults s0) (faults s1) (faults s1) so.later (omega arith) i.2
