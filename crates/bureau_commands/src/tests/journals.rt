@@ -1,4 +1,4 @@
-use crate::runs::{Left, disk_of, expect_audit, left_by, program, sink_of, source_of};
+use crate::tests::runs::{Left, disk_of, expect_audit, left_by, program, sink_of, source_of};
 use std::alloc::Global;
 use std::process::Abort;
 use std::sync::Wait;

@@ -1,7 +1,7 @@
 //! One failing call at a time, and counts of faults at their last value.
 
-use crate::journals::{TRIANGLE, TWO_OPEN};
-use crate::runs::{
+use crate::tests::journals::{TRIANGLE, TWO_OPEN};
+use crate::tests::runs::{
     FOUR_ENTRIES, FOUR_LINES, disk_of, expect_audit, failing_source, left_by, left_on, lines_with,
     sink_of, source_of, text_with,
 };

@@ -1,6 +1,6 @@
 //! Words, the tables of a journal, invoices, and a day of forty firms.
-use crate::journals::TRIANGLE;
-use crate::runs::{copied, left_by, lines_with};
+use crate::tests::journals::TRIANGLE;
+use crate::tests::runs::{copied, left_by, lines_with};
 use std::alloc::{AllocError, Global};
 use std::process::Abort;
 use std::sync::Wait;

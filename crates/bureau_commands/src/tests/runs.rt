@@ -1,4 +1,4 @@
-use bureau_commands::{Ended, Unhindered, bureau, without_words};
+use crate::{Ended, Unhindered, bureau, without_words};
 use bureau_edge::{BytesSink, BytesSource, Failed, Sink, Source, SureSource};
 use disk_model::{Disk, MemoryDisk};
 use std::alloc::Global;

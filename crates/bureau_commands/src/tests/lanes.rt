@@ -3,8 +3,8 @@ ghost use Rattle.std.specs.Prelude.{◌≡◌, ◌+◌, ◌≤◌, true, length}
 ghost use Rattle.fault_count.specs.Counts.{HasRisen, next_count};
 ghost use Rattle.disk_model.specs.Untold.{untold};
 
-use crate::runs::{disk_of, expect_end, is_like, sink_of, source_of, words_of};
-use bureau_commands::{Gate, Pause, SilentWitness, Unhindered, Witness, bureau, bureau_in_order};
+use crate::tests::runs::{disk_of, expect_end, is_like, sink_of, source_of, words_of};
+use crate::{Gate, Pause, SilentWitness, Unhindered, Witness, bureau, bureau_in_order};
 use bureau_edge::{BytesSink, Failed, Sink};
 use disk_model::{Disk, DiskFailed, MemoryDisk};
 use fault_count::next_count;

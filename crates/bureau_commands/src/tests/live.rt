@@ -1,9 +1,9 @@
 //! Inputs that are served while they are read.
-use crate::runs::{
+use crate::tests::runs::{
     FOUR_ENTRIES, FOUR_LINES, ROUNDS, Zeros, copied, disk_of, expect_audit, expect_end,
     failing_source, left_by, left_on, sink_of, source_of, words_of,
 };
-use bureau_commands::{Gate, Unhindered, bureau};
+use crate::{Gate, Unhindered, bureau};
 use bureau_edge::{Failed, Source, SureSource};
 use std::alloc::Global;
 use std::process::Abort;

@@ -1,6 +1,6 @@
 //! What a journal holds, as text.
-use crate::journals::{TRIANGLE, TWO_OPEN};
-use crate::runs::left_by;
+use crate::tests::journals::{TRIANGLE, TWO_OPEN};
+use crate::tests::runs::left_by;
 use std::alloc::Global;
 use std::process::Abort;
 use std::sync::Wait;

@@ -1,5 +1,5 @@
 //! Claims of which a part is agreed to.
-use crate::runs::{expect_end, left_by};
+use crate::tests::runs::{expect_end, left_by};
 
 // A claim of 10.00 of which 6.00 are agreed to, and one of 10.00 against it.
 const PART_AND_WHOLE: &[u8] =
