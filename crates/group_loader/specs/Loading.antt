@@ -76,6 +76,12 @@ abbrev pub IsLoadError : List PoolEntry → Call → LoadError → Type 0
 IsLoadError history call Memory = Unit {0}
 IsLoadError history call (Full full) = IsFull history call full
 
+-- What is left where a call has no entry. Where there was no memory, some of the room for it may have been made. Where it is full, all
+-- is as it was: no room was made for it, and no book for its pool.
+abbrev pub IsLeftBy : {D : Type 0} → LoadView D → LoadView D → LoadError → Type 0
+IsLeftBy old new Memory = (new.books.members ≡ old.books.members) × (new.group ≡ old.group)
+IsLeftBy old new (Full full) = new ≡ old
+
 -- the record of the call is put at the end of the group
 pub record Holding (old new : List ℕ) (call : Call) : Type 0 where
   pub group : (bodies : List (List ℕ)) → IsGroup bodies old → IsGroup (bodies ++ body_of call ∷ []) new

@@ -2,14 +2,16 @@
 ghost use Rattle.std.specs.Prelude.{◌≡◌, ◌+◌, ◌<◌, ◌≤◌, ◌++◌, ◌∷◌, [], length, true, false, All, IsTrue, IfOk, IfErr, OnOk, OnErr, vec_capacity};
 ghost use Rattle.claim_history.specs.Acts.{is_valid, is_publication, is_close};
 ghost use Rattle.claim_history.specs.History.{is_no_refusal};
-ghost use Rattle.claim_history.specs.Pools.{AreValid, IsLegal, accepted_calls, answered, call_of, due_reply};
+ghost use Rattle.claim_history.specs.Pools.{AreValid, IsLegal, accepted_calls, answered, call_of, due_reply, state_in};
 ghost use Rattle.claim_history.specs.Needs.{body_length_of};
 ghost use Rattle.claim_history.specs.PoolNeeds.{IsWithinLimits, is_full, pool_bytes, used_bytes_of};
+ghost use Rattle.limited_book.specs.claim_book.specs.Book.{room_for};
+ghost use Rattle.limited_book.specs.claim_book.specs.Pools.{room_in};
 ghost use Rattle.limited_book.specs.Limited.{IsFull};
 ghost use Rattle.round_journal.specs.Appends.{IsFaultOf};
 ghost use Rattle.act_bodies.specs.Bodies.{is_keepable};
 ghost use Rattle.group_loader.specs.Groups.{HasGroupMoments};
-ghost use Rattle.group_loader.specs.Loading.{HasKept, HasStopped, Holding, IsLoadError, KeepsCalls, kept_calls, pending_calls};
+ghost use Rattle.group_loader.specs.Loading.{HasKept, HasStopped, Holding, IsLeftBy, IsLoadError, KeepsCalls, kept_calls, pending_calls};
 
 use act_bodies::{body_length, encode};
 use claim_history::{Call, Entry, Reply};
@@ -87,7 +89,8 @@ impl<D: Disk> Loader<D> {
     /// Answers a call that is no Close and no publication, and puts its entry at the end of the books. Where it is accepted, its record
     /// goes into the group. The disk is not called.
     ///
-    /// Memory: there was none for it. Full: it needs more entries or bytes than there may be. After an error nothing has changed.
+    /// Memory: there was none for it. Full: it needs more entries or bytes than there may be, and no memory was taken for it. After an
+    /// error nothing has changed.
     pub fn take(&mut self, call: Call) -> Result<Reply, LoadError>
         // The caller may ask the act, and a journal can keep it.
         requires keepable { is_keepable call ≡ true }
@@ -100,26 +103,21 @@ impl<D: Disk> Loader<D> {
         ensures fits { OnOk result (is_full self.old.books.members call ≡ false) }
         ensures error { IfErr result (IsLoadError self.old.books.members call) }
         ensures untouched { OnErr result ((self.new.books.members ≡ self.old.books.members) × (self.new.group ≡ self.old.group)) }
+        ensures left { IfErr result (IsLeftBy self.old self.new) }
 
         // Nothing is kept yet.
         ensures journal { self.new.journal ≡ self.old.journal }
         ensures kept { self.new.kept ≡ self.old.kept }
     {
-        self.body.clear();
-        let len = body_length(&call.pool, &call.act) as usize;
-        let Ok(()) = self.body.reserve(len) else {
-            drop(call);
-            return Err(LoadError::Memory);
-        };
-        let Ok(()) = self.books.reserve(&call) else {
-            drop(call);
-            return Err(LoadError::Memory);
-        };
         let due = self.books.answer(&call);
         if let Err(full) = self.books.fits(&call, due) {
             drop(call);
             return Err(LoadError::Full(full));
         }
+        let Ok(()) = make_room(&mut self.books, &mut self.body, &call) else {
+            drop(call);
+            return Err(LoadError::Memory);
+        };
         let Ok(()) = hold(&mut self.group, &mut self.body, &call, due) else {
             drop(call);
             return Err(LoadError::Memory);
@@ -206,6 +204,19 @@ impl<D: Disk> Loader<D> {
         drop(books);
         journal.close()
     }
+}
+
+// Makes the room that a call needs in the books, and for its body. The only error is that memory is missing.
+fn make_room(books: &mut LimitedBooks, body: &mut Vec<u8>, call: &Call) -> Result<(), AllocError>
+    requires { is_valid call.now.act ≡ true }
+    ensures members { books.new.members ≡ books.old.members }
+    ensures room { OnOk result
+        (room_for (state_in books.old.members call.now.pool) call.now.act ≤ room_in call.now.pool books.new.rooms) }
+    ensures spare { OnOk result (body_length_of call.now.act + pool_bytes call.now.pool ≤ vec_capacity body.new) }
+{
+    body.clear();
+    body.reserve(body_length(&call.pool, &call.act) as usize)?;
+    books.reserve(call)
 }
 
 // Puts the record of a call whose act is accepted into the group. The only error is that memory is missing.
