@@ -33,6 +33,7 @@ pub use served_lines::{
     Answer, Book, Books, ClaimFact, Day, Full, LineEnd, build_cut,
     cut_of_a_history_is_of_its_facts, is_due, some_full, some_memory,
 };
+pub use statement::{print_claim, print_head, print_party, print_statement};
 pub use statement_text::{
     StatementCause, StatementError, read_statement, write_end, write_party, write_total,
     write_weighed_claim, write_weighed_head,

@@ -15,8 +15,8 @@ use bureau_edge::{Failed, Sink};
 use setoff_model::{Cut, Outcome, Party};
 use statement_text::{write_claim, write_end, write_head, write_party};
 
-// Prints the line of the round.
-fn print_head<K: Sink>(sink: &mut K, buffer: &mut Vec<u8>, cut: &Cut) -> Result<(), Failed>
+/// Prints the line of the round. The buffer has room for `OUTPUT_BYTES`.
+pub fn print_head<K: Sink>(sink: &mut K, buffer: &mut Vec<u8>, cut: &Cut) -> Result<(), Failed>
     requires round { 1 ≤ cut.now.round }
     requires spare { OUTPUT_BYTES ≤ vec_capacity buffer.old }
 
@@ -33,8 +33,8 @@ fn print_head<K: Sink>(sink: &mut K, buffer: &mut Vec<u8>, cut: &Cut) -> Result<
     Ok(())
 }
 
-// Prints the line of a party.
-fn print_party<K: Sink>(
+/// Prints the line of a party. The buffer has room for `OUTPUT_BYTES`.
+pub fn print_party<K: Sink>(
     sink: &mut K,
     buffer: &mut Vec<u8>,
     party: &Party,
@@ -87,8 +87,8 @@ fn print_parties<K: Sink>(
     Ok(())
 }
 
-// Prints the line of the claim at a place.
-fn print_claim<K: Sink>(
+/// Prints the line of the claim at a place. The buffer has room for `OUTPUT_BYTES`.
+pub fn print_claim<K: Sink>(
     sink: &mut K,
     buffer: &mut Vec<u8>,
     cut: &Cut,
