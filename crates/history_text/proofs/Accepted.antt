@@ -32,7 +32,8 @@ use Rattle.setoff_model.specs.CutView.{CutView, OutcomeView}
 use Rattle.setoff_model.proofs.SameNames.{name_same}
 use Rattle.printed_text.specs.entry_text.specs.Entries.{entry_line}
 use Rattle.printed_text.specs.Printing.{added_text, member_text, statement_of}
-use Rattle.history_text.specs.Histories.{IsRoundText, IsStatementOf, IsTextWhere, is_published_by, publication_place, publishes_round}
+use Rattle.history_text.specs.declared.round_form.RoundForm.TheVariants as forms
+use Rattle.history_text.specs.Histories.{IsFormOf, IsRoundText, IsTextWhere, is_published_by, publication_place, publishes_round}
 use Rattle.history_text.specs.Accepted.{ReplayedLaw, RetoldLaw, StatementLaw, accepted_text}
 
 -- ---- the replay
@@ -161,8 +162,8 @@ module _ (round : ℕ) (pool : List ℕ) (history : List PoolEntry) (front later
   found : publication_place round pool history ≡ Some (length front)
   found = ap (position (publishes_round round)) parts ∙ place_is front later e round legal is
 
-  statement_told : IsStatementOf round pool history text
-  statement_told = subst (λ (b : Bool). IsTextWhere b round pool history text) (ap is_some found) told
+  statement_told : IsFormOf forms.Statement round pool history text
+  statement_told = subst (λ (b : Bool). IsTextWhere b forms.Statement round pool history text) (ap is_some found) told
 
   told_place : statement_told.place ≡ length front
   told_place = same_Some statement_told.place (length front) (sym statement_told.found ∙ found)

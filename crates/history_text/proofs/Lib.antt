@@ -1,5 +1,8 @@
 pub mod Accepted
+pub mod Behind
 pub mod Due
+pub mod Listing
+pub mod PageLines
 pub mod Printed
 pub mod Replayed
 pub mod Stated

@@ -18,9 +18,10 @@ use Rattle.claim_history.specs.Pools.{AreValid, IsLegal, entries_in, main_pool, 
 use Rattle.claim_history.specs.PoolRounds.{cuts_after, open_cut_in}
 use Rattle.claim_history.proofs.Pools.{main_law}
 use Rattle.printed_text.specs.declared.exit_status.ExitStatus.TheVariants as statuses
-use Rattle.printed_text.specs.Printing.{IsPrintable, IsPrintableAt, statement_of}
+use Rattle.printed_text.specs.Printing.{IsPrintable, IsPrintableAt}
 use Rattle.printed_text.proofs.Members.{published_at}
-use Rattle.history_text.specs.Histories.{IsRoundText, IsTextWhere, is_published_by, no_round_text, publication_place, publishes_round, round_status, told_members, was_published}
+use Rattle.history_text.specs.declared.round_form.RoundForm.{RoundForm}
+use Rattle.history_text.specs.Histories.{IsFormText, IsTextWhere, is_published_by, no_round_text, publication_place, publishes_round, round_status, text_in_form, told_members, was_published}
 use Rattle.history_text.proofs.Telling.{told_entry, told_legal, told_many, told_valid}
 
 -- ---- the entry
@@ -112,19 +113,19 @@ stated_at round pool history place found legal valid before before_is =
           subst (λ (x : Entry). IsPrintableAt (s.given ∷ []) 0 x.act) same s.printable;
     }
 
--- a statement is told of a round that was published
-pub round_stated : (round : ℕ) (pool : List ℕ) (history : List PoolEntry) (place : ℕ) (e : Entry) (text : List ℕ) → publication_place round pool history ≡ Some place → slice_get (entries_in pool history) place ≡ Some e
-    → text ≡ statement_of (open_cut_of (take place (entries_in pool history))) e.act e.reply → IsRoundText round pool history text × (round_status round pool history ≡ statuses.Done)
-round_stated round pool history place e text found stands is =
+-- its text is told of a round that was published
+pub round_stated : (form : RoundForm) (round : ℕ) (pool : List ℕ) (history : List PoolEntry) (place : ℕ) (e : Entry) (text : List ℕ) → publication_place round pool history ≡ Some place → slice_get (entries_in pool history) place ≡ Some e
+    → text ≡ text_in_form form (open_cut_of (take place (entries_in pool history))) e.act e.reply → IsFormText form round pool history text × (round_status round pool history ≡ statuses.Done)
+round_stated form round pool history place e text found stands is =
     let yes : was_published round pool history ≡ true = ap is_some found in (
-      subst (λ (b : Bool). IsTextWhere b round pool history text) (sym yes) (record { place = place; entry = e; found = found; stands = stands; text_is = is }),
+      subst (λ (b : Bool). IsTextWhere b form round pool history text) (sym yes) (record { place = place; entry = e; found = found; stands = stands; text_is = is }),
       ap (λ (b : Bool). if b then statuses.Done else statuses.No) yes,
     )
 
 -- and else that there is none
-pub none_stated : (round : ℕ) (pool : List ℕ) (history : List PoolEntry) → publication_place round pool history ≡ None → IsRoundText round pool history (no_round_text round) × (round_status round pool history ≡ statuses.No)
-none_stated round pool history none =
+pub none_stated : (form : RoundForm) (round : ℕ) (pool : List ℕ) (history : List PoolEntry) → publication_place round pool history ≡ None → IsFormText form round pool history (no_round_text round) × (round_status round pool history ≡ statuses.No)
+none_stated form round pool history none =
     let no : was_published round pool history ≡ false = ap is_some none in (
-      subst (λ (b : Bool). IsTextWhere b round pool history (no_round_text round)) (sym no) refl,
+      subst (λ (b : Bool). IsTextWhere b form round pool history (no_round_text round)) (sym no) refl,
       ap (λ (b : Bool). if b then statuses.Done else statuses.No) no,
     )

@@ -1,5 +1,5 @@
 //! The entries of a history, printed in order. They are replayed only where a round is published behind them.
-ghost use Rattle.std.specs.Prelude.{ℕ, ◌≡◌, ◌<◌, ◌≤◌, ◌++◌, ◌∷◌, [], true, is_some, Some, OnErr, OnOk, IfOk, length, slice_get, take, vec_capacity};
+ghost use Rattle.std.specs.Prelude.{ℕ, ◌≡◌, ◌<◌, ◌≤◌, ◌++◌, ◌∷◌, [], true, is_some, Some, OnErr, OnOk, IfOk, length, slice_get, take, drop, vec_capacity};
 ghost use Rattle.setoff_model.specs.declared.limits.TheConstants.{OUTPUT_BYTES};
 ghost use Rattle.setoff_model.specs.CutView.{CutView};
 ghost use Rattle.bureau_edge.specs.Streams.{AppendsPart, CountsFaults};
@@ -14,7 +14,7 @@ ghost use Rattle.printed_text.specs.Printing.{IsPrintableAt, member_text, statem
 ghost use Rattle.printed_text.specs.Statuses.{TellsSinkFault};
 ghost use Rattle.printed_text.specs.Writing.{GoesThrough, Wrote};
 ghost use Rattle.history_text.specs.declared.told.Told.TheVariants as told;
-ghost use Rattle.history_text.specs.Histories.{AreFirst, HasPrinted, HasTold, HasToldOne, IsHistoryDue, history_text, told_members, told_text};
+ghost use Rattle.history_text.specs.Histories.{AreFirst, HasPrinted, HasTold, HasToldOne, IsHistoryDue, IsToldDue, text_from, told_members, told_text};
 
 use crate::replaying::{open_cut, replay_to};
 use crate::told::{Told, told_at, told_len};
@@ -136,28 +136,30 @@ fn print_next<K: Sink>(
     Ok(Told::Whole)
 }
 
-// Prints the members that are told of books, of which some are replayed into empty ones.
+// Prints the members that are told of books from a place on, of which those before publications are replayed into empty ones.
 fn print_told<K: Sink>(
     alloc: Global,
     sink: &mut K,
     buffer: &mut Vec<u8>,
     books: &Books,
     pool: &Option<Name>,
+    from: u64,
     replayed: &mut Books,
 ) -> Result<Told, Failed>
+    requires from { from ≤ length (told_members pool.now books.now.members) }
     requires empty { replayed.old.members ≡ [] }
     requires spare { OUTPUT_BYTES ≤ vec_capacity buffer.old }
 
     // The text went through, or that of the members before a publication; or the sink failed and took some first bytes of it.
     ensures ok { IfOk result (λ done. HasTold done (K.held sink.old) (K.held sink.new) buffer.old.items buffer.new.items
-        (told_members pool.now books.now.members)) }
+        (told_members pool.now books.now.members) from) }
     ensures part { OnErr result (AppendsPart (K.held sink.old) (K.held sink.new)
-        (buffer.old.items ++ history_text pool.now books.now.members)) }
+        (buffer.old.items ++ text_from (told_members pool.now books.now.members) from)) }
     ensures cause { CountsFaults (K.faults sink.old) (K.faults sink.new) result }
     ensures room { OUTPUT_BYTES ≤ vec_capacity buffer.new }
 {
     let len = told_len(books, pool);
-    for place in 0..len {
+    for place in from..len {
         let done = print_next(alloc, sink, buffer, books, pool, replayed, place)?;
         match done {
             Told::Whole => {}
@@ -174,19 +176,21 @@ fn print_replayed<K: Sink>(
     buffer: &mut Vec<u8>,
     books: &Books,
     pool: &Option<Name>,
+    from: u64,
 ) -> Result<Told, Failed>
+    requires from { from ≤ length (told_members pool.now books.now.members) }
     requires spare { OUTPUT_BYTES ≤ vec_capacity buffer.old }
 
     // The text went through, or that of the members before a publication; or the sink failed and took some first bytes of it.
     ensures ok { IfOk result (λ done. HasTold done (K.held sink.old) (K.held sink.new) buffer.old.items buffer.new.items
-        (told_members pool.now books.now.members)) }
+        (told_members pool.now books.now.members) from) }
     ensures part { OnErr result (AppendsPart (K.held sink.old) (K.held sink.new)
-        (buffer.old.items ++ history_text pool.now books.now.members)) }
+        (buffer.old.items ++ text_from (told_members pool.now books.now.members) from)) }
     ensures cause { CountsFaults (K.faults sink.old) (K.faults sink.new) result }
     ensures room { OUTPUT_BYTES ≤ vec_capacity buffer.new }
 {
     let mut replayed = Books::new(alloc);
-    let told = print_told(alloc, sink, buffer, books, pool, &mut replayed);
+    let told = print_told(alloc, sink, buffer, books, pool, from, &mut replayed);
     drop(replayed);
     told
 }
@@ -198,18 +202,46 @@ fn print_whole<K: Sink>(
     buffer: &mut Vec<u8>,
     books: &Books,
     pool: &Option<Name>,
+    from: u64,
 ) -> Result<Told, Failed>
+    requires from { from ≤ length (told_members pool.now books.now.members) }
     requires empty { buffer.old.items ≡ [] }
     requires spare { OUTPUT_BYTES ≤ vec_capacity buffer.old }
 
     // The sink took the text, or that of the members before a publication; or some first bytes of it.
-    ensures ok { IfOk result (λ done. HasPrinted done (K.held sink.old) (K.held sink.new) (told_members pool.now books.now.members)) }
-    ensures part { OnErr result (AppendsPart (K.held sink.old) (K.held sink.new) (history_text pool.now books.now.members)) }
+    ensures ok { IfOk result (λ done. HasPrinted done (K.held sink.old) (K.held sink.new)
+        (told_members pool.now books.now.members) from) }
+    ensures part { OnErr result (AppendsPart (K.held sink.old) (K.held sink.new)
+        (text_from (told_members pool.now books.now.members) from)) }
     ensures cause { CountsFaults (K.faults sink.old) (K.faults sink.new) result }
 {
-    let done = print_replayed(alloc, sink, buffer, books, pool)?;
+    let done = print_replayed(alloc, sink, buffer, books, pool, from)?;
     flush(sink, buffer)?;
     Ok(done)
+}
+
+/// Prints the members that are told of books from a place on, and gives the status, as `print_history` does of all.
+pub(crate) fn print_from<K: Sink>(
+    alloc: Global,
+    sink: &mut K,
+    buffer: &mut Vec<u8>,
+    books: &Books,
+    pool: &Option<Name>,
+    from: u64,
+) -> ExitStatus
+    requires from { from ≤ length (told_members pool.now books.now.members) }
+    requires empty { buffer.old.items ≡ [] }
+    requires spare { OUTPUT_BYTES ≤ vec_capacity buffer.old }
+    ensures wrote { Wrote (IsToldDue (take from (told_members pool.now books.now.members))
+        (drop from (told_members pool.now books.now.members))) (K.held sink.old) (K.held sink.new) result }
+    ensures memory { result ≡ statuses.Memory → 0 < length (drop from (told_members pool.now books.now.members)) }
+    ensures write_fault { TellsSinkFault (K.faults sink.old) (K.faults sink.new) result }
+{
+    match print_whole(alloc, sink, buffer, books, pool, from) {
+        Ok(Told::Whole) => ExitStatus::Done,
+        Ok(Told::Short) => tell_no_memory(sink),
+        Err(_) => ExitStatus::Sink,
+    }
 }
 
 /// Prints the entries of books of all pools, or of one, each publication followed by the statement of its round. Gives the status:
@@ -230,9 +262,5 @@ pub fn print_history<K: Sink>(
     ensures memory { result ≡ statuses.Memory → 0 < length (told_members pool.now books.now.members) }
     ensures write_fault { TellsSinkFault (K.faults sink.old) (K.faults sink.new) result }
 {
-    match print_whole(alloc, sink, buffer, books, pool) {
-        Ok(Told::Whole) => ExitStatus::Done,
-        Ok(Told::Short) => tell_no_memory(sink),
-        Err(_) => ExitStatus::Sink,
-    }
+    print_from(alloc, sink, buffer, books, pool, 0)
 }

@@ -1,15 +1,18 @@
-//! The statement of one round.
-ghost use Rattle.std.specs.Prelude.{◌≡◌, ◌+◌, ◌≤◌, ◌++◌, [], OnOk, OnErr, Some, position, slice_get, vec_len, vec_capacity, true};
+//! One round, told by its statement or by its pages.
+ghost use Rattle.std.specs.Prelude.{ℕ, ◌≡◌, ◌+◌, ◌≤◌, ◌++◌, [], OnOk, OnErr, Some, position, slice_get, vec_len, vec_capacity, true};
 ghost use Rattle.setoff_model.specs.declared.limits.TheConstants.{LINE_BYTES, OUTPUT_BYTES};
 ghost use Rattle.std.specs.Io.KnownBytes.{Appends};
 ghost use Rattle.bureau_edge.specs.Streams.{AppendsPart, CountsFaults};
+ghost use Rattle.claim_history.specs.declared.entry.Reply.TheVariants as reply;
 ghost use Rattle.printed_text.specs.declared.exit_status.ExitStatus.TheVariants as statuses;
 ghost use Rattle.printed_text.specs.Printing.{IsPrintableAt, statement_of};
 ghost use Rattle.printed_text.specs.Statuses.{TellsSinkFault};
 ghost use Rattle.printed_text.specs.Writing.{IsWritten, Wrote};
-ghost use Rattle.history_text.specs.Histories.{IsRoundDue, no_round_text, publication_place, publishes_round, was_published};
+ghost use Rattle.history_text.specs.Histories.{IsDoneWith, IsFormDue, IsRoundDue, no_round_text, publication_place, publishes_round, text_in_form, was_published};
 
+use crate::pages::tell_pages;
 use crate::replaying::{open_cut, replay_to};
+use crate::round_form::RoundForm;
 use bureau_edge::{Failed, Sink};
 use claim_history::{Act, Entry, Reply, main_pool_name};
 use printed_text::{Books, ExitStatus, end_with, flush, print_publication, tell_no_memory};
@@ -83,9 +86,33 @@ fn tell_stated<K: Sink>(
     }
 }
 
-// Prints the statement of the round that the entry at a place of a pool publishes, as those before it are replayed into empty books.
+// Tells the round that an entry publishes in a form, and gives the status.
+fn tell_round<K: Sink>(
+    alloc: Global,
+    form: RoundForm,
+    sink: &mut K,
+    buffer: &mut Vec<u8>,
+    entry: &Entry,
+    rounds: &[Cut],
+) -> ExitStatus
+    requires published { (total : ℕ) × (entry.now.reply ≡ reply.Published total) }
+    requires publication { IsPrintableAt rounds.now 0 entry.now.act }
+    requires empty { buffer.old.items ≡ [] }
+    requires spare { OUTPUT_BYTES ≤ vec_capacity buffer.old }
+    ensures wrote { Wrote (IsDoneWith (text_in_form form (slice_get rounds.now 0) entry.now.act entry.now.reply))
+        (K.held sink.old) (K.held sink.new) result }
+    ensures write_fault { TellsSinkFault (K.faults sink.old) (K.faults sink.new) result }
+{
+    match form {
+        RoundForm::Statement => tell_stated(sink, buffer, entry, rounds),
+        RoundForm::Pages => tell_pages(alloc, sink, buffer, entry, rounds),
+    }
+}
+
+// Tells the round that the entry at a place of a pool publishes, as those before it are replayed into empty books.
 fn print_behind<K: Sink>(
     alloc: Global,
+    form: RoundForm,
     sink: &mut K,
     buffer: &mut Vec<u8>,
     books: &Books,
@@ -98,7 +125,7 @@ fn print_behind<K: Sink>(
     requires none { replayed.old.members ≡ [] }
     requires empty { buffer.old.items ≡ [] }
     requires spare { OUTPUT_BYTES ≤ vec_capacity buffer.old }
-    ensures wrote { Wrote (IsRoundDue round pool books.now.members) (K.held sink.old) (K.held sink.new) result }
+    ensures wrote { Wrote (IsFormDue form round pool books.now.members) (K.held sink.old) (K.held sink.new) result }
     ensures write_fault { TellsSinkFault (K.faults sink.old) (K.faults sink.new) result }
 {
     let _ = round;
@@ -106,7 +133,10 @@ fn print_behind<K: Sink>(
     let entries = books.book(&pool).history();
     let entry = &entries[place];
     match replay_to(alloc, books, &Some(pool), place as u64, replayed) {
-        Ok(()) => tell_stated(sink, buffer, entry, open_cut(replayed, &main_pool_name())),
+        Ok(()) => {
+            let rounds = open_cut(replayed, &main_pool_name());
+            tell_round(alloc, form, sink, buffer, entry, rounds)
+        }
         Err(_) => tell_no_memory(sink),
     }
 }
@@ -114,6 +144,7 @@ fn print_behind<K: Sink>(
 // The same, with the books that they are replayed into.
 fn print_round_at<K: Sink>(
     alloc: Global,
+    form: RoundForm,
     sink: &mut K,
     buffer: &mut Vec<u8>,
     books: &Books,
@@ -124,12 +155,13 @@ fn print_round_at<K: Sink>(
     requires place { publication_place round pool books.now.members ≡ Some place }
     requires empty { buffer.old.items ≡ [] }
     requires spare { OUTPUT_BYTES ≤ vec_capacity buffer.old }
-    ensures wrote { Wrote (IsRoundDue round pool books.now.members) (K.held sink.old) (K.held sink.new) result }
+    ensures wrote { Wrote (IsFormDue form round pool books.now.members) (K.held sink.old) (K.held sink.new) result }
     ensures write_fault { TellsSinkFault (K.faults sink.old) (K.faults sink.new) result }
 {
     let mut replayed = Books::new(alloc);
     let status = print_behind(
         alloc,
+        form,
         sink,
         buffer,
         books,
@@ -140,6 +172,33 @@ fn print_round_at<K: Sink>(
     );
     drop(replayed);
     status
+}
+
+/// Tells the round of a pool that was published under a number in a form, as `print_round` does by its statement.
+pub(crate) fn print_in_form<K: Sink>(
+    alloc: Global,
+    form: RoundForm,
+    sink: &mut K,
+    buffer: &mut Vec<u8>,
+    books: &Books,
+    pool: Name,
+    round: u32,
+) -> ExitStatus
+    requires empty { buffer.old.items ≡ [] }
+    requires len { vec_len buffer.old ≡ 0 }
+    requires spare { OUTPUT_BYTES ≤ vec_capacity buffer.old }
+    ensures wrote { Wrote (IsFormDue form round pool books.now.members) (K.held sink.old) (K.held sink.new) result }
+    ensures memory { result ≡ statuses.Memory → was_published round pool books.now.members ≡ true }
+    ensures write_fault { TellsSinkFault (K.faults sink.old) (K.faults sink.new) result }
+{
+    let entries = books.book(&pool).history();
+    match place_of(entries, round) {
+        Some(place) => print_round_at(alloc, form, sink, buffer, books, pool, round, place),
+        None => {
+            write_no_round(buffer, round);
+            end_with(sink, ExitStatus::No, buffer.as_slice())
+        }
+    }
 }
 
 /// Prints the statement of the round of a pool that was published under a number, or the line that there is none. Gives the status:
@@ -162,12 +221,13 @@ pub fn print_round<K: Sink>(
     ensures memory { result ≡ statuses.Memory → was_published round pool books.now.members ≡ true }
     ensures write_fault { TellsSinkFault (K.faults sink.old) (K.faults sink.new) result }
 {
-    let entries = books.book(&pool).history();
-    match place_of(entries, round) {
-        Some(place) => print_round_at(alloc, sink, buffer, books, pool, round, place),
-        None => {
-            write_no_round(buffer, round);
-            end_with(sink, ExitStatus::No, buffer.as_slice())
-        }
-    }
+    print_in_form(
+        alloc,
+        RoundForm::Statement,
+        sink,
+        buffer,
+        books,
+        pool,
+        round,
+    )
 }

@@ -4,7 +4,7 @@ use Rattle.setoff_model.proofs.Lists.{on_err}
 use Rattle.claim_history.specs.declared.call.PoolEntry.{PoolEntry}
 use Rattle.printed_text.specs.Printing.{added_text}
 use Rattle.printed_text.proofs.Passing.{up_begins, up_ends, counted_later}
-use Rattle.history_text.specs.Histories.{HasToldOne, history_text, told_members}
+use Rattle.history_text.specs.Histories.{HasToldOne, text_from, told_members}
 use Rattle.history_text.specs.declared.told.Told.{Told}
 use Rattle.history_text.proofs.Printed.{told_breaks, told_more, told_short}
 use Rattle.history_text.proofs.Replayed.{first_later, none_are_first}
@@ -15,15 +15,16 @@ print_next-requires-clause-place g c = omega (arith, c.loop-place-test.true, c.t
 
 pub loop-place-init : goal.loop-place-init
 loop-place-init g c = record {
-  passes = up_begins (g.K.Sink.held c.args.sink.now) c.args.buffer.now.items (history_text c.args.pool.now c.args.books.now.members);
-  first = none_are_first 0 (told_members c.args.pool.now c.args.books.now.members) c.args.replayed.now.members c.requires.empty;
+  passes = up_begins (g.K.Sink.held c.args.sink.now) c.args.buffer.now.items (text_from (told_members c.args.pool.now c.args.books.now.members) c.args.from);
+  first = none_are_first c.args.from (told_members c.args.pool.now c.args.books.now.members) c.args.replayed.now.members c.requires.empty;
   room = c.requires.spare;
   kept = omega arith;
+  low = omega arith;
 }
 
 pub returns-in_err-done-clause-part : goal.returns-in_err-done-clause-part
 returns-in_err-done-clause-part g c =
-    on_err _ _ (told_breaks (told_members c.args.pool.now c.args.books.now.members) c.loop-place.place (omega (arith, c.loop-place-test.true, c.told_len-len.ensures.len))
+    on_err _ _ (told_breaks (told_members c.args.pool.now c.args.books.now.members) c.args.from c.loop-place.place (omega (arith, c.loop-place-test.true, c.told_len-len.ensures.len))
     (g.K.Sink.held c.args.sink.now) (g.K.Sink.held c.loop-place.sink) (g.K.Sink.held c.print_next.new.sink) c.args.buffer.now.items c.loop-place.buffer.items c.print_next.new.buffer.items
     c.loop-place.invariant.passes c.in_err-done.ensures.part)
 
@@ -33,9 +34,9 @@ returns-in-Short-clause-ok g c =
     let y = g.K.Sink.held c.loop-place.sink in
     let z = g.K.Sink.held c.print_next.new.sink in
     let short = subst (λ (t : Told). HasToldOne t y z c.loop-place.buffer.items c.print_next.new.buffer.items h c.loop-place.place) c.in-Short.is c.in_ok-done.ensures.ok in
-    told_short h c.loop-place.place (omega (arith, c.loop-place-test.true, c.told_len-len.ensures.len))
+    told_short h c.args.from c.loop-place.place (omega (arith, c.loop-place-test.true, c.told_len-len.ensures.len))
     (g.K.Sink.held c.args.sink.now) y z c.args.buffer.now.items c.loop-place.buffer.items c.print_next.new.buffer.items
-    c.loop-place.invariant.passes short
+    c.loop-place.invariant.passes c.loop-place.invariant.low short
 
 pub returns-in-Short-clause-cause : goal.returns-in-Short-clause-cause
 returns-in-Short-clause-cause g c = record { later = omega (arith, c.loop-place.invariant.kept, c.print_next.ensures.cause.later); cause = λ err. cc; kept = omega (arith, c.loop-place.invariant.kept, c.in_ok-done.ensures.cause.kept) }
@@ -47,17 +48,18 @@ loop-place-preserved g c =
     let z = g.K.Sink.held c.print_next.new.sink in
     let passes = subst (λ (t : Told). HasToldOne t y z c.loop-place.buffer.items c.print_next.new.buffer.items h c.loop-place.place) c.in-Whole.is c.in_ok-done.ensures.ok in
     record {
-      passes = told_more h c.loop-place.place (omega (arith, c.loop-place-test.true, c.told_len-len.ensures.len)) (g.K.Sink.held c.args.sink.now) y z c.args.buffer.now.items c.loop-place.buffer.items c.print_next.new.buffer.items c.loop-place.invariant.passes passes;
+      passes = told_more h c.args.from c.loop-place.place (omega (arith, c.loop-place-test.true, c.told_len-len.ensures.len)) (g.K.Sink.held c.args.sink.now) y z c.args.buffer.now.items c.loop-place.buffer.items c.print_next.new.buffer.items c.loop-place.invariant.passes passes;
       first = first_later c.loop-place.place h c.print_next.new.replayed.members (c.in_ok-done.ensures.first c.in-Whole.is);
       room = c.in_ok-done.ensures.room;
       kept = omega (arith, c.loop-place.invariant.kept, c.in_ok-done.ensures.cause.kept);
+      low = omega (arith, c.loop-place.invariant.low);
     }
 
 pub returns-clause-ok : goal.returns-clause-ok
 returns-clause-ok g c =
     let h = told_members c.args.pool.now c.args.books.now.members in
     let i = c.loop-place.place in
-    up_ends (g.K.Sink.held c.args.sink.now) (g.K.Sink.held c.loop-place.sink) c.args.buffer.now.items c.loop-place.buffer.items _ (history_text c.args.pool.now c.args.books.now.members) c.loop-place.invariant.passes
+    up_ends (g.K.Sink.held c.args.sink.now) (g.K.Sink.held c.loop-place.sink) c.args.buffer.now.items c.loop-place.buffer.items (text_from (told_members c.args.pool.now c.args.books.now.members) c.loop-place.place) (text_from (told_members c.args.pool.now c.args.books.now.members) c.args.from) c.loop-place.invariant.passes
     (ap (λ (rest : List PoolEntry). added_text (take i h) rest) (drop_all i h (omega (arith, c.loop-place-test.false, c.told_len-len.ensures.len))))
 
 pub returns-in_err-done-clause-cause : goal.returns-in_err-done-clause-cause

@@ -4,9 +4,9 @@ use Rattle.claim_history.specs.Pools.{entries_in}
 use Rattle.printed_text.specs.declared.exit_status.ExitStatus.TheVariants as statuses
 use Rattle.printed_text.specs.Writing.{IsWritten}
 use Rattle.history_text.specs.Histories.{no_round_text, publishes_round, was_published}
-use Rattle.history_text.proofs.Due.{no_memory, wrote_of_round}
+use Rattle.history_text.proofs.Due.{no_memory, wrote_none}
 use Rattle.history_text.proofs.Stated.{none_stated}
-use Rattle.history_text.proofs.round.print_round.Goals as goal
+use Rattle.history_text.proofs.round.print_in_form.Goals as goal
 
 pub print_round_at-requires-clause-place : goal.print_round_at-requires-clause-place
 print_round_at-requires-clause-place g c =
@@ -32,8 +32,8 @@ returns-in-None-clause-wrote g c =
     ap (position (publishes_round c.args.round)) (sym same) ∙ sym c.place_of.ensures ∙ c.in-None.is in
     let line : c.as_slice.result.now ≡ no_round_text c.args.round =
     c.as_slice.ensures.value ∙ c.write_no_round.ensures ∙ ap (λ (front : List ℕ). front ++ no_round_text c.args.round) c.requires.empty in
-    wrote_of_round c.args.round c.args.pool c.args.books.now.members _ _ (no_round_text c.args.round) statuses.No _
-    (none_stated c.args.round c.args.pool c.args.books.now.members none)
+    wrote_none c.args.form c.args.round c.args.pool c.args.books.now.members _ _ (no_round_text c.args.round) _
+    (none_stated c.args.form c.args.round c.args.pool c.args.books.now.members none)
     (subst (λ (t : List ℕ). IsWritten (g.K.Sink.held c.args.sink.now) (g.K.Sink.held c.end_with.new.sink) statuses.No t c.end_with.result) line c.end_with.ensures.written)
 
 pub returns-in-None-clause-write_fault : goal.returns-in-None-clause-write_fault
