@@ -1,0 +1,8 @@
+pub mod Listed
+pub mod Replayed
+pub mod Flowing
+pub mod Register
+pub mod Counted
+pub mod Sealed
+pub mod Running
+mod Worked

@@ -1,0 +1,4 @@
+use Rattle.journal_summaries.proofs.pool_list.put_texts.Goals as goal
+
+pub returns : goal.returns
+returns c = rw (c.bytes.ensures.bytes, c.deref.ensures.value, c.deref-2.ensures.value, c.deref-3.ensures.value, c.deref-4.ensures.value, c.deref-5.ensures.value, c.deref-6.ensures.value) at c.put_row.ensures
