@@ -1,3 +1,4 @@
+pub mod Forecast
 pub mod Weighed
 pub use Rattle.printed_text.specs.claim_history as claim_history
 pub use Rattle.printed_text.specs.entry_text as entry_text
