@@ -16,9 +16,9 @@ use Rattle.command_words.specs.declared.command.Command.TheVariants as commands
 use Rattle.command_words.specs.declared.input_report.InputReport.TheVariants as inputs
 use Rattle.command_words.specs.declared.journal_report.JournalReport.TheVariants as journals
 use Rattle.command_words.specs.Program.{program}
-use Rattle.command_words.specs.Words.{AreNoWords, AreWordsOf, IsCommand, IsPool, NamesOther, OneCommandLaw, name_of, pool_values, values_of, words_of}
+use Rattle.command_words.specs.Words.{AreNoWords, AreWordsOf, IsCommand, AreActs, IsPool, NamesOther, OneCommandLaw, acts_text, last_values, name_of, values_of, words_of}
 use Rattle.command_words.specs.Reading.{IsFoundIn, IsGiven, is_option}
-use Rattle.command_words.proofs.Walks.{IsEntered, IsPlain, IsPlainPool, audit_entered, check_entered, explain_entered, first_is, found_is, history_entered, history_rest, history_taken, history_values, import_entered, import_rest, import_taken, import_values, known_name, live_entered, name_and, name_and_pool, name_and_three, name_and_two, no_words, notices_entered, notices_rest, notices_taken, notices_values, or_false, plain_of, plain_rest, plain_taken, positions_entered, positions_rest, positions_taken, positions_values, run_entered, statement_entered, statement_rest, statement_taken, statement_values, sub_is, trial_entered, trial_rest, trial_taken, trial_values, weigh_entered, weigh_rest, weigh_taken, weigh_values}
+use Rattle.command_words.proofs.Walks.{IsEntered, IsPlain, IsPlainLast, account_entered, account_rest, account_taken, account_values, audit_entered, check_entered, explain_entered, first_is, forecast_entered, forecast_rest, forecast_taken, forecast_values, found_is, history_entered, history_rest, history_taken, history_values, import_entered, import_rest, import_taken, import_values, known_name, live_entered, name_and, name_and_pool, name_and_three, name_and_two, name_and_two_and_pool, no_words, notices_entered, notices_rest, notices_taken, notices_values, or_false, parts_entered, parts_rest, parts_taken, parts_values, plain_of, plain_rest, plain_taken, pools_entered, positions_entered, positions_rest, positions_taken, positions_values, run_entered, seal_entered, seal_rest, seal_taken, seal_values, since_entered, since_rest, since_taken, since_values, statement_entered, statement_rest, statement_taken, statement_values, sub_is, trial_entered, trial_rest, trial_taken, trial_values, weigh_entered, weigh_rest, weigh_taken, weigh_values}
 
 -- ---- texts of values
 
@@ -51,15 +51,23 @@ name_plain : (name : Text) → is_name name ≡ true → is_option name ≡ fals
 name_plain [] e = refl
 name_plain (c ∷ cs) e = letter_plain c (left_true (is_letter c) _ (left_true _ _ e))
 
-pool_plain : (pool : Option Text) → IsPool pool → list_any is_option (pool_values pool) ≡ false
+pool_plain : (pool : Option Text) → IsPool pool → list_any is_option (last_values pool) ≡ false
 pool_plain None p = refl
 pool_plain (Some x) p = rw (name_plain x p) refl
+
+acts_plain : (acts : Option ℕ) → AreActs acts → list_any is_option (last_values (acts_text acts)) ≡ false
+acts_plain None p = refl
+acts_plain (Some n) p = rw (decimal_plain n (omega (arith, p))) refl
+
+acts_word : (acts : Option ℕ) → AreActs acts → IsPlainLast (acts_text acts)
+acts_word None p = tt
+acts_word (Some n) p = plain_of _ (decimal_plain n (omega (arith, p)))
 
 pub other_named : (pool : Option Text) → NamesOther pool → IsPool pool
 other_named None p = tt
 other_named (Some x) p = p.0
 
-pool_word : (pool : Option Text) → IsPool pool → IsPlainPool pool
+pool_word : (pool : Option Text) → IsPool pool → IsPlainLast pool
 pool_word None p = tt
 pool_word (Some x) p = plain_of x (name_plain x p)
 
@@ -91,11 +99,17 @@ abbrev tail_of : List Text → List Text
 tail_of [] = []
 tail_of (x ∷ xs) = xs
 
-pool_is : (x y : Option Text) → pool_values x ≡ pool_values y → x ≡ y
+pool_is : (x y : Option Text) → last_values x ≡ last_values y → x ≡ y
 pool_is None None e = refl
 pool_is None (Some y) e = absurd (cc e)
 pool_is (Some x) None e = absurd (cc e)
 pool_is (Some x) (Some y) e = ap (λ (ws : List Text). Some (get_or ws 0 [])) e
+
+acts_are : (x y : Option ℕ) → AreActs x → AreActs y → last_values (acts_text x) ≡ last_values (acts_text y) → x ≡ y
+acts_are None None p q e = refl
+acts_are None (Some n) p q e = absurd (cc e)
+acts_are (Some m) None p q e = absurd (cc e)
+acts_are (Some m) (Some n) p q e = ap (λ (k : ℕ). Some k) (same_number m n (omega (arith, p)) (omega (arith, q)) (ap (λ (ws : List Text). get_or ws 0 []) e))
 
 -- a command with the words of another
 of_words : DayTextsLaw → (c d : Command) → IsCommand c → IsCommand d → words_of c ≡ words_of d → c ≡ d
@@ -127,6 +141,31 @@ of_words days (commands.OnJournal (journals.Statement x u)) (commands.OnJournal 
     let b = pool_is u v (ap (λ (ws : List Text). tail_of (tail_of ws)) e) in
     rw (a, b) refl
 of_words days (commands.OnJournal (journals.Statement x u)) d p q e = grind (arith, same_name (commands.OnJournal (journals.Statement x u)) d e)
+of_words days (commands.OnJournal journals.Pools) d p q e = grind (arith, same_name (commands.OnJournal journals.Pools) d e)
+of_words days (commands.OnJournal (journals.Since x u)) (commands.OnJournal (journals.Since y v)) p q e =
+    let a = same_number x y (omega (arith, p.0)) (omega (arith, q.0)) (same_value (commands.OnJournal (journals.Since x u)) (commands.OnJournal (journals.Since y v)) 1 e) in
+    let b = pool_is u v (ap (λ (ws : List Text). tail_of (tail_of ws)) e) in
+    rw (a, b) refl
+of_words days (commands.OnJournal (journals.Since x u)) d p q e = grind (arith, same_name (commands.OnJournal (journals.Since x u)) d e)
+of_words days (commands.OnJournal (journals.Seal x)) (commands.OnJournal (journals.Seal y)) p q e =
+    ap (λ (acts : Option ℕ). commands.OnJournal (journals.Seal acts)) (acts_are x y p q (ap tail_of e))
+of_words days (commands.OnJournal (journals.Seal x)) d p q e = grind (arith, same_name (commands.OnJournal (journals.Seal x)) d e)
+of_words days (commands.OnJournal (journals.Account x u)) (commands.OnJournal (journals.Account y v)) p q e =
+    let a = same_value (commands.OnJournal (journals.Account x u)) (commands.OnJournal (journals.Account y v)) 1 e in
+    let b = pool_is u v (ap (λ (ws : List Text). tail_of (tail_of ws)) e) in
+    rw (a, b) refl
+of_words days (commands.OnJournal (journals.Account x u)) d p q e = grind (arith, same_name (commands.OnJournal (journals.Account x u)) d e)
+of_words days (commands.OnJournal (journals.Parts x u)) (commands.OnJournal (journals.Parts y v)) p q e =
+    let a = same_number x y (omega (arith, p.1)) (omega (arith, q.1)) (same_value (commands.OnJournal (journals.Parts x u)) (commands.OnJournal (journals.Parts y v)) 1 e) in
+    let b = pool_is u v (ap (λ (ws : List Text). tail_of (tail_of ws)) e) in
+    rw (a, b) refl
+of_words days (commands.OnJournal (journals.Parts x u)) d p q e = grind (arith, same_name (commands.OnJournal (journals.Parts x u)) d e)
+of_words days (commands.OnJournal (journals.Forecast j x u)) (commands.OnJournal (journals.Forecast k y v)) p q e =
+    let a = kind_is j k (same_value (commands.OnJournal (journals.Forecast j x u)) (commands.OnJournal (journals.Forecast k y v)) 1 e) in
+    let b = days x y p.0 q.0 (same_value (commands.OnJournal (journals.Forecast j x u)) (commands.OnJournal (journals.Forecast k y v)) 2 e) in
+    let c = pool_is u v (ap (λ (ws : List Text). tail_of (tail_of (tail_of ws))) e) in
+    rw (a, b, c) refl
+of_words days (commands.OnJournal (journals.Forecast j x u)) d p q e = grind (arith, same_name (commands.OnJournal (journals.Forecast j x u)) d e)
 of_words days (commands.Trial x y z) (commands.Trial u v w) p q e =
     let a = same_number x u (omega (arith, p.1)) (omega (arith, q.1)) (same_value (commands.Trial x y z) (commands.Trial u v w) 1 e) in
     let b = same_number y v (omega (arith, p.3)) (omega (arith, q.3)) (same_value (commands.Trial x y z) (commands.Trial u v w) 2 e) in
@@ -152,6 +191,12 @@ words_plain (commands.OnInput (inputs.Import n)) p = rw (decimal_plain n (omega 
 words_plain (commands.OnJournal (journals.Weigh k d)) p = rw (kind_plain k, day_plain d) refl
 words_plain (commands.OnJournal (journals.History pool)) p = pool_plain pool p
 words_plain (commands.OnJournal (journals.Statement n pool)) p = rw (decimal_plain n (omega (arith, p.1))) (pool_plain pool (other_named pool p.2))
+words_plain (commands.OnJournal journals.Pools) p = refl
+words_plain (commands.OnJournal (journals.Since n pool)) p = rw (decimal_plain n (omega (arith, p.0))) (pool_plain pool p.1)
+words_plain (commands.OnJournal (journals.Seal acts)) p = acts_plain acts p
+words_plain (commands.OnJournal (journals.Account firm pool)) p = rw (name_plain firm p.0) (pool_plain pool p.1)
+words_plain (commands.OnJournal (journals.Parts n pool)) p = rw (decimal_plain n (omega (arith, p.1))) (pool_plain pool p.2)
+words_plain (commands.OnJournal (journals.Forecast k d pool)) p = rw (kind_plain k, day_plain d) (pool_plain pool p.1)
 words_plain (commands.Trial x y z) p = rw (decimal_plain x (omega (arith, p.1)), decimal_plain y (omega (arith, p.3)), decimal_plain z (omega (arith, p.4))) refl
 
 -- `clap` takes the words of a command
@@ -167,6 +212,12 @@ words_taken (commands.OnInput (inputs.Import n)) p = import_taken _ (plain_of _ 
 words_taken (commands.OnJournal (journals.Weigh k d)) p = weigh_taken _ _ (plain_of _ (kind_plain k)) (plain_of _ (day_plain d))
 words_taken (commands.OnJournal (journals.History pool)) p = history_taken pool (pool_word pool p)
 words_taken (commands.OnJournal (journals.Statement n pool)) p = statement_taken _ pool (plain_of _ (decimal_plain n (omega (arith, p.1)))) (pool_word pool (other_named pool p.2))
+words_taken (commands.OnJournal journals.Pools) p = plain_taken _ pools_entered
+words_taken (commands.OnJournal (journals.Since n pool)) p = since_taken _ pool (plain_of _ (decimal_plain n (omega (arith, p.0)))) (pool_word pool p.1)
+words_taken (commands.OnJournal (journals.Seal acts)) p = seal_taken (acts_text acts) (acts_word acts p)
+words_taken (commands.OnJournal (journals.Account firm pool)) p = account_taken firm pool (plain_of _ (name_plain firm p.0)) (pool_word pool p.1)
+words_taken (commands.OnJournal (journals.Parts n pool)) p = parts_taken _ pool (plain_of _ (decimal_plain n (omega (arith, p.1)))) (pool_word pool p.2)
+words_taken (commands.OnJournal (journals.Forecast k d pool)) p = forecast_taken _ _ pool (plain_of _ (kind_plain k)) (plain_of _ (day_plain d)) (pool_word pool p.1)
 words_taken (commands.Trial x y z) p = trial_taken _ _ _ (plain_of _ (decimal_plain x (omega (arith, p.1)))) (plain_of _ (decimal_plain y (omega (arith, p.3)))) (plain_of _ (decimal_plain z (omega (arith, p.4))))
 
 -- ---- what is found of the words of a command
@@ -209,6 +260,34 @@ words_name (commands.OnJournal (journals.Statement n pool)) p found rows e =
       ap (λ (q : Text × Option Text × Option Text). q.0) is,
       (ap (λ (q : Text × Option Text × Option Text). q.1) is, ap (λ (q : Text × Option Text × Option Text). q.2) is),
     )
+words_name (commands.OnJournal journals.Pools) p found rows e = (known_name _ _ pools_entered refl [] found rows e, tt)
+words_name (commands.OnJournal (journals.Since n pool)) p found rows e =
+    let is = found_is (name_and_pool (codes "ACTS")) (words_of (commands.OnJournal (journals.Since n pool))) _
+    (since_values (decimal n) pool (number_word n (omega (arith, p.0))) (pool_word pool p.1)) found rows e in (
+      ap (λ (q : Text × Option Text × Option Text). q.0) is,
+      (ap (λ (q : Text × Option Text × Option Text). q.1) is, ap (λ (q : Text × Option Text × Option Text). q.2) is),
+    )
+words_name (commands.OnJournal (journals.Seal acts)) p found rows e =
+    let is = found_is (name_and (codes "ACTS")) (words_of (commands.OnJournal (journals.Seal acts))) _ (seal_values (acts_text acts) (acts_word acts p)) found rows e in
+    (ap (λ (q : Text × Option Text). q.0) is, ap (λ (q : Text × Option Text). q.1) is)
+words_name (commands.OnJournal (journals.Account firm pool)) p found rows e =
+    let is = found_is (name_and_pool (codes "FIRM")) (words_of (commands.OnJournal (journals.Account firm pool))) _
+    (account_values firm pool (plain_of _ (name_plain firm p.0)) (pool_word pool p.1)) found rows e in (
+      ap (λ (q : Text × Option Text × Option Text). q.0) is,
+      (ap (λ (q : Text × Option Text × Option Text). q.1) is, ap (λ (q : Text × Option Text × Option Text). q.2) is),
+    )
+words_name (commands.OnJournal (journals.Parts n pool)) p found rows e =
+    let is = found_is (name_and_pool (codes "ROUND")) (words_of (commands.OnJournal (journals.Parts n pool))) _
+    (parts_values (decimal n) pool (number_word n (omega (arith, p.1))) (pool_word pool p.2)) found rows e in (
+      ap (λ (q : Text × Option Text × Option Text). q.0) is,
+      (ap (λ (q : Text × Option Text × Option Text). q.1) is, ap (λ (q : Text × Option Text × Option Text). q.2) is),
+    )
+words_name (commands.OnJournal (journals.Forecast k d pool)) p found rows e =
+    let is = found_is name_and_two_and_pool (words_of (commands.OnJournal (journals.Forecast k d pool))) _
+    (forecast_values (kind_text k) (day_text d) pool (plain_of _ (kind_plain k)) (day_word d) (pool_word pool p.1)) found rows e in (
+      ap (λ (q : Text × Option Text × Option Text × Option Text). q.0) is,
+      (ap (λ (q : Text × Option Text × Option Text × Option Text). q.1) is, ap (λ (q : Text × Option Text × Option Text × Option Text). q.2) is, ap (λ (q : Text × Option Text × Option Text × Option Text). q.3) is),
+    )
 words_name (commands.Trial x y z) p found rows e =
     let is = found_is name_and_three (words_of (commands.Trial x y z)) _ (trial_values (decimal x) (decimal y) (decimal z) (number_word x (omega (arith, p.1))) (number_word y (omega (arith, p.3))) (number_word z (omega (arith, p.4)))) found rows e in (
       ap (λ (q : Text × Option Text × Option Text × Option Text). q.0) is,
@@ -224,12 +303,18 @@ words_named commands.Live e = not_found _ _ live_entered [] e
 words_named (commands.OnInput inputs.Check) e = not_found _ _ check_entered [] e
 words_named (commands.OnInput inputs.Explain) e = not_found _ _ explain_entered [] e
 words_named (commands.OnJournal journals.Audit) e = not_found _ _ audit_entered [] e
-words_named (commands.OnJournal (journals.Positions pool)) e = not_found _ _ positions_entered (pool_values pool) e
-words_named (commands.OnJournal (journals.Notices d pool)) e = not_found _ _ notices_entered (day_text d ∷ pool_values pool) e
+words_named (commands.OnJournal (journals.Positions pool)) e = not_found _ _ positions_entered (last_values pool) e
+words_named (commands.OnJournal (journals.Notices d pool)) e = not_found _ _ notices_entered (day_text d ∷ last_values pool) e
 words_named (commands.OnInput (inputs.Import n)) e = not_found _ _ import_entered (decimal n ∷ []) e
 words_named (commands.OnJournal (journals.Weigh k d)) e = not_found _ _ weigh_entered (kind_text k ∷ day_text d ∷ []) e
-words_named (commands.OnJournal (journals.History pool)) e = not_found _ _ history_entered (pool_values pool) e
-words_named (commands.OnJournal (journals.Statement n pool)) e = not_found _ _ statement_entered (decimal n ∷ pool_values pool) e
+words_named (commands.OnJournal (journals.History pool)) e = not_found _ _ history_entered (last_values pool) e
+words_named (commands.OnJournal (journals.Statement n pool)) e = not_found _ _ statement_entered (decimal n ∷ last_values pool) e
+words_named (commands.OnJournal journals.Pools) e = not_found _ _ pools_entered [] e
+words_named (commands.OnJournal (journals.Since n pool)) e = not_found _ _ since_entered (decimal n ∷ last_values pool) e
+words_named (commands.OnJournal (journals.Seal acts)) e = not_found _ _ seal_entered (last_values (acts_text acts)) e
+words_named (commands.OnJournal (journals.Account firm pool)) e = not_found _ _ account_entered (firm ∷ last_values pool) e
+words_named (commands.OnJournal (journals.Parts n pool)) e = not_found _ _ parts_entered (decimal n ∷ last_values pool) e
+words_named (commands.OnJournal (journals.Forecast k d pool)) e = not_found _ _ forecast_entered (kind_text k ∷ day_text d ∷ last_values pool) e
 words_named (commands.Trial x y z) e = not_found _ _ trial_entered (decimal x ∷ decimal y ∷ decimal z ∷ []) e
 
 -- the name and the values that are found of the words of a command are the command's
@@ -256,6 +341,12 @@ after_name (commands.OnInput (inputs.Import n)) found rows given rest plain none
 after_name (commands.OnJournal (journals.Weigh k d)) found rows given rest plain none is = weigh_rest rest plain none found rows is _ _ given.1.0 given.1.1
 after_name (commands.OnJournal (journals.History pool)) found rows given rest plain none is = history_rest rest plain none found rows is pool given.1
 after_name (commands.OnJournal (journals.Statement n pool)) found rows given rest plain none is = statement_rest rest plain none found rows is _ pool given.1.0 given.1.1
+after_name (commands.OnJournal journals.Pools) found rows given rest plain none is = plain_rest _ pools_entered rest plain none
+after_name (commands.OnJournal (journals.Since n pool)) found rows given rest plain none is = since_rest rest plain none found rows is _ pool given.1.0 given.1.1
+after_name (commands.OnJournal (journals.Seal acts)) found rows given rest plain none is = seal_rest rest plain none found rows is (acts_text acts) given.1
+after_name (commands.OnJournal (journals.Account firm pool)) found rows given rest plain none is = account_rest rest plain none found rows is _ pool given.1.0 given.1.1
+after_name (commands.OnJournal (journals.Parts n pool)) found rows given rest plain none is = parts_rest rest plain none found rows is _ pool given.1.0 given.1.1
+after_name (commands.OnJournal (journals.Forecast k d pool)) found rows given rest plain none is = forecast_rest rest plain none found rows is _ _ pool given.1.0 given.1.1 given.1.2
 after_name (commands.Trial x y z) found rows given rest plain none is = trial_rest rest plain none found rows is _ _ _ given.1.0 given.1.1 given.1.2
 
 from_name : (words : List Text) → list_any is_option words ≡ false → fault_of program words ≡ [] → (found : Text) (rows : List Row) → subcommand_of program words ≡ Some (found, rows)

@@ -14,7 +14,7 @@ use Rattle.clap.proofs.OnLiterals.{clap_on_literals}
 use Rattle.clap.proofs.WalkLemmas.{walk_stopped}
 use Rattle.clap.proofs.FaultLemmas.{stopped_fault}
 use Rattle.command_words.specs.Program.{bare, choice, program, value}
-use Rattle.command_words.specs.Words.{pool_values}
+use Rattle.command_words.specs.Words.{last_values}
 use Rattle.command_words.specs.Reading.{is_option}
 
 pub is_free : is_simple_and_free program ≡ true
@@ -112,7 +112,7 @@ one_value name id (x ∷ y ∷ xs) plain e =
 
 -- the one value of a command that may be left out
 one_choice : (name id : Text) (rest : List Text) → list_any is_option rest ≡ false → level_fault (leaf name (choice id ∷ [])) [] nothing_held rest false [] ≡ []
-    → (x : Option Text) × (rest ≡ pool_values x)
+    → (x : Option Text) × (rest ≡ last_values x)
 unfolding clap_on_literals
 one_choice name id [] plain e = (None, refl)
 one_choice name id (x ∷ []) plain e = (Some x, refl)
@@ -122,7 +122,7 @@ one_choice name id (x ∷ y ∷ xs) plain e =
     let q = plain_of y (or_false (is_option y) (list_any is_option xs) first.1).0 in
     some_kind _ _ (rw (p.dashes, p.long, p.short, q.dashes, q.long, q.short) at e)
 
--- the values of a table of claims, or of a statement, the last of which may be left out
+-- a value, and a pool that may be left out
 abbrev pub pool_leaf : Text → Text → Shape
 pool_leaf name id = leaf name (value id ∷ choice (codes "POOL") ∷ [])
 
@@ -130,15 +130,19 @@ pool_leaf name id = leaf name (value id ∷ choice (codes "POOL") ∷ [])
 pub data IsAsked : Text → Type 0 where
   date : IsAsked (codes "DATE")
   round : IsAsked (codes "ROUND")
+  acts : IsAsked (codes "ACTS")
+  firm : IsAsked (codes "FIRM")
 
 too_many_values : {P : Type 0} (name id : Text) → IsAsked id → (x y other : Text) (xs : List Text) → IsPlain x → IsPlain y → IsPlain other
     → level_fault (pool_leaf name id) [] nothing_held (x ∷ y ∷ other ∷ xs) false [] ≡ [] → P
 unfolding clap_on_literals
 too_many_values name id date x y other xs p q r e = some_kind _ _ (rw (p.dashes, p.long, p.short, q.dashes, q.long, q.short, r.dashes, r.long, r.short) at e)
 too_many_values name id round x y other xs p q r e = some_kind _ _ (rw (p.dashes, p.long, p.short, q.dashes, q.long, q.short, r.dashes, r.long, r.short) at e)
+too_many_values name id acts x y other xs p q r e = some_kind _ _ (rw (p.dashes, p.long, p.short, q.dashes, q.long, q.short, r.dashes, r.long, r.short) at e)
+too_many_values name id firm x y other xs p q r e = some_kind _ _ (rw (p.dashes, p.long, p.short, q.dashes, q.long, q.short, r.dashes, r.long, r.short) at e)
 
 one_or_two_values : (name id : Text) → IsAsked id → (rest : List Text) → list_any is_option rest ≡ false → level_fault (pool_leaf name id) [] nothing_held rest false [] ≡ []
-    → (x : Text) × ((y : Option Text) × (rest ≡ x ∷ pool_values y))
+    → (x : Text) × ((y : Option Text) × (rest ≡ x ∷ last_values y))
 unfolding clap_on_literals
 one_or_two_values name id asked [] plain e = some_kind _ _ e
 one_or_two_values name id asked (x ∷ []) plain e = (x, (None, refl))
@@ -168,6 +172,29 @@ two_values (x ∷ y ∷ other ∷ xs) plain e =
     let q = plain_of y second.0 in
     let r = plain_of other (or_false (is_option other) (list_any is_option xs) second.1).0 in
     some_kind _ _ (rw (p.dashes, p.long, p.short, q.dashes, q.long, q.short, r.dashes, r.long, r.short) at e)
+
+-- the values of a forecast, the last of which may be left out
+abbrev forecast_leaf : Shape
+forecast_leaf = leaf (codes "forecast") (value (codes "KIND") ∷ value (codes "DATE") ∷ choice (codes "POOL") ∷ [])
+
+two_or_three_values : (rest : List Text) → list_any is_option rest ≡ false → level_fault forecast_leaf [] nothing_held rest false [] ≡ []
+    → (x y : Text) × ((z : Option Text) × (rest ≡ x ∷ y ∷ last_values z))
+unfolding clap_on_literals
+two_or_three_values [] plain e = some_kind _ _ e
+two_or_three_values (x ∷ []) plain e =
+    let p = plain_of x (or_false (is_option x) false plain).0 in
+    some_kind _ _ (rw (p.dashes, p.long, p.short) at e)
+two_or_three_values (x ∷ y ∷ []) plain e = (x, y, (None, refl))
+two_or_three_values (x ∷ y ∷ z ∷ []) plain e = (x, y, (Some z, refl))
+two_or_three_values (x ∷ y ∷ z ∷ other ∷ xs) plain e =
+    let first = or_false (is_option x) (list_any is_option (y ∷ z ∷ other ∷ xs)) plain in
+    let second = or_false (is_option y) (list_any is_option (z ∷ other ∷ xs)) first.1 in
+    let third = or_false (is_option z) (list_any is_option (other ∷ xs)) second.1 in
+    let p = plain_of x first.0 in
+    let q = plain_of y second.0 in
+    let r = plain_of z third.0 in
+    let s = plain_of other (or_false (is_option other) (list_any is_option xs) third.1).0 in
+    some_kind _ _ (rw (p.dashes, p.long, p.short, q.dashes, q.long, q.short, r.dashes, r.long, r.short, s.dashes, s.long, s.short) at e)
 
 -- the values of a trial
 abbrev trial_leaf : Shape
@@ -242,6 +269,30 @@ pub statement_entered : IsEntered (codes "statement") (pool_leaf (codes "stateme
 unfolding clap_on_literals
 statement_entered = record { walked_to = refl; no_fault = refl; found = refl }
 
+pub pools_entered : IsEntered (codes "pools") (leaf (codes "pools") [])
+unfolding clap_on_literals
+pools_entered = record { walked_to = refl; no_fault = refl; found = refl }
+
+pub since_entered : IsEntered (codes "since") (pool_leaf (codes "since") (codes "ACTS"))
+unfolding clap_on_literals
+since_entered = record { walked_to = refl; no_fault = refl; found = refl }
+
+pub seal_entered : IsEntered (codes "seal") (leaf (codes "seal") (choice (codes "ACTS") ∷ []))
+unfolding clap_on_literals
+seal_entered = record { walked_to = refl; no_fault = refl; found = refl }
+
+pub account_entered : IsEntered (codes "account") (pool_leaf (codes "account") (codes "FIRM"))
+unfolding clap_on_literals
+account_entered = record { walked_to = refl; no_fault = refl; found = refl }
+
+pub parts_entered : IsEntered (codes "parts") (pool_leaf (codes "parts") (codes "ROUND"))
+unfolding clap_on_literals
+parts_entered = record { walked_to = refl; no_fault = refl; found = refl }
+
+pub forecast_entered : IsEntered (codes "forecast") forecast_leaf
+unfolding clap_on_literals
+forecast_entered = record { walked_to = refl; no_fault = refl; found = refl }
+
 pub trial_entered : IsEntered (codes "trial") trial_leaf
 unfolding clap_on_literals
 trial_entered = record { walked_to = refl; no_fault = refl; found = refl }
@@ -259,11 +310,17 @@ record IsUnknown (w : Text) : Type 0 where
   pub weigh : bytes_eq (codes "weigh") w ≡ false
   pub history : bytes_eq (codes "history") w ≡ false
   pub statement : bytes_eq (codes "statement") w ≡ false
+  pub pools : bytes_eq (codes "pools") w ≡ false
+  pub since : bytes_eq (codes "since") w ≡ false
+  pub seal : bytes_eq (codes "seal") w ≡ false
+  pub account : bytes_eq (codes "account") w ≡ false
+  pub parts : bytes_eq (codes "parts") w ≡ false
+  pub forecast : bytes_eq (codes "forecast") w ≡ false
   pub trial : bytes_eq (codes "trial") w ≡ false
 
 unknown_refused : {P : Type 0} (w : Text) (rest : List Text) → IsPlain w → IsUnknown w → fault_of program (w ∷ rest) ≡ [] → P
 unfolding clap_on_literals
-unknown_refused w rest p u e = some_kind _ _ (rw (u.run, u.live, u.check, u.explain, u.audit, u.positions, u.notices, u.import_, u.weigh, u.history, u.statement, u.trial, p.dashes, p.long, p.short) at e)
+unknown_refused w rest p u e = some_kind _ _ (rw (u.run, u.live, u.check, u.explain, u.audit, u.positions, u.notices, u.import_, u.weigh, u.history, u.statement, u.pools, u.since, u.seal, u.account, u.parts, u.forecast, u.trial, p.dashes, p.long, p.short) at e)
 
 pub sub_is : (name : Text) (s : Shape) → IsEntered name s → (rest : List Text) → subcommand_of program (name ∷ rest) ≡ Some (rows_at s rest)
 sub_is name s e rest = ap (λ (w : Walk). entered whole w.stopped) (walk_is name s e rest) ∙ rw e.found refl
@@ -298,10 +355,16 @@ first_is w plain rest none found rows =
     (λ import_. decided P (codes "weigh") w (λ _. known_name _ _ weigh_entered refl rest found rows)
     (λ weigh. decided P (codes "history") w (λ _. known_name _ _ history_entered refl rest found rows)
     (λ history. decided P (codes "statement") w (λ _. known_name _ _ statement_entered refl rest found rows)
-    (λ statement. decided P (codes "trial") w (λ _. known_name _ _ trial_entered refl rest found rows)
+    (λ statement. decided P (codes "pools") w (λ _. known_name _ _ pools_entered refl rest found rows)
+    (λ pools. decided P (codes "since") w (λ _. known_name _ _ since_entered refl rest found rows)
+    (λ since. decided P (codes "seal") w (λ _. known_name _ _ seal_entered refl rest found rows)
+    (λ seal. decided P (codes "account") w (λ _. known_name _ _ account_entered refl rest found rows)
+    (λ account. decided P (codes "parts") w (λ _. known_name _ _ parts_entered refl rest found rows)
+    (λ parts. decided P (codes "forecast") w (λ _. known_name _ _ forecast_entered refl rest found rows)
+    (λ forecast. decided P (codes "trial") w (λ _. known_name _ _ trial_entered refl rest found rows)
     (λ trial. λ e _. unknown_refused w rest (plain_of w plain)
-    (record { run = run; live = live; check = check; explain = explain; audit = audit; positions = positions; notices = notices; import_ = import_; weigh = weigh; history = history; statement = statement; trial = trial })
-    e)))))))))))) none
+    (record { run = run; live = live; check = check; explain = explain; audit = audit; positions = positions; notices = notices; import_ = import_; weigh = weigh; history = history; statement = statement; pools = pools; since = since; seal = seal; account = account; parts = parts; forecast = forecast; trial = trial })
+    e)))))))))))))))))) none
 
 -- a first word is asked for
 pub no_words : {P : Type 0} → fault_of program [] ≡ [] → P
@@ -319,18 +382,18 @@ abbrev pub name_and : Text → Text × List Row → Text × Option Text
 name_and id p = (p.0, first_of id p.1)
 
 -- a value, where there is one, is no flag
-abbrev pub IsPlainPool : Option Text → Type 0
-IsPlainPool None = Unit {0}
-IsPlainPool (Some pool) = IsPlain pool
+abbrev pub IsPlainLast : Option Text → Type 0
+IsPlainLast None = Unit {0}
+IsPlainLast (Some value) = IsPlain value
 
-pub positions_values : (pool : Option Text) → IsPlainPool pool
-    → option_map (name_and (codes "POOL")) (subcommand_of program (codes "positions" ∷ pool_values pool)) ≡ Some (codes "positions", pool)
+pub positions_values : (pool : Option Text) → IsPlainLast pool
+    → option_map (name_and (codes "POOL")) (subcommand_of program (codes "positions" ∷ last_values pool)) ≡ Some (codes "positions", pool)
 unfolding clap_on_literals
 positions_values None p = refl
 positions_values (Some x) p = rw (p.dashes, p.long, p.short) refl
 
-pub history_values : (pool : Option Text) → IsPlainPool pool
-    → option_map (name_and (codes "POOL")) (subcommand_of program (codes "history" ∷ pool_values pool)) ≡ Some (codes "history", pool)
+pub history_values : (pool : Option Text) → IsPlainLast pool
+    → option_map (name_and (codes "POOL")) (subcommand_of program (codes "history" ∷ last_values pool)) ≡ Some (codes "history", pool)
 unfolding clap_on_literals
 history_values None p = refl
 history_values (Some x) p = rw (p.dashes, p.long, p.short) refl
@@ -339,17 +402,50 @@ history_values (Some x) p = rw (p.dashes, p.long, p.short) refl
 abbrev pub name_and_pool : Text → Text × List Row → Text × Option Text × Option Text
 name_and_pool id p = (p.0, first_of id p.1, first_of (codes "POOL") p.1)
 
-pub notices_values : (x : Text) (pool : Option Text) → IsPlain x → IsPlainPool pool
-    → option_map (name_and_pool (codes "DATE")) (subcommand_of program (codes "notices" ∷ x ∷ pool_values pool)) ≡ Some (codes "notices", Some x, pool)
+pub notices_values : (x : Text) (pool : Option Text) → IsPlain x → IsPlainLast pool
+    → option_map (name_and_pool (codes "DATE")) (subcommand_of program (codes "notices" ∷ x ∷ last_values pool)) ≡ Some (codes "notices", Some x, pool)
 unfolding clap_on_literals
 notices_values x None p q = rw (p.dashes, p.long, p.short) refl
 notices_values x (Some y) p q = rw (p.dashes, p.long, p.short, q.dashes, q.long, q.short) refl
 
-pub statement_values : (x : Text) (pool : Option Text) → IsPlain x → IsPlainPool pool
-    → option_map (name_and_pool (codes "ROUND")) (subcommand_of program (codes "statement" ∷ x ∷ pool_values pool)) ≡ Some (codes "statement", Some x, pool)
+pub statement_values : (x : Text) (pool : Option Text) → IsPlain x → IsPlainLast pool
+    → option_map (name_and_pool (codes "ROUND")) (subcommand_of program (codes "statement" ∷ x ∷ last_values pool)) ≡ Some (codes "statement", Some x, pool)
 unfolding clap_on_literals
 statement_values x None p q = rw (p.dashes, p.long, p.short) refl
 statement_values x (Some y) p q = rw (p.dashes, p.long, p.short, q.dashes, q.long, q.short) refl
+
+pub seal_values : (acts : Option Text) → IsPlainLast acts
+    → option_map (name_and (codes "ACTS")) (subcommand_of program (codes "seal" ∷ last_values acts)) ≡ Some (codes "seal", acts)
+unfolding clap_on_literals
+seal_values None p = refl
+seal_values (Some x) p = rw (p.dashes, p.long, p.short) refl
+
+pub since_values : (x : Text) (pool : Option Text) → IsPlain x → IsPlainLast pool
+    → option_map (name_and_pool (codes "ACTS")) (subcommand_of program (codes "since" ∷ x ∷ last_values pool)) ≡ Some (codes "since", Some x, pool)
+unfolding clap_on_literals
+since_values x None p q = rw (p.dashes, p.long, p.short) refl
+since_values x (Some y) p q = rw (p.dashes, p.long, p.short, q.dashes, q.long, q.short) refl
+
+pub account_values : (x : Text) (pool : Option Text) → IsPlain x → IsPlainLast pool
+    → option_map (name_and_pool (codes "FIRM")) (subcommand_of program (codes "account" ∷ x ∷ last_values pool)) ≡ Some (codes "account", Some x, pool)
+unfolding clap_on_literals
+account_values x None p q = rw (p.dashes, p.long, p.short) refl
+account_values x (Some y) p q = rw (p.dashes, p.long, p.short, q.dashes, q.long, q.short) refl
+
+pub parts_values : (x : Text) (pool : Option Text) → IsPlain x → IsPlainLast pool
+    → option_map (name_and_pool (codes "ROUND")) (subcommand_of program (codes "parts" ∷ x ∷ last_values pool)) ≡ Some (codes "parts", Some x, pool)
+unfolding clap_on_literals
+parts_values x None p q = rw (p.dashes, p.long, p.short) refl
+parts_values x (Some y) p q = rw (p.dashes, p.long, p.short, q.dashes, q.long, q.short) refl
+
+abbrev pub name_and_two_and_pool : Text × List Row → Text × Option Text × Option Text × Option Text
+name_and_two_and_pool p = (p.0, first_of (codes "KIND") p.1, first_of (codes "DATE") p.1, first_of (codes "POOL") p.1)
+
+pub forecast_values : (x y : Text) (pool : Option Text) → IsPlain x → IsPlain y → IsPlainLast pool
+    → option_map name_and_two_and_pool (subcommand_of program (codes "forecast" ∷ x ∷ y ∷ last_values pool)) ≡ Some (codes "forecast", Some x, Some y, pool)
+unfolding clap_on_literals
+forecast_values x y None p q r = rw (p.dashes, p.long, p.short, q.dashes, q.long, q.short) refl
+forecast_values x y (Some z) p q r = rw (p.dashes, p.long, p.short, q.dashes, q.long, q.short, r.dashes, r.long, r.short) refl
 
 pub import_values : (x : Text) → IsPlain x → option_map (name_and (codes "LANE")) (subcommand_of program (codes "import" ∷ x ∷ [])) ≡ Some (codes "import", Some x)
 unfolding clap_on_literals
@@ -389,58 +485,95 @@ one_rest name id e values rest plain none found rows is text given =
     let value_is : first_of id rows ≡ Some x = ap (λ (q : Text × Option Text). q.1) (found_is (name_and id) (name ∷ x ∷ []) (name, Some x) (values x p) found rows at) in
     one.1 ∙ ap (λ (t : Text). t ∷ []) (some_text (sym value_is ∙ given))
 
-plain_pool : (pool : Option Text) → list_any is_option (pool_values pool) ≡ false → IsPlainPool pool
-plain_pool None plain = tt
-plain_pool (Some x) plain = plain_of x (or_false (is_option x) false plain).0
+plain_last : (pool : Option Text) → list_any is_option (last_values pool) ≡ false → IsPlainLast pool
+plain_last None plain = tt
+plain_last (Some x) plain = plain_of x (or_false (is_option x) false plain).0
 
--- the rest is the pool that was found, if there is one
-pub pool_rest : (name : Text) → IsEntered name (leaf name (choice (codes "POOL") ∷ []))
-    → ((pool : Option Text) → IsPlainPool pool → option_map (name_and (codes "POOL")) (subcommand_of program (name ∷ pool_values pool)) ≡ Some (name, pool))
+-- the rest is the value that was found, if there is one
+pub last_rest : (name id : Text) → IsEntered name (leaf name (choice id ∷ []))
+    → ((last : Option Text) → IsPlainLast last → option_map (name_and id) (subcommand_of program (name ∷ last_values last)) ≡ Some (name, last))
     → (rest : List Text) → list_any is_option rest ≡ false → fault_of program (name ∷ rest) ≡ [] → (found : Text) (rows : List Row)
-    → subcommand_of program (name ∷ rest) ≡ Some (found, rows) → (pool : Option Text) → first_of (codes "POOL") rows ≡ pool → rest ≡ pool_values pool
-pool_rest name entered values rest plain none found rows is pool given =
-    let one = one_choice name (codes "POOL") rest plain (taken_below name _ entered rest none) in
+    → subcommand_of program (name ∷ rest) ≡ Some (found, rows) → (last : Option Text) → first_of id rows ≡ last → rest ≡ last_values last
+last_rest name id entered values rest plain none found rows is last given =
+    let one = one_choice name id rest plain (taken_below name _ entered rest none) in
     let x = one.0 in
-    let p = plain_pool x (ap (list_any is_option) (sym one.1) ∙ plain) in
-    let at : subcommand_of program (name ∷ pool_values x) ≡ Some (found, rows) = ap (λ (r : List Text). subcommand_of program (name ∷ r)) (sym one.1) ∙ is in
-    let value_is = ap (λ (q : Text × Option Text). q.1) (found_is (name_and (codes "POOL")) (name ∷ pool_values x) (name, x) (values x p) found rows at) in
-    one.1 ∙ ap pool_values (sym value_is ∙ given)
+    let p = plain_last x (ap (list_any is_option) (sym one.1) ∙ plain) in
+    let at : subcommand_of program (name ∷ last_values x) ≡ Some (found, rows) = ap (λ (r : List Text). subcommand_of program (name ∷ r)) (sym one.1) ∙ is in
+    let value_is = ap (λ (q : Text × Option Text). q.1) (found_is (name_and id) (name ∷ last_values x) (name, x) (values x p) found rows at) in
+    one.1 ∙ ap last_values (sym value_is ∙ given)
+
+pub seal_rest : (rest : List Text) → list_any is_option rest ≡ false → fault_of program (codes "seal" ∷ rest) ≡ [] → (found : Text) (rows : List Row)
+    → subcommand_of program (codes "seal" ∷ rest) ≡ Some (found, rows) → (acts : Option Text) → first_of (codes "ACTS") rows ≡ acts → rest ≡ last_values acts
+seal_rest = last_rest (codes "seal") (codes "ACTS") seal_entered seal_values
 
 pub positions_rest : (rest : List Text) → list_any is_option rest ≡ false → fault_of program (codes "positions" ∷ rest) ≡ [] → (found : Text) (rows : List Row)
-    → subcommand_of program (codes "positions" ∷ rest) ≡ Some (found, rows) → (pool : Option Text) → first_of (codes "POOL") rows ≡ pool → rest ≡ pool_values pool
-positions_rest = pool_rest (codes "positions") positions_entered positions_values
+    → subcommand_of program (codes "positions" ∷ rest) ≡ Some (found, rows) → (pool : Option Text) → first_of (codes "POOL") rows ≡ pool → rest ≡ last_values pool
+positions_rest = last_rest (codes "positions") (codes "POOL") positions_entered positions_values
 
 pub history_rest : (rest : List Text) → list_any is_option rest ≡ false → fault_of program (codes "history" ∷ rest) ≡ [] → (found : Text) (rows : List Row)
-    → subcommand_of program (codes "history" ∷ rest) ≡ Some (found, rows) → (pool : Option Text) → first_of (codes "POOL") rows ≡ pool → rest ≡ pool_values pool
-history_rest = pool_rest (codes "history") history_entered history_values
+    → subcommand_of program (codes "history" ∷ rest) ≡ Some (found, rows) → (pool : Option Text) → first_of (codes "POOL") rows ≡ pool → rest ≡ last_values pool
+history_rest = last_rest (codes "history") (codes "POOL") history_entered history_values
 
 -- the rest is a value and the pool that was found, if there is one
 pub value_pool_rest : (name id : Text) → IsAsked id → IsEntered name (pool_leaf name id)
-    → ((x : Text) (pool : Option Text) → IsPlain x → IsPlainPool pool
-    → option_map (name_and_pool id) (subcommand_of program (name ∷ x ∷ pool_values pool)) ≡ Some (name, Some x, pool))
+    → ((x : Text) (pool : Option Text) → IsPlain x → IsPlainLast pool
+    → option_map (name_and_pool id) (subcommand_of program (name ∷ x ∷ last_values pool)) ≡ Some (name, Some x, pool))
     → (rest : List Text) → list_any is_option rest ≡ false → fault_of program (name ∷ rest) ≡ [] → (found : Text) (rows : List Row)
     → subcommand_of program (name ∷ rest) ≡ Some (found, rows) → (text : Text) (pool : Option Text) → first_of id rows ≡ Some text
-    → first_of (codes "POOL") rows ≡ pool → rest ≡ text ∷ pool_values pool
+    → first_of (codes "POOL") rows ≡ pool → rest ≡ text ∷ last_values pool
 value_pool_rest name id asked entered values_are rest plain none found rows is text pool ex ey =
     let two = one_or_two_values name id asked rest plain (taken_below name _ entered rest none) in
     let u = two.0 in
     let v = two.1.0 in
-    let parts = or_false (is_option u) (list_any is_option (pool_values v)) (ap (list_any is_option) (sym two.1.1) ∙ plain) in
-    let at : subcommand_of program (name ∷ u ∷ pool_values v) ≡ Some (found, rows) = ap (λ (r : List Text). subcommand_of program (name ∷ r)) (sym two.1.1) ∙ is in
-    let values = found_is (name_and_pool id) (name ∷ u ∷ pool_values v) (name, Some u, v) (values_are u v (plain_of u parts.0) (plain_pool v parts.1)) found rows at in
+    let parts = or_false (is_option u) (list_any is_option (last_values v)) (ap (list_any is_option) (sym two.1.1) ∙ plain) in
+    let at : subcommand_of program (name ∷ u ∷ last_values v) ≡ Some (found, rows) = ap (λ (r : List Text). subcommand_of program (name ∷ r)) (sym two.1.1) ∙ is in
+    let values = found_is (name_and_pool id) (name ∷ u ∷ last_values v) (name, Some u, v) (values_are u v (plain_of u parts.0) (plain_last v parts.1)) found rows at in
     let a : u ≡ text = some_text (sym (ap (λ (q : Text × Option Text × Option Text). q.1) values) ∙ ex) in
     let b : v ≡ pool = sym (ap (λ (q : Text × Option Text × Option Text). q.2) values) ∙ ey in
     two.1.1 ∙ rw (a, b) refl
 
 pub notices_rest : (rest : List Text) → list_any is_option rest ≡ false → fault_of program (codes "notices" ∷ rest) ≡ [] → (found : Text) (rows : List Row)
     → subcommand_of program (codes "notices" ∷ rest) ≡ Some (found, rows) → (text : Text) (pool : Option Text) → first_of (codes "DATE") rows ≡ Some text
-    → first_of (codes "POOL") rows ≡ pool → rest ≡ text ∷ pool_values pool
+    → first_of (codes "POOL") rows ≡ pool → rest ≡ text ∷ last_values pool
 notices_rest = value_pool_rest (codes "notices") (codes "DATE") date notices_entered notices_values
 
 pub statement_rest : (rest : List Text) → list_any is_option rest ≡ false → fault_of program (codes "statement" ∷ rest) ≡ [] → (found : Text) (rows : List Row)
     → subcommand_of program (codes "statement" ∷ rest) ≡ Some (found, rows) → (text : Text) (pool : Option Text) → first_of (codes "ROUND") rows ≡ Some text
-    → first_of (codes "POOL") rows ≡ pool → rest ≡ text ∷ pool_values pool
+    → first_of (codes "POOL") rows ≡ pool → rest ≡ text ∷ last_values pool
 statement_rest = value_pool_rest (codes "statement") (codes "ROUND") round statement_entered statement_values
+
+pub since_rest : (rest : List Text) → list_any is_option rest ≡ false → fault_of program (codes "since" ∷ rest) ≡ [] → (found : Text) (rows : List Row)
+    → subcommand_of program (codes "since" ∷ rest) ≡ Some (found, rows) → (text : Text) (pool : Option Text) → first_of (codes "ACTS") rows ≡ Some text
+    → first_of (codes "POOL") rows ≡ pool → rest ≡ text ∷ last_values pool
+since_rest = value_pool_rest (codes "since") (codes "ACTS") acts since_entered since_values
+
+pub account_rest : (rest : List Text) → list_any is_option rest ≡ false → fault_of program (codes "account" ∷ rest) ≡ [] → (found : Text) (rows : List Row)
+    → subcommand_of program (codes "account" ∷ rest) ≡ Some (found, rows) → (text : Text) (pool : Option Text) → first_of (codes "FIRM") rows ≡ Some text
+    → first_of (codes "POOL") rows ≡ pool → rest ≡ text ∷ last_values pool
+account_rest = value_pool_rest (codes "account") (codes "FIRM") firm account_entered account_values
+
+pub parts_rest : (rest : List Text) → list_any is_option rest ≡ false → fault_of program (codes "parts" ∷ rest) ≡ [] → (found : Text) (rows : List Row)
+    → subcommand_of program (codes "parts" ∷ rest) ≡ Some (found, rows) → (text : Text) (pool : Option Text) → first_of (codes "ROUND") rows ≡ Some text
+    → first_of (codes "POOL") rows ≡ pool → rest ≡ text ∷ last_values pool
+parts_rest = value_pool_rest (codes "parts") (codes "ROUND") round parts_entered parts_values
+
+pub forecast_rest : (rest : List Text) → list_any is_option rest ≡ false → fault_of program (codes "forecast" ∷ rest) ≡ [] → (found : Text) (rows : List Row)
+    → subcommand_of program (codes "forecast" ∷ rest) ≡ Some (found, rows) → (x y : Text) (pool : Option Text) → first_of (codes "KIND") rows ≡ Some x
+    → first_of (codes "DATE") rows ≡ Some y → first_of (codes "POOL") rows ≡ pool → rest ≡ x ∷ y ∷ last_values pool
+forecast_rest rest plain none found rows is x y pool ex ey ez =
+    let three = two_or_three_values rest plain (taken_below (codes "forecast") _ forecast_entered rest none) in
+    let u = three.0 in
+    let v = three.1 in
+    let w = three.2.0 in
+    let first = or_false (is_option u) (list_any is_option (v ∷ last_values w)) (ap (list_any is_option) (sym three.2.1) ∙ plain) in
+    let second = or_false (is_option v) (list_any is_option (last_values w)) first.1 in
+    let at : subcommand_of program (codes "forecast" ∷ u ∷ v ∷ last_values w) ≡ Some (found, rows) = ap (λ (r : List Text). subcommand_of program (codes "forecast" ∷ r)) (sym three.2.1) ∙ is in
+    let values = found_is name_and_two_and_pool (codes "forecast" ∷ u ∷ v ∷ last_values w) (codes "forecast", Some u, Some v, w)
+    (forecast_values u v w (plain_of u first.0) (plain_of v second.0) (plain_last w second.1)) found rows at in
+    let a : u ≡ x = some_text (sym (ap (λ (q : Text × Option Text × Option Text × Option Text). q.1) values) ∙ ex) in
+    let b : v ≡ y = some_text (sym (ap (λ (q : Text × Option Text × Option Text × Option Text). q.2) values) ∙ ey) in
+    let c : w ≡ pool = sym (ap (λ (q : Text × Option Text × Option Text × Option Text). q.3) values) ∙ ez in
+    three.2.1 ∙ rw (a, b, c) refl
 
 pub import_rest : (rest : List Text) → list_any is_option rest ≡ false → fault_of program (codes "import" ∷ rest) ≡ [] → (found : Text) (rows : List Row)
     → subcommand_of program (codes "import" ∷ rest) ≡ Some (found, rows) → (text : Text) → first_of (codes "LANE") rows ≡ Some text → rest ≡ text ∷ []
@@ -485,25 +618,50 @@ pub plain_taken : (name : Text) → IsEntered name (leaf name []) → fault_of p
 unfolding clap_on_literals
 plain_taken name e = below_is name (leaf name []) e []
 
-pub positions_taken : (pool : Option Text) → IsPlainPool pool → fault_of program (codes "positions" ∷ pool_values pool) ≡ []
+pub positions_taken : (pool : Option Text) → IsPlainLast pool → fault_of program (codes "positions" ∷ last_values pool) ≡ []
 unfolding clap_on_literals
 positions_taken None p = refl
 positions_taken (Some x) p = rw (p.dashes, p.long, p.short) refl
 
-pub notices_taken : (x : Text) (pool : Option Text) → IsPlain x → IsPlainPool pool → fault_of program (codes "notices" ∷ x ∷ pool_values pool) ≡ []
+pub notices_taken : (x : Text) (pool : Option Text) → IsPlain x → IsPlainLast pool → fault_of program (codes "notices" ∷ x ∷ last_values pool) ≡ []
 unfolding clap_on_literals
 notices_taken x None p q = rw (p.dashes, p.long, p.short) refl
 notices_taken x (Some y) p q = rw (p.dashes, p.long, p.short, q.dashes, q.long, q.short) refl
 
-pub history_taken : (pool : Option Text) → IsPlainPool pool → fault_of program (codes "history" ∷ pool_values pool) ≡ []
+pub history_taken : (pool : Option Text) → IsPlainLast pool → fault_of program (codes "history" ∷ last_values pool) ≡ []
 unfolding clap_on_literals
 history_taken None p = refl
 history_taken (Some x) p = rw (p.dashes, p.long, p.short) refl
 
-pub statement_taken : (x : Text) (pool : Option Text) → IsPlain x → IsPlainPool pool → fault_of program (codes "statement" ∷ x ∷ pool_values pool) ≡ []
+pub statement_taken : (x : Text) (pool : Option Text) → IsPlain x → IsPlainLast pool → fault_of program (codes "statement" ∷ x ∷ last_values pool) ≡ []
 unfolding clap_on_literals
 statement_taken x None p q = rw (p.dashes, p.long, p.short) refl
 statement_taken x (Some y) p q = rw (p.dashes, p.long, p.short, q.dashes, q.long, q.short) refl
+
+pub since_taken : (x : Text) (pool : Option Text) → IsPlain x → IsPlainLast pool → fault_of program (codes "since" ∷ x ∷ last_values pool) ≡ []
+unfolding clap_on_literals
+since_taken x None p q = rw (p.dashes, p.long, p.short) refl
+since_taken x (Some y) p q = rw (p.dashes, p.long, p.short, q.dashes, q.long, q.short) refl
+
+pub seal_taken : (acts : Option Text) → IsPlainLast acts → fault_of program (codes "seal" ∷ last_values acts) ≡ []
+unfolding clap_on_literals
+seal_taken None p = refl
+seal_taken (Some x) p = rw (p.dashes, p.long, p.short) refl
+
+pub account_taken : (x : Text) (pool : Option Text) → IsPlain x → IsPlainLast pool → fault_of program (codes "account" ∷ x ∷ last_values pool) ≡ []
+unfolding clap_on_literals
+account_taken x None p q = rw (p.dashes, p.long, p.short) refl
+account_taken x (Some y) p q = rw (p.dashes, p.long, p.short, q.dashes, q.long, q.short) refl
+
+pub parts_taken : (x : Text) (pool : Option Text) → IsPlain x → IsPlainLast pool → fault_of program (codes "parts" ∷ x ∷ last_values pool) ≡ []
+unfolding clap_on_literals
+parts_taken x None p q = rw (p.dashes, p.long, p.short) refl
+parts_taken x (Some y) p q = rw (p.dashes, p.long, p.short, q.dashes, q.long, q.short) refl
+
+pub forecast_taken : (x y : Text) (pool : Option Text) → IsPlain x → IsPlain y → IsPlainLast pool → fault_of program (codes "forecast" ∷ x ∷ y ∷ last_values pool) ≡ []
+unfolding clap_on_literals
+forecast_taken x y None p q r = rw (p.dashes, p.long, p.short, q.dashes, q.long, q.short) refl
+forecast_taken x y (Some z) p q r = rw (p.dashes, p.long, p.short, q.dashes, q.long, q.short, r.dashes, r.long, r.short) refl
 
 pub import_taken : (x : Text) → IsPlain x → fault_of program (codes "import" ∷ x ∷ []) ≡ []
 unfolding clap_on_literals

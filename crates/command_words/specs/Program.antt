@@ -47,9 +47,21 @@ notices_values = value (codes "DATE") ∷ choice (codes "POOL") ∷ []
 abbrev pub weigh_values : List Rule
 weigh_values = value (codes "KIND") ∷ value (codes "DATE") ∷ []
 
--- the values of a statement
+-- the values of a statement, and of its pages
 abbrev pub statement_values : List Rule
 statement_values = value (codes "ROUND") ∷ choice (codes "POOL") ∷ []
+
+-- the values of what came since
+abbrev pub since_values : List Rule
+since_values = value (codes "ACTS") ∷ choice (codes "POOL") ∷ []
+
+-- the values of a register
+abbrev pub account_values : List Rule
+account_values = value (codes "FIRM") ∷ choice (codes "POOL") ∷ []
+
+-- the values of a forecast
+abbrev pub forecast_values : List Rule
+forecast_values = value (codes "KIND") ∷ value (codes "DATE") ∷ choice (codes "POOL") ∷ []
 
 -- the values of a trial
 abbrev pub trial_values : List Rule
@@ -58,9 +70,15 @@ trial_values = value (codes "FIRMS") ∷ value (codes "CLAIMS") ∷ value (codes
 -- the program with its commands
 abbrev pub program : App
 program = knowing (codes "trial") trial_values
+    (knowing (codes "forecast") forecast_values
+    (knowing (codes "parts") statement_values
+    (knowing (codes "account") account_values
+    (knowing (codes "seal") (choice (codes "ACTS") ∷ [])
+    (knowing (codes "since") since_values
+    (knowing (codes "pools") []
     (knowing (codes "statement") statement_values
     (knowing (codes "history") (choice (codes "POOL") ∷ [])
     (knowing (codes "weigh") weigh_values
     (knowing (codes "import") (value (codes "LANE") ∷ [])
     (knowing (codes "notices") notices_values
-    (knowing (codes "positions") (choice (codes "POOL") ∷ []) plain))))))
+    (knowing (codes "positions") (choice (codes "POOL") ∷ []) plain))))))))))))

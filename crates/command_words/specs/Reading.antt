@@ -8,7 +8,7 @@ use Rattle.command_words.specs.declared.command.Command.{Command}
 use Rattle.command_words.specs.declared.command.Command.TheVariants as commands
 use Rattle.command_words.specs.declared.input_report.InputReport.TheVariants as inputs
 use Rattle.command_words.specs.declared.journal_report.JournalReport.TheVariants as journals
-use Rattle.command_words.specs.Words.{name_of}
+use Rattle.command_words.specs.Words.{acts_text, name_of}
 
 -- the word begins with a hyphen
 abbrev pub is_option : List ℕ → Bool
@@ -31,6 +31,15 @@ AreGiven (commands.OnJournal (journals.Weigh kind today)) value = (value (codes 
 AreGiven (commands.OnJournal (journals.History pool)) value = value (codes "POOL") ≡ pool
 AreGiven (commands.OnJournal (journals.Statement round pool)) value = (value (codes "ROUND") ≡ Some (decimal round))
     × (value (codes "POOL") ≡ pool)
+AreGiven (commands.OnJournal journals.Pools) value = Unit {0}
+AreGiven (commands.OnJournal (journals.Since acts pool)) value = (value (codes "ACTS") ≡ Some (decimal acts))
+    × (value (codes "POOL") ≡ pool)
+AreGiven (commands.OnJournal (journals.Seal acts)) value = value (codes "ACTS") ≡ acts_text acts
+AreGiven (commands.OnJournal (journals.Account firm pool)) value = (value (codes "FIRM") ≡ Some firm) × (value (codes "POOL") ≡ pool)
+AreGiven (commands.OnJournal (journals.Parts round pool)) value = (value (codes "ROUND") ≡ Some (decimal round))
+    × (value (codes "POOL") ≡ pool)
+AreGiven (commands.OnJournal (journals.Forecast kind horizon pool)) value = (value (codes "KIND") ≡ Some (kind_text kind))
+    × (value (codes "DATE") ≡ Some (day_text horizon)) × (value (codes "POOL") ≡ pool)
 AreGiven (commands.Trial firms claims seed) value = (value (codes "FIRMS") ≡ Some (decimal firms))
     × (value (codes "CLAIMS") ≡ Some (decimal claims)) × (value (codes "SEED") ≡ Some (decimal seed))
 

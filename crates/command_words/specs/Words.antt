@@ -1,6 +1,6 @@
 -- The words of the program's command line.
 use Rattle.std.specs.Prelude.{◌≡◌, ◌≤◌, ◌<◌, ◌^◌, ℕ, List, [], ◌∷◌, Option, Some, None, true, codes, decimal}
-use Rattle.setoff_model.specs.declared.limits.TheConstants.{LAST_DAY, MOST_FIRMS, MOST_CLAIMS}
+use Rattle.setoff_model.specs.declared.limits.TheConstants.{LAST_DAY, MOST_CLAIMS, MOST_ENTRIES, MOST_FIRMS}
 use Rattle.setoff_model.specs.Names.{is_name}
 use Rattle.setoff_model.specs.Texts.{kind_text}
 use Rattle.request_text.specs.claim_history.specs.Days.{day_text}
@@ -23,6 +23,16 @@ abbrev pub NamesOther : Option (List ℕ) → Type 0
 NamesOther None = Unit {0}
 NamesOther (Some pool) = IsOtherPool pool
 
+-- the number of acts is one that a journal may have, where one is given
+abbrev pub AreActs : Option ℕ → Type 0
+AreActs None = Unit {0}
+AreActs (Some acts) = acts ≤ MOST_ENTRIES
+
+-- its text, where one is given
+abbrev pub acts_text : Option ℕ → Option (List ℕ)
+acts_text None = None
+acts_text (Some acts) = Some (decimal acts)
+
 -- the values of a command are in their ranges
 abbrev pub IsCommand : Command → Type 0
 IsCommand commands.Run = Unit {0}
@@ -36,6 +46,12 @@ IsCommand (commands.OnJournal (journals.Notices today pool)) = (today ≤ LAST_D
 IsCommand (commands.OnJournal (journals.Weigh kind today)) = today ≤ LAST_DAY
 IsCommand (commands.OnJournal (journals.History pool)) = IsPool pool
 IsCommand (commands.OnJournal (journals.Statement round pool)) = (1 ≤ round) × (round < 2 ^ 32) × NamesOther pool
+IsCommand (commands.OnJournal journals.Pools) = Unit {0}
+IsCommand (commands.OnJournal (journals.Since acts pool)) = (acts ≤ MOST_ENTRIES) × IsPool pool
+IsCommand (commands.OnJournal (journals.Seal acts)) = AreActs acts
+IsCommand (commands.OnJournal (journals.Account firm pool)) = (is_name firm ≡ true) × IsPool pool
+IsCommand (commands.OnJournal (journals.Parts round pool)) = (1 ≤ round) × (round < 2 ^ 32) × IsPool pool
+IsCommand (commands.OnJournal (journals.Forecast kind horizon pool)) = (horizon ≤ LAST_DAY) × IsPool pool
 IsCommand (commands.Trial firms claims seed) = (2 ≤ firms) × (firms ≤ MOST_FIRMS) × (1 ≤ claims) × (claims ≤ MOST_CLAIMS) × (seed < 2 ^ 32)
 
 -- the first word of a command
@@ -51,12 +67,18 @@ name_of (commands.OnJournal (journals.Notices today pool)) = codes "notices"
 name_of (commands.OnJournal (journals.Weigh kind today)) = codes "weigh"
 name_of (commands.OnJournal (journals.History pool)) = codes "history"
 name_of (commands.OnJournal (journals.Statement round pool)) = codes "statement"
+name_of (commands.OnJournal journals.Pools) = codes "pools"
+name_of (commands.OnJournal (journals.Since acts pool)) = codes "since"
+name_of (commands.OnJournal (journals.Seal acts)) = codes "seal"
+name_of (commands.OnJournal (journals.Account firm pool)) = codes "account"
+name_of (commands.OnJournal (journals.Parts round pool)) = codes "parts"
+name_of (commands.OnJournal (journals.Forecast kind horizon pool)) = codes "forecast"
 name_of (commands.Trial firms claims seed) = codes "trial"
 
--- the value that names a pool, where one is given
-abbrev pub pool_values : Option (List ℕ) → List (List ℕ)
-pool_values None = []
-pool_values (Some pool) = pool ∷ []
+-- a last value that may be left out, where one is given
+abbrev pub last_values : Option (List ℕ) → List (List ℕ)
+last_values None = []
+last_values (Some value) = value ∷ []
 
 -- the values of a command, as they are spelled
 abbrev pub values_of : Command → List (List ℕ)
@@ -66,11 +88,17 @@ values_of (commands.OnInput inputs.Check) = []
 values_of (commands.OnInput inputs.Explain) = []
 values_of (commands.OnInput (inputs.Import lane)) = decimal lane ∷ []
 values_of (commands.OnJournal journals.Audit) = []
-values_of (commands.OnJournal (journals.Positions pool)) = pool_values pool
-values_of (commands.OnJournal (journals.Notices today pool)) = day_text today ∷ pool_values pool
+values_of (commands.OnJournal (journals.Positions pool)) = last_values pool
+values_of (commands.OnJournal (journals.Notices today pool)) = day_text today ∷ last_values pool
 values_of (commands.OnJournal (journals.Weigh kind today)) = kind_text kind ∷ day_text today ∷ []
-values_of (commands.OnJournal (journals.History pool)) = pool_values pool
-values_of (commands.OnJournal (journals.Statement round pool)) = decimal round ∷ pool_values pool
+values_of (commands.OnJournal (journals.History pool)) = last_values pool
+values_of (commands.OnJournal (journals.Statement round pool)) = decimal round ∷ last_values pool
+values_of (commands.OnJournal journals.Pools) = []
+values_of (commands.OnJournal (journals.Since acts pool)) = decimal acts ∷ last_values pool
+values_of (commands.OnJournal (journals.Seal acts)) = last_values (acts_text acts)
+values_of (commands.OnJournal (journals.Account firm pool)) = firm ∷ last_values pool
+values_of (commands.OnJournal (journals.Parts round pool)) = decimal round ∷ last_values pool
+values_of (commands.OnJournal (journals.Forecast kind horizon pool)) = kind_text kind ∷ day_text horizon ∷ last_values pool
 values_of (commands.Trial firms claims seed) = decimal firms ∷ decimal claims ∷ decimal seed ∷ []
 
 -- the words of a command
@@ -102,3 +130,9 @@ pool_of (journals.Notices today pool) = named_or_main pool
 pool_of (journals.Weigh kind today) = main_pool
 pool_of (journals.History pool) = named_or_main pool
 pool_of (journals.Statement round pool) = named_or_main pool
+pool_of journals.Pools = main_pool
+pool_of (journals.Since acts pool) = named_or_main pool
+pool_of (journals.Seal acts) = main_pool
+pool_of (journals.Account firm pool) = named_or_main pool
+pool_of (journals.Parts round pool) = named_or_main pool
+pool_of (journals.Forecast kind horizon pool) = named_or_main pool

@@ -41,11 +41,48 @@ pub enum JournalReport {
         /// The pool, where the words name another than MAIN.
         pool: Option<Name>,
     },
+    /// `pools`: prints a row for each pool.
+    Pools,
+    /// `since ACTS` or `since ACTS POOL`: prints what a history prints of the entries behind the first acts.
+    Since {
+        /// How many acts of the journal, of all pools, come before, at most 1,048,576.
+        acts: u32,
+        /// The pool, where the words name one. Else the entries of all pools are printed.
+        pool: Option<Name>,
+    },
+    /// `seal` or `seal ACTS`: prints a digest of the records of the journal.
+    Seal {
+        /// How many acts are sealed, at most 1,048,576, where the words name a number. Else all are.
+        acts: Option<u32>,
+    },
+    /// `account FIRM` or `account FIRM POOL`: prints the register of a firm.
+    Account {
+        /// The firm.
+        firm: Name,
+        /// The pool, where the words name one, else MAIN.
+        pool: Option<Name>,
+    },
+    /// `parts ROUND` or `parts ROUND POOL`: prints a page of a round for each of its parties.
+    Parts {
+        /// The number of the round, from 1 on.
+        round: u32,
+        /// The pool, where the words name one, else MAIN.
+        pool: Option<Name>,
+    },
+    /// `forecast KIND DATE` or `forecast KIND DATE POOL`: prints the statement of the round that a Close would publish now.
+    Forecast {
+        /// Whether accounts are drawn on.
+        kind: Kind,
+        /// The last day on which a claim of the cut is due.
+        horizon: Day,
+        /// The pool, where the words name one, else MAIN.
+        pool: Option<Name>,
+    },
 }
 
 impl JournalReport {
-    /// The pool of which a report speaks: the one that its words name, else MAIN. An audit counts the acts of all pools, and a history
-    /// without a pool prints the entries of all.
+    /// The pool of which a report speaks: the one that its words name, else MAIN. An audit, a seal and the table of pools are of all
+    /// pools, and so are a history and what came since, where no pool is named.
     pub fn pool(&self) -> Name
         ensures { result ≡ pool_of self.now }
     {
@@ -56,6 +93,12 @@ impl JournalReport {
             JournalReport::Weigh { .. } => main_pool_name(),
             JournalReport::History { pool } => named_or_main(pool),
             JournalReport::Statement { pool, .. } => named_or_main(pool),
+            JournalReport::Pools => main_pool_name(),
+            JournalReport::Since { pool, .. } => named_or_main(pool),
+            JournalReport::Seal { .. } => main_pool_name(),
+            JournalReport::Account { pool, .. } => named_or_main(pool),
+            JournalReport::Parts { pool, .. } => named_or_main(pool),
+            JournalReport::Forecast { pool, .. } => named_or_main(pool),
         }
     }
 }

@@ -9,7 +9,7 @@ use clap::{Arg, Command};
 use std::alloc::{AllocError, Global};
 
 // The commands, each with its values in order: the name of a value, and whether the command asks for it.
-static COMMANDS: [(&str, &[(&str, bool)]); 12] = [
+static COMMANDS: [(&str, &[(&str, bool)]); 18] = [
     ("run", &[]),
     ("live", &[]),
     ("check", &[]),
@@ -21,6 +21,15 @@ static COMMANDS: [(&str, &[(&str, bool)]); 12] = [
     ("weigh", &[("KIND", true), ("DATE", true)]),
     ("history", &[("POOL", false)]),
     ("statement", &[("ROUND", true), ("POOL", false)]),
+    ("pools", &[]),
+    ("since", &[("ACTS", true), ("POOL", false)]),
+    ("seal", &[("ACTS", false)]),
+    ("account", &[("FIRM", true), ("POOL", false)]),
+    ("parts", &[("ROUND", true), ("POOL", false)]),
+    (
+        "forecast",
+        &[("KIND", true), ("DATE", true), ("POOL", false)],
+    ),
     (
         "trial",
         &[("FIRMS", true), ("CLAIMS", true), ("SEED", true)],

@@ -1,7 +1,7 @@
 //! The words, as a command.
-ghost use Rattle.std.specs.Prelude.{◌≡◌, ◌≤◌, ℕ, List, Option, codes, [], map, string_bytes, decimal, IfOk, IfErr, IfSome, IfNone, Some};
+ghost use Rattle.std.specs.Prelude.{◌≡◌, ◌≤◌, ℕ, List, Option, codes, [], map, string_bytes, decimal, IfOk, IfErr, IfSome, IfNone, Some, true};
 ghost use Rattle.std.specs.List.{list_any};
-ghost use Rattle.setoff_model.specs.declared.limits.TheConstants.{LAST_DAY};
+ghost use Rattle.setoff_model.specs.declared.limits.TheConstants.{LAST_DAY, MOST_ENTRIES};
 ghost use Rattle.setoff_model.specs.Texts.{kind_text};
 ghost use Rattle.setoff_model.specs.declared.kind.Kind.{Kind as KindOf};
 ghost use Rattle.request_text.specs.claim_history.specs.Days.{day_text};
@@ -10,7 +10,8 @@ ghost use Rattle.clap.specs.Values.{kind_of};
 ghost use Rattle.clap.specs.declared.error.kind.ErrorKind.TheVariants.{OutOfMemory};
 ghost use Rattle.command_words.specs.declared.command.Command.{Command as CommandOf};
 ghost use Rattle.command_words.specs.Program.{program};
-ghost use Rattle.command_words.specs.Words.{AreWordsOf, AreNoWords, IsCommand, IsPool, NamesOther};
+ghost use Rattle.setoff_model.specs.Names.{is_name};
+ghost use Rattle.command_words.specs.Words.{AreActs, AreWordsOf, AreNoWords, IsCommand, IsPool, NamesOther, acts_text};
 ghost use Rattle.request_text.specs.claim_history.specs.Pools.{is_main as names_main};
 ghost use Rattle.command_words.specs.Reading.{IsFoundIn, IsGiven, is_option};
 
@@ -22,7 +23,7 @@ use crate::program::program;
 use clap::error::ErrorKind;
 use clap::{ArgMatches, Error};
 use request_text::{Day, main_pool_name};
-use setoff_model::limits::{MOST_CLAIMS, MOST_FIRMS, MOST_LANES};
+use setoff_model::limits::{MOST_CLAIMS, MOST_ENTRIES, MOST_FIRMS, MOST_LANES};
 use setoff_model::{Kind, Name, read_kind, read_number};
 use std::alloc::Global;
 
@@ -164,6 +165,88 @@ fn statement_at(values: &ArgMatches) -> Option<Command>
     Some(Command::OnJournal(JournalReport::Statement { round, pool }))
 }
 
+// The number of acts that is the value of this name.
+fn acts_at(values: &ArgMatches, id: &str) -> Option<u32>
+    ensures found { IfSome result (λ n. (n ≤ MOST_ENTRIES) × (first_value (found_of values.now) id.now ≡ Some (decimal n))) }
+    ensures none { IfNone result ((n : ℕ) → n ≤ MOST_ENTRIES → first_value (found_of values.now) id.now ≡ Some (decimal n) → ⊥) }
+{
+    number_at(values, id, 0, MOST_ENTRIES as u32)
+}
+
+// The number of acts that is the value of this name, if there is one.
+fn some_acts_at(values: &ArgMatches, id: &str) -> Option<Option<u32>>
+    ensures found { IfSome result (λ acts. AreActs acts × (first_value (found_of values.now) id.now ≡ acts_text acts)) }
+    ensures none { IfNone result ((acts : Option ℕ) → AreActs acts → first_value (found_of values.now) id.now ≡ acts_text acts → ⊥) }
+{
+    if values.get_str(id).is_none() {
+        return Some(None);
+    }
+    let acts = acts_at(values, id)?;
+    Some(Some(acts))
+}
+
+// The firm that is the value of this name.
+fn firm_at(values: &ArgMatches, id: &str) -> Option<Name>
+    ensures found { IfSome result (λ firm. (is_name firm ≡ true) × (first_value (found_of values.now) id.now ≡ Some firm)) }
+    ensures none { IfNone result ((firm : List ℕ) → is_name firm ≡ true → first_value (found_of values.now) id.now ≡ Some firm → ⊥) }
+{
+    Name::of(values.get_str(id)?.as_bytes())
+}
+
+// The command `since` with its values.
+fn since_at(values: &ArgMatches) -> Option<Command>
+    ensures found { IfSome result (λ c. IsCommand c × IsGiven c (codes "since") (first_value (found_of values.now))) }
+    ensures none { IfNone result ((c : CommandOf) → IsCommand c → IsGiven c (codes "since") (first_value (found_of values.now)) → ⊥) }
+{
+    let acts = acts_at(values, "ACTS")?;
+    let pool = pool_at(values, "POOL")?;
+    Some(Command::OnJournal(JournalReport::Since { acts, pool }))
+}
+
+// The command `seal` with its value.
+fn seal_at(values: &ArgMatches) -> Option<Command>
+    ensures found { IfSome result (λ c. IsCommand c × IsGiven c (codes "seal") (first_value (found_of values.now))) }
+    ensures none { IfNone result ((c : CommandOf) → IsCommand c → IsGiven c (codes "seal") (first_value (found_of values.now)) → ⊥) }
+{
+    let acts = some_acts_at(values, "ACTS")?;
+    Some(Command::OnJournal(JournalReport::Seal { acts }))
+}
+
+// The command `account` with its values.
+fn account_at(values: &ArgMatches) -> Option<Command>
+    ensures found { IfSome result (λ c. IsCommand c × IsGiven c (codes "account") (first_value (found_of values.now))) }
+    ensures none { IfNone result ((c : CommandOf) → IsCommand c → IsGiven c (codes "account") (first_value (found_of values.now)) → ⊥) }
+{
+    let firm = firm_at(values, "FIRM")?;
+    let pool = pool_at(values, "POOL")?;
+    Some(Command::OnJournal(JournalReport::Account { firm, pool }))
+}
+
+// The command `parts` with its values.
+fn parts_at(values: &ArgMatches) -> Option<Command>
+    ensures found { IfSome result (λ c. IsCommand c × IsGiven c (codes "parts") (first_value (found_of values.now))) }
+    ensures none { IfNone result ((c : CommandOf) → IsCommand c → IsGiven c (codes "parts") (first_value (found_of values.now)) → ⊥) }
+{
+    let round = number_at(values, "ROUND", 1, u32::MAX)?;
+    let pool = pool_at(values, "POOL")?;
+    Some(Command::OnJournal(JournalReport::Parts { round, pool }))
+}
+
+// The command `forecast` with its values.
+fn forecast_at(values: &ArgMatches) -> Option<Command>
+    ensures found { IfSome result (λ c. IsCommand c × IsGiven c (codes "forecast") (first_value (found_of values.now))) }
+    ensures none { IfNone result ((c : CommandOf) → IsCommand c → IsGiven c (codes "forecast") (first_value (found_of values.now)) → ⊥) }
+{
+    let kind = kind_at(values, "KIND")?;
+    let horizon = day_at(values, "DATE")?;
+    let pool = pool_at(values, "POOL")?;
+    Some(Command::OnJournal(JournalReport::Forecast {
+        kind,
+        horizon,
+        pool,
+    }))
+}
+
 // The command `trial` with its values.
 fn trial_at(values: &ArgMatches) -> Option<Command>
     ensures found { IfSome result (λ c. IsCommand c × IsGiven c (codes "trial") (first_value (found_of values.now))) }
@@ -193,6 +276,12 @@ fn given(name: &str, values: &ArgMatches) -> Option<Command>
         "weigh" => weigh_at(values),
         "history" => history_at(values),
         "statement" => statement_at(values),
+        "pools" => Some(Command::OnJournal(JournalReport::Pools)),
+        "since" => since_at(values),
+        "seal" => seal_at(values),
+        "account" => account_at(values),
+        "parts" => parts_at(values),
+        "forecast" => forecast_at(values),
         "trial" => trial_at(values),
         _ => None,
     }

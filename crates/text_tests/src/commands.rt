@@ -24,7 +24,7 @@ fn each_list_of_words_is_its_command(rt: HostRuntime) {
     let today = Day::read(b"2025-03-31").expect(&rt, "a day");
     let east = Name::of(b"EAST").expect(&rt, "a name");
     let main = Name::of(b"MAIN").expect(&rt, "a name");
-    let lists: [(&[&str], Command); 23] = [
+    let lists: [(&[&str], Command); 35] = [
         (&["run"], Command::Run),
         (&["live"], Command::Live),
         (&["check"], Command::OnInput(InputReport::Check)),
@@ -86,6 +86,79 @@ fn each_list_of_words_is_its_command(rt: HostRuntime) {
             &["statement", "4294967295", "EAST"],
             Command::OnJournal(JournalReport::Statement {
                 round: 4_294_967_295,
+                pool: Some(east),
+            }),
+        ),
+        (&["pools"], Command::OnJournal(JournalReport::Pools)),
+        (
+            &["since", "0"],
+            Command::OnJournal(JournalReport::Since {
+                acts: 0,
+                pool: None,
+            }),
+        ),
+        (
+            &["since", "1048576", "MAIN"],
+            Command::OnJournal(JournalReport::Since {
+                acts: 1_048_576,
+                pool: Some(main),
+            }),
+        ),
+        (
+            &["seal"],
+            Command::OnJournal(JournalReport::Seal { acts: None }),
+        ),
+        (
+            &["seal", "0"],
+            Command::OnJournal(JournalReport::Seal { acts: Some(0) }),
+        ),
+        (
+            &["seal", "1048576"],
+            Command::OnJournal(JournalReport::Seal {
+                acts: Some(1_048_576),
+            }),
+        ),
+        (
+            &["account", "EAST"],
+            Command::OnJournal(JournalReport::Account {
+                firm: east,
+                pool: None,
+            }),
+        ),
+        (
+            &["account", "EAST", "MAIN"],
+            Command::OnJournal(JournalReport::Account {
+                firm: east,
+                pool: Some(main),
+            }),
+        ),
+        (
+            &["parts", "4294967295"],
+            Command::OnJournal(JournalReport::Parts {
+                round: 4_294_967_295,
+                pool: None,
+            }),
+        ),
+        (
+            &["parts", "1", "EAST"],
+            Command::OnJournal(JournalReport::Parts {
+                round: 1,
+                pool: Some(east),
+            }),
+        ),
+        (
+            &["forecast", "PLAIN", "2025-03-31"],
+            Command::OnJournal(JournalReport::Forecast {
+                kind: Kind::Plain,
+                horizon: today,
+                pool: None,
+            }),
+        ),
+        (
+            &["forecast", "FUNDED", "2025-03-31", "EAST"],
+            Command::OnJournal(JournalReport::Forecast {
+                kind: Kind::Funded,
+                horizon: today,
                 pool: Some(east),
             }),
         ),
@@ -198,6 +271,30 @@ const NO_COMMANDS: &[&[&str]] = &[
     &["statement", "4294967296"],
     &["statement", "1", "MAIN"],
     &["statement", "1", "EAST", "EAST"],
+    &["pools", "EAST"],
+    &["since"],
+    &["since", "1048577"],
+    &["since", "01"],
+    &["since", "EAST"],
+    &["since", "1", "east"],
+    &["since", "1", "EAST", "EAST"],
+    &["seal", "1048577"],
+    &["seal", "EAST"],
+    &["seal", "1", "1"],
+    &["account"],
+    &["account", "a"],
+    &["account", "A", "east"],
+    &["account", "A", "EAST", "EAST"],
+    &["parts"],
+    &["parts", "0"],
+    &["parts", "1", "EAST", "EAST"],
+    &["forecast"],
+    &["forecast", "PLAIN"],
+    &["forecast", "plain", "2025-03-31"],
+    &["forecast", "2025-03-31", "PLAIN"],
+    &["forecast", "PLAIN", "2025-02-29"],
+    &["forecast", "PLAIN", "2025-03-31", "east"],
+    &["forecast", "PLAIN", "2025-03-31", "EAST", "EAST"],
     &["import"],
     &["import", "0"],
     &["import", "17"],
@@ -234,13 +331,19 @@ const FORMS: &[&str] = &[
     "audit ",
     "positions [POOL] ",
     "notices DATE [POOL] ",
+    "account FIRM [POOL] ",
+    "pools ",
     "weigh KIND DATE ",
+    "forecast KIND DATE [POOL] ",
     "history [POOL] ",
+    "since ACTS [POOL] ",
     "statement ROUND [POOL] ",
+    "parts ROUND [POOL] ",
+    "seal [ACTS] ",
     "import LANE ",
     "trial FIRMS CLAIMS SEED ",
     "KIND is PLAIN or FUNDED, DATE is YYYY-MM-DD, ",
-    "version 0.4.0",
+    "version 0.5.0",
 ];
 
 #[test]
