@@ -1,5 +1,5 @@
 -- What is told of a disk that was read.
-use Rattle.std.specs.Prelude.{Option, if◌then◌else◌}
+use Rattle.std.specs.Prelude.{Option, not, if◌then◌else◌}
 use Rattle.std.proofs.Common.{◌≡◌, ◌∙◌, ◌⊎◌, ⊎_elim, inl, inr, ℕ, ◌≤◌, Bool, true, false, List, [], ◌∷◌, refl, subst, sym, true≢false, arith}
 use Rattle.weighed_round.specs.fault_count.specs.Counts.{HasRisen}
 use Rattle.weighed_round.specs.claim_history.specs.declared.call.PoolEntry.{PoolEntry}
@@ -17,9 +17,8 @@ use Rattle.weighed_round.specs.printed_text.specs.Writing.{Wrote}
 use Rattle.bureau_reports.specs.DiskTexts.{IsTellable, opening_status, unsound_status}
 use Rattle.command_words.specs.declared.journal_report.JournalReport.{JournalReport}
 use Rattle.command_words.specs.declared.journal_report.JournalReport.TheVariants as journals
-use Rattle.bureau_reports.specs.Journals.{IsBookDue, IsJournalDue, begun, broken_off, journal_statuses, made, no_text_memory, no_view_memory, report_status, unviewed_status, unviewed, viewed}
-use Rattle.command_words.specs.Words.{pool_of}
-use Rattle.history_text.specs.Histories.{was_published}
+use Rattle.bureau_reports.specs.Journals.{IsBookDue, IsJournalDue, begun, broken_off, has_asked, journal_statuses, made, no_text_memory, no_view_memory, report_status, unviewed_status, unviewed, viewed}
+use Rattle.history_text.specs.Since.{has_fewer}
 use Rattle.weighed_round.specs.printed_text.proofs.Statuses.{other_than}
 use Rattle.bureau_reports.proofs.Written.{told_status, wrote_among}
 pub use Rattle.journal_texts.proofs.Openings.{opening_among, tellable}
@@ -43,13 +42,26 @@ unsound_among (BadRecord offset why) = inr (inr (inl refl))
 unsound_among (BadAct offset got) = inl refl
 unsound_among (Overfull offset) = inl refl
 
+-- an audit tells the act that is refused or full, the others the fault of an opening
+unviewed_one : (report : JournalReport) → ((cause : DeskCause) → unviewed_status report cause ≡ unsound_status cause) ⊎ ((cause : DeskCause) → unviewed_status report cause ≡ opening_status cause)
+unviewed_one journals.Audit = inl (λ cause. refl)
+unviewed_one (journals.Positions pool) = inr (λ cause. refl)
+unviewed_one (journals.Notices today pool) = inr (λ cause. refl)
+unviewed_one (journals.Weigh kind today) = inr (λ cause. refl)
+unviewed_one (journals.History pool) = inr (λ cause. refl)
+unviewed_one (journals.Statement round pool) = inr (λ cause. refl)
+unviewed_one journals.Pools = inr (λ cause. refl)
+unviewed_one (journals.Since acts pool) = inr (λ cause. refl)
+unviewed_one (journals.Seal acts) = inr (λ cause. refl)
+unviewed_one (journals.Account firm pool) = inr (λ cause. refl)
+unviewed_one (journals.Parts round pool) = inr (λ cause. refl)
+unviewed_one (journals.Forecast kind horizon pool) = inr (λ cause. refl)
+
 pub unviewed_among : (report : JournalReport) (cause : DeskCause) → IsOneOf (statuses.No ∷ statuses.Disk ∷ statuses.Unsound ∷ statuses.Memory ∷ []) (unviewed_status report cause)
-unviewed_among journals.Audit cause = unsound_among cause
-unviewed_among (journals.Positions pool) cause = inr (opening_among cause)
-unviewed_among (journals.Notices today pool) cause = inr (opening_among cause)
-unviewed_among (journals.Weigh kind today) cause = inr (opening_among cause)
-unviewed_among (journals.History pool) cause = inr (opening_among cause)
-unviewed_among (journals.Statement round pool) cause = inr (opening_among cause)
+unviewed_among report cause = ⊎_elim
+    (λ audit. subst (IsOneOf (statuses.No ∷ statuses.Disk ∷ statuses.Unsound ∷ statuses.Memory ∷ [])) (sym (audit cause)) (unsound_among cause))
+    (λ other. inr (subst (IsOneOf (statuses.Disk ∷ statuses.Unsound ∷ statuses.Memory ∷ [])) (sym (other cause)) (opening_among cause)))
+    (unviewed_one report)
 
 -- where one tells of a device, the disk's count rose
 device_rose : (low high before after : ℕ) → (before ≡ low) × (after ≡ high) × HasRisen before after → HasRisen low high
@@ -65,25 +77,36 @@ view_rose tells bytes low high (BadAct offset got) h disk = absurd (⊎_elim (λ
 view_rose tells bytes low high (Overfull offset) h disk = absurd (⊎_elim (λ e. cc) (λ e. cc) disk)
 
 pub unviewed_rose : (report : JournalReport) (tells : Bool) (bytes : List ℕ) (low high : ℕ) (cause : DeskCause) → HasViewCause tells bytes low high cause → unviewed_status report cause ≡ statuses.Disk → HasRisen low high
-unviewed_rose journals.Audit tells bytes low high cause h disk = view_rose tells bytes low high cause h (inr disk)
-unviewed_rose (journals.Positions pool) tells bytes low high cause h disk = view_rose tells bytes low high cause h (inl disk)
-unviewed_rose (journals.Notices today pool) tells bytes low high cause h disk = view_rose tells bytes low high cause h (inl disk)
-unviewed_rose (journals.Weigh kind today) tells bytes low high cause h disk = view_rose tells bytes low high cause h (inl disk)
-unviewed_rose (journals.History pool) tells bytes low high cause h disk = view_rose tells bytes low high cause h (inl disk)
-unviewed_rose (journals.Statement round pool) tells bytes low high cause h disk = view_rose tells bytes low high cause h (inl disk)
+unviewed_rose report tells bytes low high cause h disk = ⊎_elim
+    (λ audit. view_rose tells bytes low high cause h (inr (sym (audit cause) ∙ disk)))
+    (λ other. view_rose tells bytes low high cause h (inl (sym (other cause) ∙ disk)))
+    (unviewed_one report)
 
--- where a history is told, the status is one of two
-round_among : (published : Bool) → IsOneOf (statuses.Done ∷ statuses.No ∷ []) (if published then statuses.Done else statuses.No)
-round_among true = inl refl
-round_among false = inr (inl refl)
+turned : (lacks : Bool) → (if lacks then statuses.No else statuses.Done) ≡ (if not lacks then statuses.Done else statuses.No)
+turned true = refl
+turned false = refl
+
+-- where a history is told, the status is `Done`, or `No` where it does not have what was asked for
+pub told_is : (report : JournalReport) (history : List PoolEntry) → report_status report history ≡ (if has_asked report history then statuses.Done else statuses.No)
+told_is journals.Audit history = refl
+told_is (journals.Positions pool) history = refl
+told_is (journals.Notices today pool) history = refl
+told_is (journals.Weigh kind today) history = refl
+told_is (journals.History pool) history = refl
+told_is (journals.Statement round pool) history = refl
+told_is journals.Pools history = refl
+told_is (journals.Since acts pool) history = turned (has_fewer acts history)
+told_is (journals.Seal acts) history = refl
+told_is (journals.Account firm pool) history = refl
+told_is (journals.Parts round pool) history = refl
+told_is (journals.Forecast kind horizon pool) history = refl
+
+either_way : (has : Bool) → IsOneOf (statuses.Done ∷ statuses.No ∷ []) (if has then statuses.Done else statuses.No)
+either_way true = inl refl
+either_way false = inr (inl refl)
 
 pub told_among : (report : JournalReport) (history : List PoolEntry) → IsOneOf (statuses.Done ∷ statuses.No ∷ []) (report_status report history)
-told_among journals.Audit history = inl refl
-told_among (journals.Positions pool) history = inl refl
-told_among (journals.Notices today pool) history = inl refl
-told_among (journals.Weigh kind today) history = inl refl
-told_among (journals.History pool) history = inl refl
-told_among (journals.Statement round pool) history = round_among (was_published round (pool_of (journals.Statement round pool)) history)
+told_among report history = subst (IsOneOf (statuses.Done ∷ statuses.No ∷ [])) (sym (told_is report history)) (either_way (has_asked report history))
 
 -- ---- books
 

@@ -7,18 +7,20 @@ ghost use Rattle.weighed_round.specs.printed_text.specs.Statuses.{IsOneOf, Tells
 ghost use Rattle.weighed_round.specs.printed_text.specs.Writing.{Wrote};
 ghost use Rattle.setoff_model.specs.declared.limits.TheConstants.{OUTPUT_BYTES};
 ghost use Rattle.bureau_reports.specs.DiskTexts.{IsTellable, sound_text};
-ghost use Rattle.bureau_reports.specs.Journals.{IsBookDue, IsJournalDue, IsMade, IsTextOf, journal_statuses, unviewed_status, unviewed_text};
+ghost use Rattle.bureau_reports.specs.Journals.{IsBookDue, HasFewOpenings, IsJournalDue, IsMade, IsTextOf, journal_statuses, report_status, unviewed_status, unviewed_text};
 
 use crate::sound_line::{status_of_unsound, write_sound, write_unsound};
 use bureau_edge::Sink;
 use command_words::JournalReport;
 use disk_model::Disk;
-use history_text::{print_history, print_round};
+use history_text::{print_history, print_parts, print_round, print_since};
+use journal_summaries::{account, account_status, pools, seal, seal_status};
 use journal_texts::{Desk, DeskCause, status_of_opening, write_opening_fault};
 use setoff_model::limits::LINE_BYTES;
 use std::alloc::{AllocError, Global};
 use weighed_round::{
-    Books, ExitStatus, end_with, notices, output_buffer, positions, tell_no_memory, weigh,
+    Books, ExitStatus, end_with, notices, output_buffer, positions, print_forecast, tell_no_memory,
+    weigh,
 };
 
 // The line of an audit of a sound journal.
@@ -41,8 +43,35 @@ fn text_of(alloc: Global, report: &JournalReport, books: &Books) -> Result<Vec<u
         JournalReport::Positions { .. } => positions(alloc, book),
         JournalReport::Notices { today, .. } => notices(alloc, book, *today),
         JournalReport::Weigh { kind, today } => weigh(alloc, book, *kind, *today),
+        JournalReport::Pools => pools(alloc, books),
+        JournalReport::Seal { acts } => seal(alloc, books, *acts),
+        JournalReport::Account { firm, .. } => account(alloc, books, &report.pool(), firm),
         JournalReport::History { .. } => unreachable!(),
         JournalReport::Statement { .. } => unreachable!(),
+        JournalReport::Since { .. } => unreachable!(),
+        JournalReport::Parts { .. } => unreachable!(),
+        JournalReport::Forecast { .. } => unreachable!(),
+    }
+}
+
+// The status of that.
+fn status_of(report: &JournalReport, books: &Books) -> ExitStatus
+    requires { IsMade report.now }
+    ensures { result ≡ report_status report.now books.now.members }
+{
+    match report {
+        JournalReport::Audit => ExitStatus::Done,
+        JournalReport::Positions { .. } => ExitStatus::Done,
+        JournalReport::Notices { .. } => ExitStatus::Done,
+        JournalReport::Weigh { .. } => ExitStatus::Done,
+        JournalReport::Pools => ExitStatus::Done,
+        JournalReport::Seal { acts } => seal_status(books, *acts),
+        JournalReport::Account { firm, .. } => account_status(books, &report.pool(), firm),
+        JournalReport::History { .. } => unreachable!(),
+        JournalReport::Statement { .. } => unreachable!(),
+        JournalReport::Since { .. } => unreachable!(),
+        JournalReport::Parts { .. } => unreachable!(),
+        JournalReport::Forecast { .. } => unreachable!(),
     }
 }
 
@@ -60,6 +89,12 @@ fn write_unviewed(buffer: &mut Vec<u8>, report: &JournalReport, cause: DeskCause
         JournalReport::Weigh { .. } => write_opening_fault(buffer, cause),
         JournalReport::History { .. } => write_opening_fault(buffer, cause),
         JournalReport::Statement { .. } => write_opening_fault(buffer, cause),
+        JournalReport::Pools => write_opening_fault(buffer, cause),
+        JournalReport::Since { .. } => write_opening_fault(buffer, cause),
+        JournalReport::Seal { .. } => write_opening_fault(buffer, cause),
+        JournalReport::Account { .. } => write_opening_fault(buffer, cause),
+        JournalReport::Parts { .. } => write_opening_fault(buffer, cause),
+        JournalReport::Forecast { .. } => write_opening_fault(buffer, cause),
     }
 }
 
@@ -74,6 +109,12 @@ fn status_of_unviewed(report: &JournalReport, cause: DeskCause) -> ExitStatus
         JournalReport::Weigh { .. } => status_of_opening(cause),
         JournalReport::History { .. } => status_of_opening(cause),
         JournalReport::Statement { .. } => status_of_opening(cause),
+        JournalReport::Pools => status_of_opening(cause),
+        JournalReport::Since { .. } => status_of_opening(cause),
+        JournalReport::Seal { .. } => status_of_opening(cause),
+        JournalReport::Account { .. } => status_of_opening(cause),
+        JournalReport::Parts { .. } => status_of_opening(cause),
+        JournalReport::Forecast { .. } => status_of_opening(cause),
     }
 }
 
@@ -90,7 +131,7 @@ fn print_made<K: Sink>(
     ensures write_fault { TellsSinkFault (K.faults sink.old) (K.faults sink.new) result }
 {
     match text_of(alloc, report, books) {
-        Ok(text) => end_with(sink, ExitStatus::Done, text.as_slice()),
+        Ok(text) => end_with(sink, status_of(report, books), text.as_slice()),
         Err(_) => tell_no_memory(sink),
     }
 }
@@ -104,9 +145,12 @@ fn print_books<K: Sink>(
     sink: &mut K,
     buffer: &mut Vec<u8>,
 ) -> ExitStatus
+    requires few { HasFewOpenings books.now.members }
     requires empty { buffer.old.items ≡ [] }
     requires len { vec_len buffer.old ≡ 0 }
     requires spare { OUTPUT_BYTES ≤ vec_capacity buffer.old }
+
+    // What was told.
     ensures wrote { Wrote (IsBookDue report.now books.now.members) (K.held sink.old) (K.held sink.new) result }
     ensures write_fault { TellsSinkFault (K.faults sink.old) (K.faults sink.new) result }
 {
@@ -115,16 +159,33 @@ fn print_books<K: Sink>(
         JournalReport::Positions { .. } => print_made(alloc, report, books, sink),
         JournalReport::Notices { .. } => print_made(alloc, report, books, sink),
         JournalReport::Weigh { .. } => print_made(alloc, report, books, sink),
+        JournalReport::Pools => print_made(alloc, report, books, sink),
+        JournalReport::Seal { .. } => print_made(alloc, report, books, sink),
+        JournalReport::Account { .. } => print_made(alloc, report, books, sink),
         JournalReport::History { pool } => print_history(alloc, sink, buffer, books, pool),
         JournalReport::Statement { round, .. } => {
             print_round(alloc, sink, buffer, books, report.pool(), *round)
         }
+        JournalReport::Since { acts, pool } => {
+            print_since(alloc, sink, buffer, books, pool, u64::from(*acts))
+        }
+        JournalReport::Parts { round, .. } => {
+            print_parts(alloc, sink, buffer, books, report.pool(), *round)
+        }
+        JournalReport::Forecast { kind, horizon, .. } => print_forecast(
+            alloc,
+            sink,
+            buffer,
+            books.book(&report.pool()),
+            *kind,
+            *horizon,
+        ),
     }
 }
 
 /// Replays the journal of a disk, and prints the report on it. It writes nothing to the disk. Gives the status: `Done`; `No` where
-/// an audit finds an act that is refused or full, or where no round has the number of a statement; `Disk`, `Unsound` or `Memory` where
-/// the disk was not read or holds no sound journal; `Sink` where the sink failed.
+/// an audit finds an act that is refused or full, or where the journal does not have the round, the firm or the acts that the report
+/// asks for; `Disk`, `Unsound` or `Memory` where the disk was not read or holds no sound journal; `Sink` where the sink failed.
 #[tactic(none)]
 pub fn report_journal<K: Sink, D: Disk>(
     alloc: Global,
@@ -146,6 +207,7 @@ pub fn report_journal<K: Sink, D: Disk>(
     };
     match Desk::view(alloc, disk) {
         Ok(books) => {
+            let _len = books.len();
             let status = print_books(alloc, &report, &books, sink, &mut buffer);
             drop(books);
             status

@@ -1,5 +1,12 @@
+use Rattle.std.proofs.Common.{◌∙◌, ℕ, ◌<◌, List, ap, subst, sym}
+use Rattle.setoff_model.specs.declared.limits.TheConstants.{MOST_ROUNDS}
+use Rattle.weighed_round.specs.claim_history.specs.declared.entry.Entry.{Entry}
+use Rattle.weighed_round.specs.claim_history.specs.Pools.{entries_in}
+use Rattle.weighed_round.specs.claim_history.specs.States.{state_of}
+use Rattle.weighed_round.specs.printed_text.specs.Writing.{Wrote}
+use Rattle.history_text.specs.Since.{IsSinceDue}
 use Rattle.command_words.specs.declared.journal_report.JournalReport.TheVariants as journals
-use Rattle.bureau_reports.proofs.Held.{is_made, wrote_history, wrote_round}
+use Rattle.bureau_reports.proofs.Held.{is_made, wrote_forecast, wrote_history, wrote_parts, wrote_round, wrote_since}
 use Rattle.bureau_reports.proofs.journal.print_books.Goals as goal
 
 pub print_made-requires : goal.print_made-requires
@@ -64,3 +71,77 @@ returns-in-Statement-clause-wrote g c = wrote_round c.args.report.now c.in-State
 
 pub returns-in-Statement-clause-write_fault : goal.returns-in-Statement-clause-write_fault
 returns-in-Statement-clause-write_fault g c = c.print_round.ensures.write_fault
+
+pub print_made-requires-in-Pools : goal.print_made-requires-in-Pools
+print_made-requires-in-Pools g c = is_made c.args.report.now journals.Pools c.in-Pools.is tt
+
+pub returns-in-Pools-clause-wrote : goal.returns-in-Pools-clause-wrote
+returns-in-Pools-clause-wrote g c = c.print_made-in-Pools.ensures.wrote
+
+pub returns-in-Pools-clause-write_fault : goal.returns-in-Pools-clause-write_fault
+returns-in-Pools-clause-write_fault g c = c.print_made-in-Pools.ensures.write_fault
+
+pub print_made-requires-in-Seal : goal.print_made-requires-in-Seal
+print_made-requires-in-Seal g c = is_made c.args.report.now (journals.Seal c.in-Seal.acts) c.in-Seal.is tt
+
+pub returns-in-Seal-clause-wrote : goal.returns-in-Seal-clause-wrote
+returns-in-Seal-clause-wrote g c = c.print_made-in-Seal.ensures.wrote
+
+pub returns-in-Seal-clause-write_fault : goal.returns-in-Seal-clause-write_fault
+returns-in-Seal-clause-write_fault g c = c.print_made-in-Seal.ensures.write_fault
+
+pub print_made-requires-in-Account : goal.print_made-requires-in-Account
+print_made-requires-in-Account g c = is_made c.args.report.now (journals.Account c.in-Account.firm c.in-Account.pool) c.in-Account.is tt
+
+pub returns-in-Account-clause-wrote : goal.returns-in-Account-clause-wrote
+returns-in-Account-clause-wrote g c = c.print_made-in-Account.ensures.wrote
+
+pub returns-in-Account-clause-write_fault : goal.returns-in-Account-clause-write_fault
+returns-in-Account-clause-write_fault g c = c.print_made-in-Account.ensures.write_fault
+
+pub print_since-requires-clause-empty : goal.print_since-requires-clause-empty
+print_since-requires-clause-empty g c = c.requires.empty
+
+pub print_since-requires-clause-len : goal.print_since-requires-clause-len
+print_since-requires-clause-len g c = c.requires.len
+
+pub print_since-requires-clause-spare : goal.print_since-requires-clause-spare
+print_since-requires-clause-spare g c = c.requires.spare
+
+pub returns-in-Since-clause-wrote : goal.returns-in-Since-clause-wrote
+returns-in-Since-clause-wrote g c = wrote_since c.args.report.now c.in-Since.acts c.in-Since.pool c.args.books.now.members _ _ _ c.in-Since.is
+    (subst (λ (n : ℕ). Wrote (IsSinceDue n c.in-Since.pool c.args.books.now.members) (g.K.Sink.held c.args.sink.now) (g.K.Sink.held c.print_since.new.sink) c.print_since.result) c.from.ensures c.print_since.ensures.wrote)
+
+pub returns-in-Since-clause-write_fault : goal.returns-in-Since-clause-write_fault
+returns-in-Since-clause-write_fault g c = c.print_since.ensures.write_fault
+
+pub print_parts-requires-clause-empty : goal.print_parts-requires-clause-empty
+print_parts-requires-clause-empty g c = c.requires.empty
+
+pub print_parts-requires-clause-len : goal.print_parts-requires-clause-len
+print_parts-requires-clause-len g c = c.requires.len
+
+pub print_parts-requires-clause-spare : goal.print_parts-requires-clause-spare
+print_parts-requires-clause-spare g c = c.requires.spare
+
+pub returns-in-Parts-clause-wrote : goal.returns-in-Parts-clause-wrote
+returns-in-Parts-clause-wrote g c = wrote_parts c.args.report.now c.in-Parts.round c.in-Parts.pool c.pool-in-Parts.result c.args.books.now.members _ _ _ c.in-Parts.is c.pool-in-Parts.ensures c.print_parts.ensures.wrote
+
+pub returns-in-Parts-clause-write_fault : goal.returns-in-Parts-clause-write_fault
+returns-in-Parts-clause-write_fault g c = c.print_parts.ensures.write_fault
+
+pub print_forecast-requires-clause-few : goal.print_forecast-requires-clause-few
+print_forecast-requires-clause-few g c =
+    subst (λ (es : List Entry). (state_of es).openings < MOST_ROUNDS) (sym c.book.ensures) (c.requires.few c.pool-in-Forecast.result)
+
+pub print_forecast-requires-clause-empty : goal.print_forecast-requires-clause-empty
+print_forecast-requires-clause-empty g c = c.requires.empty
+
+pub print_forecast-requires-clause-spare : goal.print_forecast-requires-clause-spare
+print_forecast-requires-clause-spare g c = c.requires.spare
+
+pub returns-in-Forecast-clause-wrote : goal.returns-in-Forecast-clause-wrote
+returns-in-Forecast-clause-wrote g c = wrote_forecast c.args.report.now c.in-Forecast.kind c.in-Forecast.horizon c.in-Forecast.pool c.book.result.now.history c.args.books.now.members _ _ _ c.in-Forecast.is (c.book.ensures ∙ ap (λ (p : List ℕ). entries_in p c.args.books.now.members) c.pool-in-Forecast.ensures) c.print_forecast.ensures.wrote
+
+pub returns-in-Forecast-clause-write_fault : goal.returns-in-Forecast-clause-write_fault
+returns-in-Forecast-clause-write_fault g c = c.print_forecast.ensures.write_fault

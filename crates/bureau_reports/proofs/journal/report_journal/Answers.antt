@@ -4,6 +4,7 @@ use Rattle.weighed_round.specs.printed_text.specs.declared.exit_status.ExitStatu
 use Rattle.weighed_round.specs.printed_text.specs.Texts.{memory_text}
 use Rattle.weighed_round.specs.printed_text.proofs.Statuses.{other_than}
 use Rattle.bureau_reports.specs.Journals.{IsJournalDue, no_view_memory, unviewed, unviewed_status, unviewed_text}
+use Rattle.bureau_reports.proofs.Held.{few_opened}
 use Rattle.bureau_reports.proofs.Viewed.{as_opening, book_due, journal_among, journal_rose, tellable, unviewed_among}
 use Rattle.bureau_reports.proofs.Written.{written_as, wrote_for, wrote_line}
 use Rattle.bureau_reports.proofs.journal.report_journal.Goals as goal
@@ -26,6 +27,9 @@ pub returns-in_default-clause-disk_fault : goal.returns-in_default-clause-disk_f
 returns-in_default-clause-disk_fault g c = journal_rose _ _ _ _ _ _ _ _ (returns-in_default-clause-wrote g c)
 
 -- ---- the book
+
+pub print_books-status-requires-clause-few : goal.print_books-status-requires-clause-few
+print_books-status-requires-clause-few g c = few_opened _ _ c.in-Ok-view.books.members c.len-len.ensures.legal c.in-Ok-view.ensures.ok
 
 pub print_books-status-requires-clause-empty : goal.print_books-status-requires-clause-empty
 print_books-status-requires-clause-empty g c = c.in-Ok.ensures.empty
