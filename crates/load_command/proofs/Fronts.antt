@@ -7,7 +7,7 @@ use Rattle.journal_texts.specs.bureau_desk.specs.claim_history.specs.declared.ca
 use Rattle.journal_texts.specs.bureau_desk.specs.claim_history.specs.declared.entry.Entry.{Entry}
 use Rattle.journal_texts.specs.bureau_desk.specs.claim_history.specs.Acts.{is_valid}
 use Rattle.journal_texts.specs.bureau_desk.specs.claim_history.specs.PoolNeeds.{IsWithinLimitsPast}
-use Rattle.journal_texts.specs.bureau_desk.specs.claim_history.specs.Pools.{IsLegalPast, call_of, entries_of}
+use Rattle.journal_texts.specs.bureau_desk.specs.claim_history.specs.Pools.{AreValid, IsLegal, IsLegalPast, call_of, entries_of}
 use Rattle.journal_texts.specs.bureau_desk.specs.act_bodies.specs.Bodies.{is_keepable}
 use Rattle.journal_texts.specs.printed_text.specs.served_lines.specs.Served.{Line}
 use Rattle.group_runs.specs.Lines.{groups_add, lines_add}
@@ -22,12 +22,19 @@ within_rest : (later past : List PoolEntry) → IsWithinLimitsPast (later ++ pas
 within_rest [] past h = h
 within_rest (m ∷ later) past h = within_rest later past h.1
 
+pub legal_front : (history more : List PoolEntry) → IsLegal (history ++ more) → IsLegal history
+legal_front history more legal = legal_rest (reverse more) (reverse history) (subst IsLegalPast (reverse-append history more) legal)
+
+pub valid_front : (history more : List PoolEntry) → AreValid (history ++ more) → AreValid history
+valid_front history more valid =
+    All-first (λ (e : Entry). is_valid e.act ≡ true) (entries_of history) (entries_of more)
+    (subst (All (λ (e : Entry). is_valid e.act ≡ true)) (map-append (λ (m : PoolEntry). m.entry) history more) valid)
+
 front_keeps : (history more : List PoolEntry) → KeepsHistory (history ++ more) → KeepsHistory history
 front_keeps history more k = record {
-  legal = legal_rest (reverse more) (reverse history) (subst IsLegalPast (reverse-append history more) k.legal);
+  legal = legal_front history more k.legal;
   within = within_rest (reverse more) (reverse history) (subst IsWithinLimitsPast (reverse-append history more) k.within);
-  valid = All-first (λ (e : Entry). is_valid e.act ≡ true) (entries_of history) (entries_of more)
-      (subst (All (λ (e : Entry). is_valid e.act ≡ true)) (map-append (λ (m : PoolEntry). m.entry) history more) k.valid);
+  valid = valid_front history more k.valid;
   keepable = All-first (λ (m : PoolEntry). is_keepable (call_of m) ≡ true) history more k.keepable;
 }
 

@@ -1,6 +1,13 @@
+mod ComesOnly
+mod ComesWhere
+mod Completeness
 mod Ends
 mod Fronts
+mod Full
 mod Loadable
 mod Loaded
 mod Parts
+mod Reading
 mod Silent
+mod Statuses
+mod Words

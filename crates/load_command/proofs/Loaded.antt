@@ -1,7 +1,7 @@
 -- A load that was opened, and how it ended.
 use Rattle.std.specs.Prelude.{Option, IsTrue, drop, map, take, ◌-◌}
 use Rattle.std.specs.Io.KnownBytes.{Appends}
-use Rattle.std.proofs.Common.{◌≡◌, ◌∙◌, ⊎_elim, inl, ℕ, ◌<◌, ◌≤◌, Bool, List, [], ◌∷◌, ◌++◌, length, refl, sym, ap, subst, append_assoc, arith, length-append}
+use Rattle.std.proofs.Common.{◌≡◌, ◌∙◌, ⊎_elim, inl, ℕ, ◌<◌, ◌≤◌, Bool, false, List, [], ◌∷◌, ◌++◌, length, refl, sym, ap, subst, append_assoc, arith, length-append}
 use Rattle.std.proofs.lemmas.List.{append-nil, take-append-drop}
 use Rattle.std.proofs.Math.Seq.{take-append_seam}
 use Rattle.bureau_edge.specs.Streams.{AppendsPart}
@@ -18,12 +18,13 @@ use Rattle.journal_texts.specs.bureau_desk.specs.round_journal.specs.Opened.{Are
 use Rattle.journal_texts.specs.bureau_desk.specs.Opening.{HasDeskTurned}
 use Rattle.journal_texts.specs.bureau_desk.proofs.Left.{left_law}
 use Rattle.journal_texts.specs.printed_text.specs.request_text.specs.declared.request.Request.{Request}
+use Rattle.journal_texts.specs.printed_text.specs.served_lines.specs.Ends.{is_full_end}
 use Rattle.journal_texts.specs.printed_text.specs.served_lines.specs.Served.{Line}
 use Rattle.journal_texts.specs.printed_text.specs.declared.exit_status.ExitStatus.{ExitStatus}
 use Rattle.journal_texts.specs.printed_text.specs.declared.exit_status.ExitStatus.TheVariants as statuses
 use Rattle.journal_texts.specs.printed_text.specs.Printing.{added_text, printed_of}
 use Rattle.journal_texts.specs.printed_text.specs.Writing.{IsWritten, broken, whole}
-use Rattle.journal_texts.specs.Journals.{HoldsSound}
+use Rattle.journal_texts.specs.Journals.{HasRoomForAll, HoldsSound}
 use Rattle.journal_texts.proofs.Written.{written_after, wrote_line}
 use Rattle.group_runs.specs.group_loader.specs.Groups.{HasGroupMoments, StandsForCalls, StandsForWhole}
 use Rattle.group_runs.specs.group_loader.specs.Loading.{LoadView}
@@ -31,11 +32,12 @@ use Rattle.group_runs.specs.group_loader.specs.declared.loader.LoadStopped.{Load
 use Rattle.group_runs.specs.group_loader.proofs.Grown.{calls_whole}
 use Rattle.group_runs.specs.declared.load_break.LoadBreak.TheVariants as breaks
 use Rattle.group_runs.specs.Lines.{GroupsAreDue, group_calls, groups_add, groups_text, lines_add}
-use Rattle.group_runs.specs.Runs.{HasBroken, HasLoaded, IsKeptBy, KeepsHistory, calls_of_group, groups_of}
+use Rattle.group_runs.specs.Runs.{CanAllBeLoaded, HasBroken, HasLoaded, IsKeptBy, KeepsHistory, calls_of_group, groups_of, some_end}
 use Rattle.group_runs.proofs.Lines.{calls_after_groups, groups_due, text_more}
 use Rattle.load_command.proofs.Silent.{begun_parts}
 use Rattle.load_command.proofs.Fronts.{all_keeps, first_keeps}
-use Rattle.load_command.specs.Headline.{IsLoadHeadline, LoadEnd, SurvivesGroups, all_kept, but_last_group, disk_failed, load_text, sink_failed, sure_load_text}
+use Rattle.load_command.proofs.Full.{none_full}
+use Rattle.load_command.specs.Headline.{IsLoadHeadline, LoadEnd, SurvivesGroups, all_kept, but_last_group, disk_failed, load_text, requests_of, sink_failed, sure_load_text}
 use Rattle.load_command.specs.Due.{HasOpened, HasTakenFirst, IsLoadDue, IsNotBegunDue, WroteLoad, device_text, loaded}
 
 -- ---- the text that was surely taken
@@ -104,6 +106,15 @@ module _ {D : Type 0} (seen : D → Seen) (reads_now : (d : D) → IsTrue (seen 
   pub from_few : from ≤ length begun
   from_few = omega (arith, o.from_is, o.opening.opened_with, ap (λ (l : List PoolEntry). length l) (o.history ∙ o.opening.history), length-append opened (map ending_of (left_open opened)))
 
+  -- within the bound no line is full
+  abbrev NoneFull : List (List Request) → List (List Line) → Type 0
+  NoneFull batches groups = HasRoomForAll o.opening.records (requests_of batches) → some_end is_full_end groups ≡ false
+
+  no_line_full : (batches : List (List Request)) (groups : List (List Line)) (tried : List Line) (low high : ℕ) (status : ExitStatus) (told : List ℕ) → CanAllBeLoaded batches → LoadEnd low high (groups_of batches) groups tried status told
+      → GroupsAreDue begun (groups ++ tried ∷ []) → KeepsHistory (begun ++ groups_add begun groups) → NoneFull batches groups
+  no_line_full batches groups tried low high status told can ended due keeps =
+      none_full o.opening.records begun batches groups tried low high status told can ended due o.keeps (o.history ∙ o.opening.history) keeps
+
   told_first : IsTrue (seen old).tells → IsTrue (seen first.journal.disk).tells
   told_first told = ap (λ (d : D). (seen d).tells) o.disk ∙ o.opening.same ∙ told
 
@@ -155,9 +166,9 @@ module _ {D : Type 0} (seen : D → Seen) (reads_now : (d : D) → IsTrue (seen 
         (on_disk told)
 
     headline : (Taken : List ℕ → Type 0) (batches : List (List Request)) (status : ExitStatus) (told : List ℕ) → LoadEnd (seen old).count (seen new).count (groups_of batches) groups tried status told
-        → Taken (sure_load_text opened begun groups) → GroupsAreDue begun (groups ++ tried ∷ []) → KeepsHistory history → KeepsHistory (history ++ lines_add history tried)
+        → Taken (sure_load_text opened begun groups) → GroupsAreDue begun (groups ++ tried ∷ []) → NoneFull batches groups → KeepsHistory history → KeepsHistory (history ++ lines_add history tried)
         → IsLoadHeadline seen Taken old new batches status (load_text opened begun groups ++ told)
-    headline Taken batches status told ended taken due k k' = record {
+    headline Taken batches status told ended taken due none k k' = record {
       opened = opened;
       begun = begun;
       groups = groups;
@@ -169,6 +180,7 @@ module _ {D : Type 0} (seen : D → Seen) (reads_now : (d : D) → IsTrue (seen 
       text_is = refl;
       taken = taken;
       due = due;
+      none_full = none;
       keeps = k;
       keeps_tried = k';
       on_disk = on_disk;
@@ -196,10 +208,10 @@ module _ {D : Type 0} (seen : D → Seen) (reads_now : (d : D) → IsTrue (seen 
       let text = load_text opened begun none ++ [] in
       let k : KeepsHistory (begun ++ groups_add begun none) = subst KeepsHistory (sym (append-nil begun)) o.keeps in
       wrote_line (IsNotBegunDue seen (HasTakenFirst x y) old d) x y statuses.Sink text statuses.Sink
-      (λ batches. loaded statuses.Sink text (headline d none [] kept (HasTakenFirst x y) batches statuses.Sink [] (sink_failed (groups_of batches) refl refl) (part.0, part.3) (tt, tt) k (none_more (begun ++ groups_add begun none) k)))
+      (λ batches. loaded statuses.Sink text (headline d none [] kept (HasTakenFirst x y) batches statuses.Sink [] (sink_failed (groups_of batches) refl refl) (part.0, part.3) (tt, tt) (λ room. refl) k (none_more (begun ++ groups_add begun none) k)))
       (broken (AppendsPart-front x y (load_text opened begun none) [] (AppendsPart-front x y (added_text opened (drop (length opened) begun)) [] (subst (AppendsPart x y) begun_text part))))
 
-  module _ (batches : List (List Request)) (x y z : Option (List ℕ)) (before : Appends x y (printed_of (take from begun) (drop from begun) [])) where
+  module _ (batches : List (List Request)) (can : CanAllBeLoaded batches) (x y z : Option (List ℕ)) (before : Appends x y (printed_of (take from begun) (drop from begun) [])) where
     abbrev line : List ℕ
     line = added_text opened (drop (length opened) begun)
 
@@ -219,7 +231,7 @@ module _ {D : Type 0} (seen : D → Seen) (reads_now : (d : D) → IsTrue (seen 
         subst (λ (s : ExitStatus). LoadEnd (seen old).count (seen new).count (groups_of batches) l.groups [] s []) (sym l.status_is) (all_kept l.requests_are refl) in
         wrote_line (IsLoadDue seen (HasTakenFirst x z) old new batches) x z status (text ++ []) status
         (loaded status (text ++ [])
-        (headline new l.groups [] l.kept (HasTakenFirst x z) batches status [] ended (sure_taken opened begun x z l.groups ([], more)) (none_due l.groups l.due) l.keeps (none_more (begun ++ groups_add begun l.groups) l.keeps)))
+        (headline new l.groups [] l.kept (HasTakenFirst x z) batches status [] ended (sure_taken opened begun x z l.groups ([], more)) (none_due l.groups l.due) (no_line_full batches l.groups [] (seen old).count (seen new).count status [] can ended (none_due l.groups l.due) l.keeps) l.keeps (none_more (begun ++ groups_add begun l.groups) l.keeps)))
         (whole more)
 
     -- the sink failed at the text of a group
@@ -230,10 +242,13 @@ module _ {D : Type 0} (seen : D → Seen) (reads_now : (d : D) → IsTrue (seen 
         let text = load_text opened begun groups in
         let told = load_text opened begun h.groups in
         let taken : HasTakenFirst x z told = (h.more, subst (Appends x z) (sym (append_assoc line (groups_text begun h.groups) h.more)) (with_line z (groups_text begun h.groups ++ h.more) h.told)) in
+        let ended : LoadEnd (seen old).count (seen new).count (groups_of batches) groups [] statuses.Sink [] =
+        sink_failed b.rest (b.in_order ∙ ap (λ (l : List (List Request)). l ++ b.rest) (sym h.requests_are)) refl in
         wrote_line (IsLoadDue seen (HasTakenFirst x z) old new batches) x z statuses.Sink (text ++ []) statuses.Sink
         (loaded statuses.Sink (text ++ [])
-        (headline new groups [] h.kept (HasTakenFirst x z) batches statuses.Sink [] (sink_failed b.rest (b.in_order ∙ ap (λ (l : List (List Request)). l ++ b.rest) (sym h.requests_are)) refl)
-        (subst (HasTakenFirst x z) (sym (sure_push opened begun h.groups h.last)) taken) (none_due groups h.due) h.keeps (none_more (begun ++ groups_add begun groups) h.keeps)))
+        (headline new groups [] h.kept (HasTakenFirst x z) batches statuses.Sink [] ended
+        (subst (HasTakenFirst x z) (sym (sure_push opened begun h.groups h.last)) taken) (none_due groups h.due)
+        (no_line_full batches groups [] (seen old).count (seen new).count statuses.Sink [] can ended (none_due groups h.due) h.keeps) h.keeps (none_more (begun ++ groups_add begun groups) h.keeps)))
         (broken (AppendsPart-front x z text [] (AppendsPart-after x y z line (groups_text begun groups) printed h.part)))
 
     -- the disk failed at a group, which was told
@@ -244,11 +259,13 @@ module _ {D : Type 0} (seen : D → Seen) (reads_now : (d : D) → IsTrue (seen 
         let told = device_text stopped.device.before stopped.device.after in
         let text = load_text opened begun h.groups in
         let kept : Appends x z text = with_line z (groups_text begun h.groups) h.written in
+        let ended : LoadEnd (seen old).count (seen stopped.disk).count (groups_of batches) h.groups h.last statuses.Disk told =
+        disk_failed b.rest stopped.device.before stopped.device.after (b.in_order ∙ ap (λ (l : List (List Request)). l ++ b.rest) (sym h.requests_are)) (omega (arith, later_so, h.low)) h.now h.risen in
         wrote_line (IsLoadDue seen (HasTakenFirst x w) old stopped.disk batches) x w statuses.Disk (text ++ told) status
         (loaded statuses.Disk (text ++ told)
-        (headline stopped.disk h.groups h.last h.kept (HasTakenFirst x w) batches statuses.Disk told
-        (disk_failed b.rest stopped.device.before stopped.device.after (b.in_order ∙ ap (λ (l : List (List Request)). l ++ b.rest) (sym h.requests_are)) (omega (arith, later_so, h.low)) h.now h.risen)
-        (sure_taken opened begun x w h.groups (then_some w text told status kept written)) h.due (first_keeps begun h.groups h.last h.keeps) (all_keeps begun h.groups h.last h.keeps)))
+        (headline stopped.disk h.groups h.last h.kept (HasTakenFirst x w) batches statuses.Disk told ended
+        (sure_taken opened begun x w h.groups (then_some w text told status kept written)) h.due
+        (no_line_full batches h.groups h.last (seen old).count (seen stopped.disk).count statuses.Disk told can ended h.due (first_keeps begun h.groups h.last h.keeps)) (first_keeps begun h.groups h.last h.keeps) (all_keeps begun h.groups h.last h.keeps)))
         (written_after x z w text told statuses.Disk status kept written) where
           then_some : (w : Option (List ℕ)) (text said : List ℕ) (status : ExitStatus) → Appends x z text → IsWritten z w statuses.Disk said status → HasTakenFirst x w text
           then_some w text said status kept (whole all) = (said, Appends-then x z w text said kept all)

@@ -19,8 +19,8 @@ use Rattle.group_runs.specs.Runs.{IsAllKept, KeepsHistory}
 use Rattle.load_command.specs.Headline.{IsLoadHeadline}
 
 -- The status and the text that batches come to: there was no memory for their output; the disk was not opened; or they were loaded.
-pub data IsLoadDue {D : Type 0} (seen : D → Seen) (Taken : List ℕ → Type 0) (old new : D) (batches : List (List Request)) : ExitStatus → List ℕ
-    → Type 0 where
+pub data IsLoadDue {D : Type 0} (seen : D → Seen) (Taken : List ℕ → Type 0) (old new : D) (batches : List (List Request)) : ExitStatus
+    → List ℕ → Type 0 where
   no_output_memory : new ≡ old → IsLoadDue seen Taken old new batches statuses.Memory memory_text
   not_opened : (cause : DeskCause) → IsDeskRefused (seen old) (seen new) cause
       → IsLoadDue seen Taken old new batches (opening_status cause) (opening_text cause)

@@ -1,5 +1,5 @@
 -- What a load of batches is.
-use Rattle.std.specs.Prelude.{◌≡◌, ◌≤◌, ℕ, Bool, List, [], ◌∷◌, ◌++◌, codes, drop, length, map, take, ◌-◌, IsTrue}
+use Rattle.std.specs.Prelude.{◌≡◌, ◌≤◌, ℕ, Bool, false, List, [], ◌∷◌, ◌++◌, codes, drop, flat_map, length, map, take, ◌-◌, IsTrue}
 use Rattle.journal_texts.specs.bureau_desk.specs.disk_model.specs.Calls.{Seen, GoesOn, IsPresent}
 use Rattle.journal_texts.specs.bureau_desk.specs.claim_history.specs.declared.call.Call.{Call}
 use Rattle.journal_texts.specs.bureau_desk.specs.claim_history.specs.declared.call.PoolEntry.{PoolEntry}
@@ -17,15 +17,19 @@ use Rattle.journal_texts.specs.printed_text.specs.declared.exit_status.ExitStatu
 use Rattle.journal_texts.specs.printed_text.specs.declared.exit_status.ExitStatus.TheVariants as statuses
 use Rattle.journal_texts.specs.printed_text.specs.Printing.{added_text}
 use Rattle.journal_texts.specs.DiskTexts.{told_counts}
-use Rattle.journal_texts.specs.Journals.{HoldsSound}
+use Rattle.journal_texts.specs.Journals.{HasRoomForAll, HoldsSound}
 use Rattle.group_runs.specs.group_loader.specs.Groups.{HasGroupMoments, StandsForWhole}
 use Rattle.group_runs.specs.Lines.{GroupsAreDue, group_calls, groups_add, groups_text, lines_add, requests_of_lines}
 use Rattle.group_runs.specs.Runs.{KeepsHistory, calls_of_group, groups_of, load_status, some_end}
 
+-- the requests of batches, in the order of the input
+abbrev pub requests_of : List (List Request) → List Request
+requests_of batches = flat_map (λ batch. batch) batches
+
 -- The history: that of the records that the disk held, with one abandonment for each round that they leave open, and then what the
 -- groups added that are kept.
-pub record IsLoadHistory (tells : Bool) (bytes : List ℕ) (opened begun : List PoolEntry) (groups : List (List Line)) (history : List PoolEntry)
-    : Type 0 where
+pub record IsLoadHistory (tells : Bool) (bytes : List ℕ) (opened begun : List PoolEntry) (groups : List (List Line))
+    (history : List PoolEntry) : Type 0 where
   pub records : List Record
   pub found : AreFound tells bytes records
   pub sound : AreSound records
@@ -49,22 +53,22 @@ sure_load_text opened begun (g ∷ groups) = load_text opened begun (but_last_gr
 -- How it ended, between these counts of the disk, with the status and what is told behind the texts of the groups that are kept. All
 -- groups of the requests are; or the sink failed, at the text of the last of them or at the lines of the abandonments; or the disk failed
 -- at one more, which was tried.
-pub data LoadEnd (low high : ℕ) (requests : List (List Request)) (groups : List (List Line)) (tried : List Line) : ExitStatus → List ℕ → Type 0
-  where
-    all_kept : map requests_of_lines groups ≡ requests → tried ≡ []
-        → LoadEnd low high requests groups tried (load_status (some_end is_memory_end groups) (some_end is_full_end groups)) []
-    sink_failed : (rest : List (List Request)) → requests ≡ map requests_of_lines groups ++ rest → tried ≡ []
-        → LoadEnd low high requests groups tried statuses.Sink []
-    disk_failed : (rest : List (List Request)) (before after : ℕ) → requests ≡ map requests_of_lines (groups ++ tried ∷ []) ++ rest
-        → low ≤ before → after ≡ high → HasRisen before after
-        → LoadEnd low high requests groups tried statuses.Disk (told_counts (codes "fault device ") before after)
+pub data LoadEnd (low high : ℕ) (requests : List (List Request)) (groups : List (List Line)) (tried : List Line) : ExitStatus → List ℕ
+    → Type 0 where
+  all_kept : map requests_of_lines groups ≡ requests → tried ≡ []
+      → LoadEnd low high requests groups tried (load_status (some_end is_memory_end groups) (some_end is_full_end groups)) []
+  sink_failed : (rest : List (List Request)) → requests ≡ map requests_of_lines groups ++ rest → tried ≡ []
+      → LoadEnd low high requests groups tried statuses.Sink []
+  disk_failed : (rest : List (List Request)) (before after : ℕ) → requests ≡ map requests_of_lines (groups ++ tried ∷ []) ++ rest
+      → low ≤ before → after ≡ high → HasRisen before after
+      → LoadEnd low high requests groups tried statuses.Disk (told_counts (codes "fault device ") before after)
 
 -- A crash at any moment since that of the opening's first sync, which is the first of the moments: of the disk that the opening left, each
 -- image since that sync holds the records of the start, and no earlier one is new. From there on there is a moment for each group: each
 -- image holds the calls of the opening and of the groups up to there, all of them whole, alone or with the whole next one, and perhaps,
 -- since the last, the whole group that was tried. Each image at the end holds those of all groups that are kept.
-pub record SurvivesGroups {D : Type 0} (seen : D → Seen) (old new : D) (begun history : List PoolEntry) (groups : List (List Line)) (tried : List Call)
-    : Type 0 where
+pub record SurvivesGroups {D : Type 0} (seen : D → Seen) (old new : D) (begun history : List PoolEntry) (groups : List (List Line))
+    (tried : List Call) : Type 0 where
   pub first : ℕ
   pub opened : D
   pub turned : HasDeskTurned (seen old) first (seen opened)
@@ -73,9 +77,10 @@ pub record SurvivesGroups {D : Type 0} (seen : D → Seen) (old new : D) (begun 
   pub at_exit : (c : List ℕ) → IsPresent (seen new) c → StandsForWhole (accepted_calls history) tried c
 
 -- A load of batches, and the status and the text that are due. Its parts: the history; how it ended; what is written, and what the
--- sink took of it at least; that each line has the one reply that is due, or was full as is told, or had no memory; that the history is
--- legal and within the limits, its acts are valid and its calls can be kept in a journal, also with the group that was tried; what the
--- disk reads at the end, which stands for the accepted calls, alone or with that whole group, and so for sound records; and crashes.
+-- sink took of it at least; that each line has the one reply that is due, or was full as is told, or had no memory, and that within the
+-- bound none is full; that the history is legal and within the limits, its acts are valid and its calls can be kept in a journal, also
+-- with the group that was tried; what the disk reads at the end, which stands for the accepted calls, alone or with that whole group, and
+-- so for sound records; and crashes.
 pub record IsLoadHeadline {D : Type 0} (seen : D → Seen) (Taken : List ℕ → Type 0) (old new : D) (batches : List (List Request))
     (status : ExitStatus) (text : List ℕ) : Type 0 where
   pub opened : List PoolEntry
@@ -89,6 +94,7 @@ pub record IsLoadHeadline {D : Type 0} (seen : D → Seen) (Taken : List ℕ →
   pub text_is : text ≡ load_text opened begun groups ++ told
   pub taken : Taken (sure_load_text opened begun groups)
   pub due : GroupsAreDue begun (groups ++ tried ∷ [])
+  pub none_full : HasRoomForAll is_history.records (requests_of batches) → some_end is_full_end groups ≡ false
   pub keeps : KeepsHistory history
   pub keeps_tried : KeepsHistory (history ++ lines_add history tried)
   pub on_disk : IsTrue (seen old).tells → StandsForWhole (accepted_calls history) (calls_of_group history tried) (seen new).reads

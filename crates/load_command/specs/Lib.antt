@@ -1,2 +1,5 @@
 pub mod Headline
 pub mod Due
+pub mod Inputs
+pub mod Causes
+pub mod Completeness

@@ -3,5 +3,6 @@
 mod commands;
 mod loads;
 mod made;
+mod programs;
 mod reading;
 mod runs;

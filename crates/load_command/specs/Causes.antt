@@ -1,0 +1,84 @@
+-- When each status of a load comes.
+use Rattle.std.specs.Prelude.{◌≡◌, ◌≢◌, ◌<◌, ◌≤◌, ℕ, List, [], ◌∷◌, length, Option, Some, IsTrue}
+use Rattle.setoff_model.specs.declared.limits.TheConstants.{MOST_INPUT_BYTES}
+use Rattle.disk_model.specs.Calls.{Seen}
+use Rattle.request_text.specs.declared.request.Request.{Request}
+use Rattle.load_reading.specs.Reading.{IsLoadText, IsNoLoadText}
+use Rattle.journal_texts.specs.bureau_desk.specs.round_journal.specs.declared.record.Record.{Record}
+use Rattle.journal_texts.specs.bureau_desk.specs.round_journal.specs.Opened.{AreFound}
+use Rattle.journal_texts.specs.bureau_desk.specs.journal_replay.specs.Replays.{AreSound}
+use Rattle.journal_texts.specs.printed_text.specs.declared.exit_status.ExitStatus.{ExitStatus}
+use Rattle.journal_texts.specs.printed_text.specs.declared.exit_status.ExitStatus.TheVariants as statuses
+use Rattle.journal_texts.specs.printed_text.specs.Statuses.{IsOneOf}
+use Rattle.load_command.specs.Headline.{IsLoadHeadline}
+
+-- ---- causes
+
+-- the source has an input of at most 2^26 bytes, of which this holds
+pub record IsWholeInput (Holds : List ℕ → Type 0) (left : Option (List ℕ)) : Type 0 where
+  pub input : List ℕ
+  pub told : left ≡ Some input
+  pub within : length input ≤ MOST_INPUT_BYTES
+  pub holds : Holds input
+
+-- what holds of the bytes of a source, where it tells them
+abbrev pub OfTold : (List ℕ → Type 0) → Option (List ℕ) → Type 0
+OfTold Holds left = (input : List ℕ) → left ≡ Some input → Holds input
+
+-- the input has more than 2^26 bytes
+abbrev pub IsTooLong : List ℕ → Type 0
+IsTooLong input = MOST_INPUT_BYTES < length input
+
+-- it is in the grammar
+abbrev pub IsInForm : List ℕ → Type 0
+IsInForm input = (batches : List (List Request)) × IsLoadText input batches
+
+-- the disk tells its bytes, which are more than nine and stand for no sound records
+pub record HoldsUnsound (disk : Seen) : Type 0 where
+  pub tells : IsTrue disk.tells
+  pub long : 9 < length disk.reads
+  pub none : (records : List Record) → AreFound disk.tells disk.reads records → AreSound records → ⊥
+
+-- the batches of the input were loaded, and some line was full
+pub record HadFullLine {D : Type 0} (seen : D → Seen) (Taken : List ℕ → Type 0) (old new : D) (input : List ℕ) : Type 0 where
+  pub batches : List (List Request)
+  pub spelled : IsLoadText input batches
+  pub text : List ℕ
+  pub loaded : IsLoadHeadline seen Taken old new batches statuses.Limit text
+
+-- ---- statuses
+
+-- Where each cause is, its status comes, or that of a fault: of the source, of the disk, for want of memory, or of the sink.
+pub record ComesWhere (words : List (List ℕ)) (left : Option (List ℕ)) (disk : Seen) (status : ExitStatus) : Type 0 where
+  -- any words
+  pub of_words : words ≢ [] → IsOneOf (statuses.Words ∷ statuses.Sink ∷ []) status
+  -- an input that is too long, or not in the grammar
+  pub of_length : words ≡ [] → (input : List ℕ) → left ≡ Some input → IsTooLong input
+      → IsOneOf (statuses.Limit ∷ statuses.Source ∷ statuses.Memory ∷ statuses.Sink ∷ []) status
+  pub of_form : words ≡ [] → IsWholeInput IsNoLoadText left
+      → IsOneOf (statuses.Form ∷ statuses.Source ∷ statuses.Memory ∷ statuses.Sink ∷ []) status
+  -- a journal that is not sound
+  pub of_opening : words ≡ [] → IsWholeInput IsInForm left → HoldsUnsound disk
+      → IsOneOf (statuses.Unsound ∷ statuses.Source ∷ statuses.Disk ∷ statuses.Memory ∷ statuses.Sink ∷ []) status
+
+-- Why a load without words ends with a status, as far as the source and the disk tell their bytes. That the source, the disk or the
+-- sink failed, their counts tell.
+pub data HasCause {D : Type 0} (seen : D → Seen) (Taken : List ℕ → Type 0) (left : Option (List ℕ)) (old new : D) : ExitStatus
+    → Type 0 where
+  done : HasCause seen Taken left old new statuses.Done
+  source_failed : HasCause seen Taken left old new statuses.Source
+  sink_failed : HasCause seen Taken left old new statuses.Sink
+  disk_failed : HasCause seen Taken left old new statuses.Disk
+  out_of_form : OfTold IsNoLoadText left → HasCause seen Taken left old new statuses.Form
+  too_long : OfTold IsTooLong left → HasCause seen Taken left old new statuses.Limit
+  full_line : OfTold (HadFullLine seen Taken old new) left → HasCause seen Taken left old new statuses.Limit
+  not_opened : (IsTrue (seen old).tells → HoldsUnsound (seen old)) → HasCause seen Taken left old new statuses.Unsound
+  no_memory : HasCause seen Taken left old new statuses.Memory
+
+-- Each status comes only where its cause is: there were words, which was told or the sink failed; or a load was asked for.
+pub data ComesOnly {D : Type 0} (seen : D → Seen) (Taken : List ℕ → Type 0) (words : List (List ℕ)) (left : Option (List ℕ))
+    (old new : D) : ExitStatus → Type 0 where
+  some_words : words ≢ [] → (status : ExitStatus) → IsOneOf (statuses.Words ∷ statuses.Sink ∷ []) status
+      → ComesOnly seen Taken words left old new status
+  asked_for : words ≡ [] → (status : ExitStatus) → HasCause seen Taken left old new status
+      → ComesOnly seen Taken words left old new status
