@@ -3,7 +3,8 @@
 # Prints the milliseconds of `import` of 262,144 invoices beside Python's csv module on the same file, which checks the same fields and
 # writes the same lines; of an `audit`, `positions`, `notices` and `weigh` of a book of 16,384 firms and 262,144 claims; and of
 # `trial 16384 262144 1`, with its peak memory. Then it closes a round of all these claims, and times an `audit`, `statement 1` and
-# `history`, which has to be what the runs printed, beside `cat` of the same bytes. Each is the least of three. The journal is in memory.
+# `history`, which has to be what the runs printed, beside `cat` of the same bytes; and `pools`, `seal`, `account F-1`, `since` of the
+# last hundred acts, `parts 1`, and a `forecast` before that round. Each is the least of three. The journal is in memory.
 # Run by hand.
 set -euo pipefail
 
@@ -62,7 +63,7 @@ with open("filed") as filed, open("requests", "w") as requests:
         requests.write(f"1 CONFIRM {creditor} {invoice} {debtor}\n")
 with open("requests") as requests, open("printed", "w") as printed:
     subprocess.run([program, "run"], stdin=requests, stdout=printed, check=True)
-for words in (["audit"], ["positions"], ["notices", "2026-01-10"], ["weigh", "PLAIN", "2026-01-10"]):
+for words in (["audit"], ["positions"], ["notices", "2026-01-10"], ["weigh", "PLAIN", "2026-01-10"], ["forecast", "PLAIN", "2026-01-10"]):
     print(f"{words[0]} {least([program, *words], '/dev/null', 'table'):.0f} ms")
 
 with open("printed", "a") as printed:
@@ -72,6 +73,10 @@ statement = least([program, "statement", "1"], "/dev/null", "table")
 history = least([program, "history"], "/dev/null", "table")
 assert open("table").read() == open("printed").read()
 bytes_alone = least(["cat"], "printed", "table")
+acts = int(subprocess.run([program, "audit"], stdout=subprocess.PIPE, check=True).stdout.split()[2])
+for words in (["pools"], ["seal"], ["account", "F-1"], ["since", str(acts - 100)], ["since", "0"], ["parts", "1"]):
+    spent = least([program, *words], "/dev/null", "table")
+    print(f"with a round: {' '.join(words)} {spent:.0f} ms, {spent / audit:.2f} times audit, {spent / statement:.2f} times statement")
 print(f"with a round: audit {audit:.0f} ms, statement {statement:.0f} ms, history {history:.0f} ms, cat {bytes_alone:.0f} ms, quotient {history / (audit + bytes_alone):.2f}")
 PYTHON
 /usr/bin/time -f 'trial: %e s, %U s of the processor, %M KB at its peak' "$program" trial 16384 262144 1

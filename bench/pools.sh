@@ -2,8 +2,8 @@
 # Times rounds of sixteen pools that sixteen lanes close at once beside the same rounds one after another, and a pool for each of
 # many entries: bench/pools.sh [FIRMS CLAIMS [POOLS]]
 # Each pool has so many firms and drawn claims. Prints the seconds by the clock of both, without the filing, and their ratio, then the
-# seconds and the peak memory of a run that registers one firm in each of POOLS pools, and of one with as many entries in MAIN. Each time
-# of a round is the least of three runs. Run by hand. Without sizes it takes 1,024 firms, 16,384 claims and 1,000,000 pools.
+# seconds and the peak memory of a run that registers one firm in each of POOLS pools, of one with as many entries in MAIN, and of a full
+# history with one line and with POOLS lines behind it that are full, each of which names a pool of its own. Each time of a round is the least of three runs. Run by hand. Without sizes it takes 1,024 firms, 16,384 claims and 1,000,000 pools.
 set -eu
 
 [ $# -gt 1 ] || set -- 1024 16384 "${3:-1000000}"
@@ -52,12 +52,17 @@ awk -v o="$opening" -v a="$at_once" -v t="$in_turn" 'BEGIN {
 # Seconds and kilobytes of a run over its input.
 spent() {
   rm -f bureau.journal
-  "$@" | /usr/bin/time -f '%e %M' -o "$folder/time" "$program" run >/dev/null
-  cat "$folder/time"
+  "$@" | /usr/bin/time -f '%e %M' -o "$folder/time" "$program" run >/dev/null || true
+  tail -1 "$folder/time"
 }
 pools() { seq 1 "$1" | sed 's/.*/1 @P-& FIRM A/'; }
 main() { seq 1 "$1" | sed 's/.*/1 POSITION F-&/'; }
+full() { yes '1 POSITION A' | head -1048576; pools "$1"; }
 read -r seconds kilobytes <<<"$(spent pools "$3")"
 printf '%-44s %8.2f seconds %10d KB\n' "$3 pools of one entry" "$seconds" "$kilobytes"
 read -r seconds kilobytes <<<"$(spent main "$3")"
 printf '%-44s %8.2f seconds %10d KB\n' "as many refused entries of MAIN" "$seconds" "$kilobytes"
+for lines in 1 "$3"; do
+  read -r seconds kilobytes <<<"$(spent full "$lines")"
+  printf '%-44s %8.2f seconds %10d KB\n' "$lines full lines over a full history" "$seconds" "$kilobytes"
+done

@@ -114,12 +114,19 @@ def costs(crates):
     return {it.name: found.get(it.name, 12 + 0.05 * it.count(rb"\n")) for it in crates}
 
 
+def mark_tests(crates):
+    """Marks the crates of tests: those with tests on which no other stands. The tests of a library are left to `rt ci`."""
+    below = {low.name for it in crates for low in it.below()}
+    for it in crates:
+        it.is_of_tests = it.has_tests() and it.name not in below
+
+
 def prove(crate, jobs):
     """Proves a crate over libraries that are built, with the toolchain's lines on the standard output."""
     words = ["--jobs", str(jobs)]
     if crate.is_program:
         return link(crate, words)
-    if crate.has_tests():
+    if crate.is_of_tests:
         return crate.check([*words, "--test"])
     return crate.build_rlib(words, anew=False)
 
@@ -139,7 +146,7 @@ class Work:
     def __init__(self, rtlib, crates, at_once, logs):
         self.rtlib, self.crates, self.at_once, self.logs = rtlib, crates, at_once, logs
         # (what a check has kept makes the next one shorter, and a library is built without)
-        self.spent, self.new = {}, {it.name for it in crates if not it.has_kept() or not (it.is_program or it.has_tests())}
+        self.spent, self.new = {}, {it.name for it in crates if not it.has_kept() or not (it.is_program or it.is_of_tests)}
         self.cost = costs(crates)
         self.waits = {it.name: {low.name for low in it.below()} for it in crates}
         self.behind = {}
@@ -177,7 +184,7 @@ class Work:
 
     def pass_built(self):
         """Takes those that an earlier run built of these very sources as done."""
-        for it in [it for it in self.left if it.makes_rlib() and not it.has_tests() and it.is_built()]:
+        for it in [it for it in self.left if it.makes_rlib() and not it.is_of_tests and it.is_built()]:
             self.left.remove(it)
             self.done[it.name] = 0
 
@@ -243,6 +250,7 @@ def main():
     rtlib.guarded()
     os.chdir(HOME)
     every = sorted(rtlib.crates_below(HOME), key=lambda it: len(it.below()))
+    mark_tests(every)
     unknown = set(given.crates) - {it.name for it in every}
     if unknown:
         asks.error(f"no crate {min(unknown)}")
