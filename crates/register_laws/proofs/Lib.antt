@@ -1,0 +1,2 @@
+mod Unlisted
+mod Rows
