@@ -14,7 +14,7 @@ use std::alloc::{AllocError, Global};
 
 /// The call that has this body: None exactly where no call that can be kept has it.
 ///
-/// The one error is want of memory, for the lists of a publication. No other body takes memory.
+/// The only error is running out of memory, for the lists of a publication. No other body takes memory.
 pub fn read_body(alloc: Global, body: &[u8]) -> Result<Option<Call>, AllocError>
     ensures found { IfOk result (λ found. MatchOption found (IsNoBody body.now)
         (λ call. (is_keepable call ≡ true) × (body_of call ≡ body.now))) }

@@ -7,7 +7,8 @@ ghost use Rattle.claim_history.specs.declared.act.Act.TheVariants as act;
 ghost use Rattle.claim_history.specs.Acts.{is_valid};
 ghost use Rattle.claim_history.specs.Needs.{body_length_of};
 ghost use Rattle.claim_history.specs.PoolNeeds.{pool_bytes};
-ghost use Rattle.act_bodies.specs.Bodies.{four, eight, name_bytes, key_bytes, kind_byte, stored_price, outcome_bytes, pool_mark, called, fields_of, body_of, is_keepable};
+ghost use Rattle.act_bodies.specs.Bodies.{four, eight, name_bytes, key_bytes, kind_byte, stored_price};
+ghost use Rattle.act_bodies.specs.Bodies.{outcome_bytes, pool_mark, called, fields_of, body_of, is_keepable};
 
 use crate::tag;
 use claim_history::{Act, Day, is_main};

@@ -97,7 +97,7 @@ greatest_in before later m total legal published =
     let parts : entries_in m.pool (before ++ m ∷ later) ≡ entries_in m.pool before ++ m.entry ∷ entries_in m.pool later =
     in_append m.pool before (m ∷ later) ∙ ap (λ (es : List Entry). entries_in m.pool before ++ es) (past_own m.pool m later (name_same m.pool)) in
     greatest_law (entries_in m.pool before) (entries_in m.pool later) m.entry total
-    (subst one.IsLegal parts (legal_in (before ++ m ∷ later) m.pool legal)) published
+    (subst one.IsLegalPool parts (legal_in (before ++ m ∷ later) m.pool legal)) published
 
 -- A desk that was opened has the members of the records, and has published nothing since.
 pub begun_few : {D : Type 0} (seen : D → Seen) (old : D) (d : DeskView D) → IsDeskOpen seen old d → d.opened_with ≤ length d.history

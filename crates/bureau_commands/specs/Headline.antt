@@ -25,7 +25,8 @@ use Rattle.bureau_commands.specs.Journals.{HasRoomForAll, HoldsSound}
 
 -- The history: that of the records that the disk held, with one abandonment for each round that they leave open, and then what the
 -- batches added.
-pub record IsRunHistory (tells : Bool) (bytes : List ℕ) (opened begun : List PoolEntry) (done : List Done) (history : List PoolEntry) : Type 0 where
+pub record IsRunHistory (tells : Bool) (bytes : List ℕ) (opened begun : List PoolEntry)
+    (done : List Done) (history : List PoolEntry) : Type 0 where
   pub records : List Record
   pub found : AreFound tells bytes records
   pub sound : AreSound records
@@ -90,10 +91,11 @@ IsInOrder seen new history held opened begun done (s ∷ shown) =
     × AreInOrder seen new history held (added_text opened (drop (length opened) begun)) begun done shown
 
 -- A run that served batches, and the status and the text that are due. Its parts: the history; what is written, what the sink
--- took of it at least, and in which order with the disk; what the disk reads at the end, which stands for the accepted calls, perhaps followed by one whose write
--- failed, and so for sound records; that the history is legal and within the limits, its acts are valid, its calls can be kept in a
--- journal, and the counts of its devices lie between those of the disk, which have 8 bytes; the calls of each lane; that within the bound no line is full; the rounds; crashes; and
--- what a run leaves that failed to write the lines of the abandonments.
+-- took of it at least, and in which order with the disk; what the disk reads at the end, which stands for the accepted calls, perhaps
+-- followed by one whose write failed, and so for sound records; that the history is legal and within the limits, its acts are valid, its
+-- calls can be kept in a journal, and the counts of its devices lie between those of the disk, which have 8 bytes; the calls of each
+-- lane; that within the bound no line is full; the rounds; crashes; and what a run leaves that failed to write the lines of the
+-- abandonments.
 pub record IsHeadline {D : Type 0} (seen : D → Seen) (output : Output D) (old new : D) (batches : List (List Request))
     (status : ExitStatus) (text : List ℕ) : Type 0 where
   pub opened : List PoolEntry

@@ -61,7 +61,8 @@ fn sink_failed(status: ExitStatus) -> bool
 }
 
 /// Reads requests from a source, serves each batch on a disk when its FENCE has come, and prints what came of it. Behind that it tells
-/// the fault by which the reading ended, where there was one. Before the text of each batch a witness is shown the sink and the disk. After a fault of the sink nothing more is served or told.
+/// the fault by which the reading ended, where there was one. Before the text of each batch a witness is shown the sink and the disk.
+/// After a fault of the sink nothing more is served or told.
 pub fn serve_source<
     R: Threads + Wait + Sync,
     S: Source,

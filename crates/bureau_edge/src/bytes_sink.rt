@@ -52,7 +52,7 @@ impl BytesSink {
         &self.bytes
     }
 
-    /// How many calls failed for want of memory. The count stops at the last `u64`.
+    /// How many calls failed because memory ran out. The count stops at the last `u64`.
     pub fn refused(&self) -> u64
         ensures { result ≡ self.now.refused }
     {

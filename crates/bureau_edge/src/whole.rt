@@ -42,7 +42,7 @@ impl From<Failed> for ReadEnd {
 
 /// All bytes that a source has left, at most `limit` of them. It reads until the source answers
 /// that it is at its end. `TooLong` comes exactly where `limit + 1` bytes were taken, and with each
-/// other answer at most `limit` were. `Failed` comes only where the source counted a fault. `Memory` is want of memory.
+/// other answer at most `limit` were. `Failed` comes only where the source counted a fault. `Memory` means out of memory.
 pub fn read_whole<S: Source>(alloc: Global, source: &mut S, limit: u64) -> Result<Vec<u8>, ReadEnd>
     ensures all { IfOk result (λ v. TakesAll limit (S.left source.old) (S.left source.new) v.items) }
     ensures end { IfErr result (EndsReading limit (S.left source.old) (S.left source.new)) }

@@ -13,7 +13,8 @@ use Rattle.weighed_round.specs.printed_text.specs.declared.exit_status.ExitStatu
 use Rattle.weighed_round.specs.printed_text.specs.Texts.{memory_text}
 use Rattle.weighed_round.specs.Forecast.{IsForecastText}
 use Rattle.weighed_round.specs.Weighed.{IsWeighedText}
-use Rattle.history_text.specs.Histories.{EndsAtPublication, IsPartsText, IsRoundText, history_text, round_status, told_members, was_published}
+use Rattle.history_text.specs.Histories.{EndsAtPublication, IsPartsText, IsRoundText, history_text}
+use Rattle.history_text.specs.Histories.{round_status, told_members, was_published}
 use Rattle.history_text.specs.Since.{EndsSince, has_fewer, since_status, since_told}
 use Rattle.journal_summaries.specs.Account.{account_status, account_text}
 use Rattle.journal_summaries.specs.PoolList.{pools_text}

@@ -7,7 +7,8 @@ ghost use Rattle.weighed_round.specs.printed_text.specs.Statuses.{IsOneOf, Tells
 ghost use Rattle.weighed_round.specs.printed_text.specs.Writing.{Wrote};
 ghost use Rattle.setoff_model.specs.declared.limits.TheConstants.{OUTPUT_BYTES};
 ghost use Rattle.bureau_reports.specs.DiskTexts.{IsTellable, sound_text};
-ghost use Rattle.bureau_reports.specs.Journals.{IsBookDue, HasFewOpenings, IsJournalDue, IsMade, IsTextOf, journal_statuses, report_status, unviewed_status, unviewed_text};
+ghost use Rattle.bureau_reports.specs.Journals.{IsBookDue, HasFewOpenings, IsJournalDue, IsMade, IsTextOf};
+ghost use Rattle.bureau_reports.specs.Journals.{journal_statuses, report_status, unviewed_status, unviewed_text};
 
 use crate::sound_line::{status_of_unsound, write_sound, write_unsound};
 use bureau_edge::Sink;

@@ -49,7 +49,7 @@ impl Model for Explainer {
 }
 
 impl Explainer {
-    /// An explainer of the outcome, of which nothing is explained yet. An error is want of memory.
+    /// An explainer of the outcome, of which nothing is explained yet. The only error is running out of memory.
     pub fn for_round(alloc: Global, checked: Checked) -> Result<Explainer, AllocError>
         ensures { IfOk result (IsStart checked.cut checked.outcome.discharges) }
     {

@@ -9,7 +9,7 @@ use setoff_checker::sum_flows;
 use setoff_model::Cut;
 use std::alloc::{AllocError, Global};
 
-// Nothing is explained of the discharges. An error is want of memory.
+// Nothing is explained of the discharges. The only error is running out of memory.
 pub(crate) fn left_at_start(
     alloc: Global,
     cut: &Cut,

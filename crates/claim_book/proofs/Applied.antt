@@ -101,8 +101,8 @@ module _ (parts : BooksParts) (are : AreBooks parts) (now : BooksView) (view_is 
     pub spare_one : (need : ℕ) → 1 ≤ need → need ≤ room_in pool now.rooms → 1 ≤ parts.spare
     spare_one need one fits = one_left parts.promised parts.spare (promised_one need one fits) are.promised_kept
 
-    pub may_follow : (e : Entry) → MayFollow now.members (member_of pool e) → one.MayFollow kept.book.history e
-    may_follow e next = subst (λ (es : List Entry). one.MayFollow es e) (sym history_is) (pools_law.next now.members (member_of pool e) next)
+    pub may_follow : (e : Entry) → MayFollow now.members (member_of pool e) → one.MayFollowInPool kept.book.history e
+    may_follow e next = subst (λ (es : List Entry). one.MayFollowInPool es e) (sym history_is) (pools_law.next now.members (member_of pool e) next)
 
     module _ (b : PoolBook) (e : Entry) (grown_kept : HasGrown kept b e) (places : List Place) (at : ℕ) (put : places ≡ parts.places ++ record { pool = i; at = at } ∷ []) (at_is : at ≡ length kept.book.history) where
       grown : HasGrown (get_or parts.books i no_book) b e

@@ -16,7 +16,7 @@ use Rattle.round_cut.specs.claim_history.specs.declared.fact.Status.TheVariants 
 use Rattle.round_cut.specs.claim_history.specs.Acts.{is_publication}
 use Rattle.round_cut.specs.claim_history.specs.Facts.{is_registered, filing_of, claim_facts, account_facts}
 use Rattle.round_cut.specs.claim_history.specs.States.{OpenRound, State, state_of, after, is_in_cut, is_held}
-use Rattle.round_cut.specs.claim_history.specs.History.{answer, is_no_refusal, is_opening, IsReply, IsLegal, firm_refusals, file_refusals}
+use Rattle.round_cut.specs.claim_history.specs.History.{answer, is_no_refusal, is_opening, IsReply, IsLegalPool, firm_refusals, file_refusals}
 use Rattle.round_cut.specs.claim_history.specs.Laws.{KeepAmounts}
 use Rattle.round_cut.specs.claim_history.proofs.Greatest.{reply_published}
 use Rattle.round_cut.specs.claim_history.proofs.Replies.{accepted_due}
@@ -141,7 +141,7 @@ mark_found name same test y (x ∷ xs) (Some i) one at none =
     let found = position-Some (λ z. same (name z)) (x ∷ xs) i x at in
     get_or-map (λ z. test (name z)) (x ∷ xs) i x false found.0 ∙ ap test (sym (one (name (get_or (x ∷ xs) i x)) found.1))
 
-module _ (entries : List Entry) (legal : IsLegal entries) where
+module _ (entries : List Entry) (legal : IsLegalPool entries) where
   abbrev s : State
   s = state_of entries
 

@@ -1,5 +1,6 @@
 -- The books of all pools.
-use Rattle.std.specs.Prelude.{◌≡◌, ◌<◌, ◌≤◌, ℕ, Bool, false, List, [], ◌∷◌, All, map, length, get_or, find, sum_by, Option, Some, None, if◌then◌else◌}
+use Rattle.std.specs.Prelude.{◌≡◌, ◌<◌, ◌≤◌, ℕ, Bool, false, List, [], ◌∷◌, All, map, length}
+use Rattle.std.specs.Prelude.{get_or, find, sum_by, Option, Some, None, if◌then◌else◌}
 use Rattle.setoff_model.specs.Same.{same_name}
 use Rattle.round_cut.specs.claim_history.specs.declared.act.Act.TheVariants as act
 use Rattle.round_cut.specs.claim_history.specs.declared.entry.Entry.{Entry}

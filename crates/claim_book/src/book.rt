@@ -1,5 +1,6 @@
 //! A history with its claims and accounts.
-ghost use Rattle.std.specs.Prelude.{ℕ, ◌≡◌, ◌<◌, ◌+◌, ◌≤◌, ◌++◌, ◌∷◌, [], length, is_some, IfOk, IfErr, OnOk, OnErr, vec_len, vec_capacity, true, false, All, if◌then◌else◌};
+ghost use Rattle.std.specs.Prelude.{ℕ, ◌≡◌, ◌<◌, ◌+◌, ◌≤◌, ◌++◌, ◌∷◌, [], length, is_some, IfOk, IfErr};
+ghost use Rattle.std.specs.Prelude.{OnOk, OnErr, vec_len, vec_capacity, true, false, All, if◌then◌else◌};
 ghost use Rattle.std.specs.Option.{option_map};
 ghost use Rattle.setoff_model.specs.declared.limits.TheConstants.{MOST_ROUNDS};
 ghost use Rattle.setoff_model.specs.declared.kind.Kind.{Kind};
@@ -8,11 +9,12 @@ ghost use Rattle.round_cut.specs.claim_history.specs.declared.act.Act.TheVariant
 ghost use Rattle.round_cut.specs.claim_history.specs.Facts.{claim_facts, account_facts};
 ghost use Rattle.round_cut.specs.claim_history.specs.Cut.{cut_of};
 ghost use Rattle.round_cut.specs.claim_history.specs.States.{state_of, number_of, is_in_cut, is_held};
-ghost use Rattle.round_cut.specs.claim_history.specs.History.{answer_of, IsLegal, AreValid, MayFollow, is_opening};
+ghost use Rattle.round_cut.specs.claim_history.specs.History.{answer_of, IsLegalPool, AreValidEntries, MayFollowInPool, is_opening};
 ghost use Rattle.round_cut.specs.claim_history.specs.Acts.{is_valid, is_publication};
 ghost use Rattle.round_cut.specs.claim_history.specs.Laws.{KeepLimits, KeepAmounts, IsWithin, OpenIsFrozen};
 ghost use Rattle.fact_tables.specs.Marks.{no_marks};
-ghost use Rattle.claim_book.specs.Book.{is_abandoned, ledger_of, claim_in, account_in, position_in, room_for, room_needed, KeepsRoom, open_cut_of, GivesCut};
+ghost use Rattle.claim_book.specs.Book.{is_abandoned, ledger_of, claim_in, account_in, position_in};
+ghost use Rattle.claim_book.specs.Book.{room_for, room_needed, KeepsRoom, open_cut_of, GivesCut};
 
 use crate::account_answer::{
     answer_draw, answer_firm, answer_fund, answer_limit, answer_offer, answer_position,
@@ -189,7 +191,7 @@ impl Book {
         requires valid { is_valid entry.act ≡ true }
         requires apart { is_publication entry.act ≡ false }
         requires no_opening { is_opening entry.reply ≡ false }
-        requires next { MayFollow self.old.history entry }
+        requires next { MayFollowInPool self.old.history entry }
         ensures history { self.new.history ≡ self.old.history ++ entry ∷ [] }
         ensures room { self.old.room ≤ self.new.room + 1 }
         ensures kept { KeepsRoom self.old.history entry self.new.room }
@@ -210,7 +212,7 @@ impl Book {
         requires valid { is_valid entry.act ≡ true }
         requires few { (state_of self.old.history).openings < MOST_ROUNDS }
         requires opens { is_opening entry.reply ≡ true }
-        requires next { MayFollow self.old.history entry }
+        requires next { MayFollowInPool self.old.history entry }
         requires cut { (kind : Kind) (horizon : ℕ) → entry.act ≡ act.Close kind horizon
             → cut ≡ cut_of ((state_of self.old.history).openings + 1) (ledger_of self.old.history) kind horizon }
         ensures history { self.new.history ≡ self.old.history ++ entry ∷ [] }
@@ -240,7 +242,7 @@ impl Book {
         requires room { room_needed (state_of self.old.history) entry.caller entry.act ≤ self.old.room }
         requires valid { is_valid entry.act ≡ true }
         requires publishes { is_publication entry.act ≡ true }
-        requires next { MayFollow self.old.history entry }
+        requires next { MayFollowInPool self.old.history entry }
         ensures history { self.new.history ≡ self.old.history ++ entry ∷ [] }
         ensures room { self.old.room ≤ self.new.room + 1 }
         ensures kept { KeepsRoom self.old.history entry self.new.room }
@@ -323,8 +325,8 @@ impl Book {
     /// opened than there are entries.
     pub fn history(&self) -> &[Entry]
         ensures entries { result.now ≡ self.now.history }
-        ensures legal { IsLegal self.now.history }
-        ensures valid { AreValid self.now.history }
+        ensures legal { IsLegalPool self.now.history }
+        ensures valid { AreValidEntries self.now.history }
         ensures limits { KeepLimits (ledger_of self.now.history) }
         ensures amounts { KeepAmounts (ledger_of self.now.history) }
         ensures frozen { OpenIsFrozen (state_of self.now.history) }
@@ -341,8 +343,8 @@ impl Book {
         ensures claims { result.now ≡ claim_facts (ledger_of self.now.history) }
         ensures amounts { All (λ c. c.left ≤ c.amount) result.now }
         ensures parts { All (λ c. c.part ≤ c.left) result.now }
-        ensures legal { IsLegal self.now.history }
-        ensures valid { AreValid self.now.history }
+        ensures legal { IsLegalPool self.now.history }
+        ensures valid { AreValidEntries self.now.history }
     {
         self.claims.facts()
     }

@@ -1,10 +1,12 @@
 //! The history of the bureau, with the book of each pool.
-ghost use Rattle.std.specs.Prelude.{ℕ, ◌≡◌, ◌^◌, ◌<◌, ◌+◌, ◌≤◌, ◌++◌, ◌∷◌, [], List, length, is_some, position, slice_get, map, Some, None, IfOk, IfErr, OnOk, OnErr, vec_len, vec_capacity, true, false};
+ghost use Rattle.std.specs.Prelude.{ℕ, ◌≡◌, ◌^◌, ◌<◌, ◌+◌, ◌≤◌, ◌++◌, ◌∷◌, [], List, length, is_some, position, slice_get};
+ghost use Rattle.std.specs.Prelude.{map, Some, None, IfOk, IfErr, OnOk, OnErr, vec_len, vec_capacity, true, false};
 ghost use Rattle.std.specs.Option.{option_map};
 ghost use Rattle.setoff_model.specs.declared.limits.TheConstants.{MOST_ROUNDS};
 ghost use Rattle.round_cut.specs.claim_history.specs.History.{is_opening};
 ghost use Rattle.round_cut.specs.claim_history.specs.Acts.{is_valid, is_publication};
-ghost use Rattle.round_cut.specs.claim_history.specs.Pools.{IsLegal, AreValid, MayFollow, call_of, due_reply, entries_in, member_of, open_round_in, state_in};
+ghost use Rattle.round_cut.specs.claim_history.specs.Pools.{IsLegal, AreValid, MayFollow, call_of, due_reply};
+ghost use Rattle.round_cut.specs.claim_history.specs.Pools.{entries_in, member_of, open_round_in, state_in};
 ghost use Rattle.round_cut.specs.claim_history.specs.PoolRounds.{IsCutDue, open_cut_in};
 ghost use Rattle.claim_book.specs.Book.{room_for, room_needed, KeepsRoom, GivesCut};
 ghost use Rattle.setoff_model.specs.Same.{same_name};

@@ -5,7 +5,7 @@ ghost use Rattle.setoff_model.specs.declared.kind.Kind.{Kind};
 ghost use Rattle.round_cut.specs.claim_history.specs.declared.act.Act.TheVariants as acts;
 ghost use Rattle.round_cut.specs.claim_history.specs.Cut.{cut_of};
 ghost use Rattle.round_cut.specs.claim_history.specs.States.{state_of};
-ghost use Rattle.round_cut.specs.claim_history.specs.History.{MayFollow, is_opening};
+ghost use Rattle.round_cut.specs.claim_history.specs.History.{MayFollowInPool, is_opening};
 ghost use Rattle.round_cut.specs.claim_history.specs.Acts.{is_valid, is_publication};
 ghost use Rattle.claim_book.specs.Book.{ledger_of, room_for, room_needed, GivesCut};
 ghost use Rattle.claim_book.specs.Changes.{HasGrown, HasRoomMade};
@@ -38,7 +38,7 @@ pub struct Place {
 // Where a book has too little room, room is made for one entry more for each so many that it has, so that most acts find theirs.
 const SHARE_AHEAD: usize = 64;
 
-/// Makes the room that an act needs in a book and among the places, of which so many are promised. The error is want of
+/// Makes the room that an act needs in a book and among the places, of which so many are promised. The error is running out of
 /// memory, and comes only where more room was needed.
 pub fn make_room(
     kept: &mut PoolBook,
@@ -79,7 +79,7 @@ pub fn apply_in(kept: &mut PoolBook, entry: Entry) -> usize
     requires valid { is_valid entry.act ≡ true }
     requires apart { is_publication entry.act ≡ false }
     requires no_opening { is_opening entry.reply ≡ false }
-    requires next { MayFollow kept.old.book.history entry }
+    requires next { MayFollowInPool kept.old.book.history entry }
 
     ensures grown { HasGrown kept.old kept.new entry }
     ensures at { result ≡ length kept.old.book.history }
@@ -97,7 +97,7 @@ pub fn close_in(kept: &mut PoolBook, entry: Entry, cut: Cut) -> usize
     requires valid { is_valid entry.act ≡ true }
     requires few { (state_of kept.old.book.history).openings < MOST_ROUNDS }
     requires opens { is_opening entry.reply ≡ true }
-    requires next { MayFollow kept.old.book.history entry }
+    requires next { MayFollowInPool kept.old.book.history entry }
     requires cut { (kind : Kind) (horizon : ℕ) → entry.act ≡ acts.Close kind horizon
         → cut ≡ cut_of ((state_of kept.old.book.history).openings + 1) (ledger_of kept.old.book.history) kind horizon }
 
@@ -116,7 +116,7 @@ pub fn publish_in(kept: &mut PoolBook, entry: Entry) -> (usize, Option<Cut>)
     requires room { room_needed (state_of kept.old.book.history) entry.caller entry.act ≤ kept.old.room }
     requires valid { is_valid entry.act ≡ true }
     requires publishes { is_publication entry.act ≡ true }
-    requires next { MayFollow kept.old.book.history entry }
+    requires next { MayFollowInPool kept.old.book.history entry }
 
     ensures grown { HasGrown kept.old kept.new entry }
     ensures at { result.0 ≡ length kept.old.book.history }

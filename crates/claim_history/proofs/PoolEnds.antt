@@ -90,15 +90,15 @@ left_opens history (m ∷ ms) = left_step (is_left_open history m) m (filter (is
 -- ---- one round has one opening
 
 -- an opening that stands later has a greater number
-rises : (first between later : List Entry) (low high : Entry) (i j : ℕ) → one.IsLegal (first ++ low ∷ (between ++ high ∷ later))
+rises : (first between later : List Entry) (low high : Entry) (i j : ℕ) → one.IsLegalPool (first ++ low ∷ (between ++ high ∷ later))
     → low.reply ≡ reply.Opened i → high.reply ≡ reply.Opened j → i < j
 rises first between later low high i j legal low_is high_is =
     let parts : first ++ low ∷ (between ++ high ∷ later) ≡ (first ++ low ∷ between) ++ high ∷ later = sym (append_assoc first (low ∷ between) (high ∷ later)) in
-    let whole = subst one.IsLegal parts legal in
+    let whole = subst one.IsLegalPool parts legal in
     let past = legal_first (first ++ low ∷ between) later high whole in
     let turned = reverse_parts first between low in
     let started = legal_first first between low past.1 in
-    let many : i ≤ (state (reverse between ++ low ∷ reverse first)).openings = counted (reverse first) low i low_is started (reverse between) (subst one.IsLegalPast turned past.1) in
+    let many : i ≤ (state (reverse between ++ low ∷ reverse first)).openings = counted (reverse first) low i low_is started (reverse between) (subst one.IsLegalPoolPast turned past.1) in
     let next : j ≡ (state (reverse (first ++ low ∷ between))).openings + 1 = number_is (reverse (first ++ low ∷ between)) high j high_is past in
     omega (arith, many, next, ap (λ (p : List Entry). (state p).openings) turned)
 
@@ -115,7 +115,7 @@ module _ (pre xs post : List PoolEntry) (x m : PoolEntry) (legal : IsLegal (pre 
       let a = opened_as o x.entry.reply first in
       let b = opened_as o m.entry.reply second in
       let lower = rises (entries_in m.pool pre) (entries_in m.pool xs) (entries_in m.pool post) x.entry m.entry a.0 b.0
-      (subst one.IsLegal in_parts (legal_in (pre ++ x ∷ (xs ++ m ∷ post)) m.pool legal)) a.1 b.1 in
+      (subst one.IsLegalPool in_parts (legal_in (pre ++ x ∷ (xs ++ m ∷ post)) m.pool legal)) a.1 b.1 in
       omega (arith, lower, eqb-true a.0 (number_of o) a.2, eqb-true b.0 (number_of o) b.2)
 
 -- ---- the laws

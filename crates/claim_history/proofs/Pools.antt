@@ -71,19 +71,19 @@ counts_in pool (m ∷ past) = count_step (is_in pool m) m (filter (is_in pool) p
 
 legal_step : (pool : List ℕ) (m : PoolEntry) (past : List PoolEntry) (b : Bool) → is_in pool m ≡ b
     → IsReply (last_count (entries_of past)) (answer (state (entries_in m.pool past)) m.entry.caller m.entry.act) m.entry.reply
-    → one.IsLegalPast (entries_in pool past) → one.IsLegalPast (entries_of (if b then m ∷ filter (is_in pool) past else filter (is_in pool) past))
+    → one.IsLegalPoolPast (entries_in pool past) → one.IsLegalPoolPast (entries_of (if b then m ∷ filter (is_in pool) past else filter (is_in pool) past))
 legal_step pool m past true own due legal =
     let here : m.pool ≡ pool = sym ((same_name_is pool m.pool).0 own) in
     let now = subst (λ (q : List ℕ). IsReply (last_count (entries_of past)) (answer (state (entries_in q past)) m.entry.caller m.entry.act) m.entry.reply) here due in
     (earlier_reply (last_count (entries_of past)) (last_count (entries_in pool past)) _ m.entry.reply (counts_in pool past) now, legal)
 legal_step pool m past false other due legal = legal
 
-pub legal_past : (pool : List ℕ) (past : List PoolEntry) → IsLegalPast past → one.IsLegalPast (entries_in pool past)
+pub legal_past : (pool : List ℕ) (past : List PoolEntry) → IsLegalPast past → one.IsLegalPoolPast (entries_in pool past)
 legal_past pool [] legal = tt
 legal_past pool (m ∷ past) legal = legal_step pool m past (is_in pool m) refl legal.0 (legal_past pool past legal.1)
 
-pub legal_in : (history : List PoolEntry) (pool : List ℕ) → IsLegal history → one.IsLegal (entries_in pool history)
-legal_in history pool legal = subst one.IsLegalPast (in_reverse pool history) (legal_past pool (reverse history) legal)
+pub legal_in : (history : List PoolEntry) (pool : List ℕ) → IsLegal history → one.IsLegalPool (entries_in pool history)
+legal_in history pool legal = subst one.IsLegalPoolPast (in_reverse pool history) (legal_past pool (reverse history) legal)
 
 abbrev Valid : Entry → Type 0
 Valid e = is_valid e.act ≡ true
@@ -92,12 +92,12 @@ valid_step : (b : Bool) (m : PoolEntry) (ms : List PoolEntry) → Valid m.entry 
 valid_step true m ms here rest = All-cons Valid m.entry (entries_of ms) here rest
 valid_step false m ms here rest = rest
 
-pub valid_in : (history : List PoolEntry) (pool : List ℕ) → AreValid history → one.AreValid (entries_in pool history)
+pub valid_in : (history : List PoolEntry) (pool : List ℕ) → AreValid history → one.AreValidEntries (entries_in pool history)
 valid_in [] pool valid = All-nil Valid
 valid_in (m ∷ ms) pool valid =
     valid_step (is_in pool m) m (filter (is_in pool) ms) (All-head Valid m.entry (entries_of ms) valid) (valid_in ms pool (All-tail Valid m.entry (entries_of ms) valid))
 
-pub next_in : (history : List PoolEntry) (m : PoolEntry) → MayFollow history m → one.MayFollow (entries_in m.pool history) m.entry
+pub next_in : (history : List PoolEntry) (m : PoolEntry) → MayFollow history m → one.MayFollowInPool (entries_in m.pool history) m.entry
 next_in history m joins =
     let counts = subst (λ (es : List Entry). last_count es ≤ last_count (entries_of (reverse history))) (in_reverse m.pool history) (counts_in m.pool (reverse history)) in
     earlier_reply (last_count (entries_of (reverse history))) (last_count (reverse (entries_in m.pool history))) _ m.entry.reply counts joins
@@ -137,7 +137,7 @@ main_reverse (e ∷ es) =
     ∙ ap (λ (ms : List PoolEntry). ms ++ member_of main_pool e ∷ []) (main_reverse es)
     ∙ sym (reverse-append (member_of main_pool e ∷ []) (map (member_of main_pool) es))
 
-main_past : (es : List Entry) → one.IsLegalPast es → IsLegalPast (map (member_of main_pool) es)
+main_past : (es : List Entry) → one.IsLegalPoolPast es → IsLegalPast (map (member_of main_pool) es)
 main_past [] legal = tt
 main_past (e ∷ es) legal =
     let counted = subst (λ (xs : List Entry). IsReply (last_count xs) (answer (state es) e.caller e.act) e.reply) (sym (main_of es)) legal.0 in
@@ -146,7 +146,7 @@ main_past (e ∷ es) legal =
 pub main_law : MainLaw
 main_law = record {
   legal = λ es. (
-    λ legal. subst one.IsLegal (main_in es) (legal_in (map (member_of main_pool) es) main_pool legal),
+    λ legal. subst one.IsLegalPool (main_in es) (legal_in (map (member_of main_pool) es) main_pool legal),
     λ legal. subst IsLegalPast (main_reverse es) (main_past (reverse es) legal),
   );
   same = main_in;
@@ -157,4 +157,4 @@ main_law = record {
 pub pool_owned_law : OwnedLaw
 pool_owned_law history pool before later close caller legal parts is others =
     subst (λ (es : List Entry). StaysOwned caller close (state_of (before ++ close ∷ [])) (state_of es)) (sym parts)
-    (owned_law before later close caller (subst one.IsLegal parts (legal_in history pool legal)) is others)
+    (owned_law before later close caller (subst one.IsLegalPool parts (legal_in history pool legal)) is others)

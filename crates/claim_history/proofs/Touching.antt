@@ -18,7 +18,7 @@ use Rattle.claim_history.specs.declared.entry.Entry.{Entry}
 use Rattle.claim_history.specs.declared.fact.Limits.{Limits}
 use Rattle.claim_history.specs.Facts.{Filing, Ledger, filings, filing_of, is_registered, account_fact, position_of, owed_of, receivable, payable, part_of, gained_by, spent_by, gained, spent, discharged_to, discharged_by, balance_of, limits_by, limits_of, offered_by, offer_of, first_or}
 use Rattle.claim_history.specs.States.{State, after, open_as, state, with_act}
-use Rattle.claim_history.specs.History.{IsLegalPast}
+use Rattle.claim_history.specs.History.{IsLegalPoolPast}
 use Rattle.claim_history.specs.Touched.{is_debtor_of, is_side_of, is_of_firm, touches, touches_by, Stays, TouchLaw}
 use Rattle.claim_history.proofs.Pasts.{all_reverse}
 use Rattle.claim_history.proofs.Rows.{key_is, key_other}
@@ -244,7 +244,7 @@ stays_after s caller a r last firm distinct keeps e = stays_with s.ledger a last
 
 -- ---- more entries
 
-stays_past : (last : Ledger) (firm : List ℕ) (more past : List Entry) → IsLegalPast (more ++ past) → Keeps (state (more ++ past)).ledger last → All (λ e. touches last firm e ≡ false) more → Stays (state past).ledger (state (more ++ past)).ledger firm
+stays_past : (last : Ledger) (firm : List ℕ) (more past : List Entry) → IsLegalPoolPast (more ++ past) → Keeps (state (more ++ past)).ledger last → All (λ e. touches last firm e ≡ false) more → Stays (state past).ledger (state (more ++ past)).ledger firm
 stays_past last firm [] past legal keeps none = unchanged (state past).ledger firm
 stays_past last firm (e ∷ more) past legal keeps none =
     let before = state (more ++ past) in
@@ -258,5 +258,5 @@ touch_law history later firm legal none =
     let last = (state (reverse (history ++ later))).ledger in
     let parts = reverse-append history later in
     subst (λ (past : List Entry). Stays (state (reverse history)).ledger (state past).ledger firm) (sym parts)
-    (stays_past last firm (reverse later) (reverse history) (subst IsLegalPast parts legal) (subst (λ (past : List Entry). Keeps (state past).ledger last) parts (λ k f found. found))
+    (stays_past last firm (reverse later) (reverse history) (subst IsLegalPoolPast parts legal) (subst (λ (past : List Entry). Keeps (state past).ledger last) parts (λ k f found. found))
     (all_reverse (λ e. touches last firm e ≡ false) later none))

@@ -1,6 +1,7 @@
 -- What the acts of all pools take of the two limits, entries and the bytes of a journal, and the room that is kept for both endings
 -- of each open round. A past is a list of members, newest first. The history in order of time is its reverse.
-use Rattle.std.specs.Prelude.{◌≡◌, ℕ, ◌+◌, ◌*◌, ◌≤◌, nat_lt, Bool, true, false, not, ◌&&◌, ◌||◌, if◌then◌else◌, List, All, [], ◌∷◌, ◌++◌, length, reverse, count_by, Option, None, Some, ◌↔◌}
+use Rattle.std.specs.Prelude.{◌≡◌, ℕ, ◌+◌, ◌*◌, ◌≤◌, nat_lt, Bool, true, false, not, ◌&&◌, ◌||◌, if◌then◌else◌}
+use Rattle.std.specs.Prelude.{List, All, [], ◌∷◌, ◌++◌, length, reverse, count_by, Option, None, Some, ◌↔◌}
 use Rattle.std.specs.List.{sum_by, list_any}
 use Rattle.setoff_model.specs.declared.limits.TheConstants.{MOST_ENTRIES, MOST_JOURNAL_BYTES}
 use Rattle.setoff_model.specs.CutView.{OutcomeView}
@@ -13,7 +14,8 @@ use Rattle.claim_history.specs.declared.call.PoolEntry.{PoolEntry}
 use Rattle.claim_history.specs.States.{OpenRound, state}
 use Rattle.claim_history.specs.History.{is_accepted, is_no_refusal}
 use Rattle.claim_history.specs.Needs.{record_length_of, endings_entries, endings_bytes, is_counted, open_after}
-use Rattle.claim_history.specs.Pools.{IsLegal, accepted_calls, call_of, due_member, due_of_past, due_reply, entries_in, entries_of, is_main, open_round_in, replay_of, state_in}
+use Rattle.claim_history.specs.Pools.{IsLegal, accepted_calls, call_of, due_member, due_of_past, due_reply}
+use Rattle.claim_history.specs.Pools.{entries_in, entries_of, is_main, open_round_in, replay_of, state_in}
 
 -- ---- what a history uses
 

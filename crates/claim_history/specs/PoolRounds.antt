@@ -1,5 +1,6 @@
 -- The rounds of all pools: the cut of each, which of them a history leaves open, and what calls bound.
-use Rattle.std.specs.Prelude.{◌≡◌, ◌≤◌, ◌+◌, ◌==◌, ℕ, Bool, false, List, [], ◌∷◌, ◌++◌, count_by, drop, filter, length, map, reverse, take, Option, Some, None}
+use Rattle.std.specs.Prelude.{◌≡◌, ◌≤◌, ◌+◌, ◌==◌, ℕ, Bool, false, List, [], ◌∷◌, ◌++◌, count_by}
+use Rattle.std.specs.Prelude.{drop, filter, length, map, reverse, take, Option, Some, None}
 use Rattle.std.specs.List.{slice_get}
 use Rattle.setoff_model.specs.declared.kind.Kind.{Kind}
 use Rattle.setoff_model.specs.CutView.{CutView}
@@ -18,7 +19,7 @@ use Rattle.claim_history.specs.Rounds.{cut_published, open_cut_of}
 
 -- the cut of the round of this number of a pool
 abbrev pub IsRoundCut : List PoolEntry → List ℕ → ℕ → CutView → Type 0
-IsRoundCut history pool number cut = one.IsRoundCut (entries_in pool history) number cut
+IsRoundCut history pool number cut = one.IsPoolRoundCut (entries_in pool history) number cut
 
 -- the cut of the round that is open in a pool
 abbrev pub open_cut_in : List PoolEntry → List ℕ → Option CutView

@@ -113,4 +113,4 @@ MayFollow history m = IsReply (last_count (entries_of (reverse history))) (due_r
 
 -- each field of each act is in its range
 abbrev pub AreValid : List PoolEntry → Type 0
-AreValid history = one.AreValid (entries_of history)
+AreValid history = one.AreValidEntries (entries_of history)

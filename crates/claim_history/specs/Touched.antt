@@ -9,7 +9,7 @@ use Rattle.claim_history.specs.declared.entry.Reply.TheVariants as reply
 use Rattle.claim_history.specs.declared.entry.Entry.{Entry}
 use Rattle.claim_history.specs.Facts.{Filing, Ledger, filing_of, is_registered, account_fact, position_of}
 use Rattle.claim_history.specs.States.{state_of}
-use Rattle.claim_history.specs.History.{IsLegal}
+use Rattle.claim_history.specs.History.{IsLegalPool}
 
 -- the firm is the debtor of a filed claim
 abbrev pub is_debtor_of : List ℕ → Option Filing → Bool
@@ -54,6 +54,6 @@ pub record Stays (before later : Ledger) (firm : List ℕ) : Type 0 where
 
 -- a firm that no later entry touches stays as it is; claims are those of the longer history
 abbrev pub TouchLaw : Type 0
-TouchLaw = (history later : List Entry) (firm : List ℕ) → IsLegal (history ++ later)
+TouchLaw = (history later : List Entry) (firm : List ℕ) → IsLegalPool (history ++ later)
     → All (λ e. touches (state_of (history ++ later)).ledger firm e ≡ false) later
     → Stays (state_of history).ledger (state_of (history ++ later)).ledger firm

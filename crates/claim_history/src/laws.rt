@@ -1,7 +1,9 @@
 //! What holds of every legal history, of the entries of one pool or of all. Each of these calls does nothing.
-ghost use Rattle.claim_history.specs.Laws.{ActsLaw, CutLaw, OneCutLaw, OpenLaw, NoneOpenLaw, LimitsLaw, FormulasLaw, SizesLaw, RepliesLaw, FrozenLaw, PublicationLaw, GreatestLaw, OpeningsLaw};
+ghost use Rattle.claim_history.specs.Laws.{ActsLaw, CutLaw, OneCutLaw, OpenLaw, NoneOpenLaw, LimitsLaw, FormulasLaw};
+ghost use Rattle.claim_history.specs.Laws.{SizesLaw, RepliesLaw, FrozenLaw, PublicationLaw, GreatestLaw, OpeningsLaw};
 ghost use Rattle.claim_history.specs.PoolLaws.{PoolsLaw, JoinLaw, ReplayLaw, MainLaw, OwnedLaw};
-ghost use Rattle.claim_history.specs.PoolNeeds.{RoomLaw, EndingsLaw, RecordsLaw, UseLaw, CallsLaw, ReserveLaw, NeedsLaw, FullLaw, UseBoundLaw};
+ghost use Rattle.claim_history.specs.PoolNeeds.{RoomLaw, EndingsLaw, RecordsLaw, UseLaw, CallsLaw};
+ghost use Rattle.claim_history.specs.PoolNeeds.{ReserveLaw, NeedsLaw, FullLaw, UseBoundLaw};
 ghost use Rattle.claim_history.specs.PoolRounds.{CutsLaw, CutBoundLaw, EndedLaw};
 ghost use Rattle.claim_history.specs.Register.{FullRegister};
 ghost use Rattle.claim_history.specs.Touched.{TouchLaw};

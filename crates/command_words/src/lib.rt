@@ -1,9 +1,9 @@
 //! The words of the program's command line.
 //!
 //! A command is a first word and the values that it takes: `run`, `live`, `check`, `explain`, `audit`, `positions`,
-//! `notices DATE`, `weigh KIND DATE`, `history`, `statement ROUND`, `pools`, `since ACTS`, `seal`, `seal ACTS`, `account FIRM`, `parts ROUND`,
-//! `forecast KIND DATE`, `import LANE` or `trial FIRMS CLAIMS SEED`; behind those of a pool its name may stand: `positions POOL`. The words
-//! are exactly such a list, or are refused.
+//! `notices DATE`, `weigh KIND DATE`, `history`, `statement ROUND`, `pools`, `since ACTS`, `seal`, `seal ACTS`, `account FIRM`,
+//! `parts ROUND`, `forecast KIND DATE`, `import LANE` or `trial FIRMS CLAIMS SEED`; behind those of a pool its name may stand:
+//! `positions POOL`. The words are exactly such a list, or are refused.
 //!
 //! - A word that begins with `-` is refused before the parse.
 //! - `clap` decides which command the first word names, and how many values there are. It has no `help` here, and no

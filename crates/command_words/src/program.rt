@@ -69,8 +69,10 @@ fn add<'a>(
     values: &[(&'a str, bool)],
 ) -> Result<(), AllocError>
     requires { vec_len commands.old < vec_capacity commands.old }
-    ensures shapes { OnOk result (map (λ c. made c) commands.new.items ≡ map (λ c. made c) commands.old.items ++ shape_of name.entry.now (map (λ v. value_of v.0.now v.1) values.now) ∷ []) }
-    ensures local { All (λ c. (out-Command c).has_globals ≡ false) commands.old.items → OnOk result (All (λ c. (out-Command c).has_globals ≡ false) commands.new.items) }
+    ensures shapes { OnOk result (map (λ c. made c) commands.new.items
+        ≡ map (λ c. made c) commands.old.items ++ shape_of name.entry.now (map (λ v. value_of v.0.now v.1) values.now) ∷ []) }
+    ensures local { All (λ c. (out-Command c).has_globals ≡ false) commands.old.items
+        → OnOk result (All (λ c. (out-Command c).has_globals ≡ false) commands.new.items) }
     ensures len { OnOk result (vec_len commands.new ≡ vec_len commands.old + 1) }
     ensures capacity { vec_capacity commands.new ≡ vec_capacity commands.old }
 {

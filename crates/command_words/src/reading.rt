@@ -1,5 +1,6 @@
 //! The words, as a command.
-ghost use Rattle.std.specs.Prelude.{◌≡◌, ◌≤◌, ℕ, List, Option, codes, [], map, string_bytes, decimal, IfOk, IfErr, IfSome, IfNone, Some, true};
+ghost use Rattle.std.specs.Prelude.{◌≡◌, ◌≤◌, ℕ, List, Option, codes, [], map, string_bytes};
+ghost use Rattle.std.specs.Prelude.{decimal, IfOk, IfErr, IfSome, IfNone, Some, true};
 ghost use Rattle.std.specs.List.{list_any};
 ghost use Rattle.setoff_model.specs.declared.limits.TheConstants.{LAST_DAY, MOST_ENTRIES};
 ghost use Rattle.setoff_model.specs.Texts.{kind_text};

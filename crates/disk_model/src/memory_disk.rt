@@ -1,5 +1,6 @@
 //! A disk in memory that keeps what each call did, so that a crash at each past moment can be shown.
-ghost use Rattle.std.specs.Prelude.{◌≡◌, ◌+◌, ◌^◌, ◌≤◌, ◌<◌, ℕ, List, [], ◌∷◌, ◌++◌, length, take, drop, true, Option, None, Some, IfOk, IsErr, OnOk, OnErr};
+ghost use Rattle.std.specs.Prelude.{◌≡◌, ◌+◌, ◌^◌, ◌≤◌, ◌<◌, ℕ, List, [], ◌∷◌, ◌++◌, length, take};
+ghost use Rattle.std.specs.Prelude.{drop, true, Option, None, Some, IfOk, IsErr, OnOk, OnErr};
 ghost use Rattle.disk_model.specs.Calls.{Holds, Torn, After, Only, Passes, IsPresent};
 ghost use Rattle.fault_count.specs.Counts.{IsCounted, HasRisen};
 ghost use Rattle.disk_model.specs.Steps.{reads_after, all_within};
@@ -71,7 +72,7 @@ impl MemoryDisk {
         self.steps.len() as u64
     }
 
-    /// How many calls failed for want of memory. The count stops at the last `u64`.
+    /// How many calls failed because memory ran out. The count stops at the last `u64`.
     pub fn refused(&self) -> u64
         ensures { result ≡ (memory_state self.now).refused }
     {
@@ -81,7 +82,7 @@ impl MemoryDisk {
     /// One of the images of a moment that has been. Its candidates are the writes that had begun by then, after
     /// the last sync that had succeeded by then, without those that failed. The one of place i, from 0, stands in
     /// the image exactly where i is below 64 and bit i of `pick` is 1. The image is as long as with all
-    /// candidates, and bytes past the old end that no standing one gave are 0. The error is want of memory.
+    /// candidates, and bytes past the old end that no standing one gave are 0. The error is running out of memory.
     pub fn image(&self, alloc: Global, moment: u64, pick: u64) -> Result<Vec<u8>, AllocError>
         requires { moment ≤ (seen_of self.now).moment }
         ensures { IfOk result (λ image. (seen_of self.now).image moment image.items) }

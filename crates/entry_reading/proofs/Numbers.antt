@@ -20,7 +20,7 @@ use Rattle.batch_runs.specs.claim_history.specs.declared.entry.Why.TheVariants a
 use Rattle.batch_runs.specs.claim_history.specs.Facts.{Ledger, position_of}
 use Rattle.batch_runs.specs.claim_history.specs.Needs.{is_counted, is_of_device}
 use Rattle.batch_runs.specs.claim_history.specs.States.{OpenRound, State, after, number_of, state}
-use Rattle.batch_runs.specs.claim_history.specs.History.{IsLegalPast, IsReply, Refusals, abandon_answer, abandon_refusals, answer, close_answer, close_refusals, confirm_refusals, dispute_refusals, draw_refusals, failed, file_refusals, firm_refusals, fund_refusals, is_opening, limit_refusals, offer_refusals, position_refusals, publish_answer, publish_refusals, receive_refusals, refused_or, replied, withdraw_refusals}
+use Rattle.batch_runs.specs.claim_history.specs.History.{IsLegalPoolPast, IsReply, Refusals, abandon_answer, abandon_refusals, answer, close_answer, close_refusals, confirm_refusals, dispute_refusals, draw_refusals, failed, file_refusals, firm_refusals, fund_refusals, is_opening, limit_refusals, offer_refusals, position_refusals, publish_answer, publish_refusals, receive_refusals, refused_or, replied, withdraw_refusals}
 use Rattle.batch_runs.specs.claim_history.specs.Pools.{IsLegal, entries_in, entries_of, is_in}
 use Rattle.batch_runs.specs.claim_history.specs.PoolNeeds.{IsWithinLimits, used_entries}
 use Rattle.batch_runs.specs.claim_history.proofs.Agreement.{reply_counts}
@@ -141,12 +141,12 @@ numbered_step s caller (act.Abandon) low = abandon_numbered s.ledger s.openings 
 numbered_step s caller (act.Publish number outcome) low = publish_numbered s.ledger s.openings s.open_round caller number outcome low
 numbered_step s caller a low = answer_leaves IsNumbered s caller a refl low low
 
-past_numbered : (past : List Entry) → IsLegalPast past → IsNumbered (state past)
+past_numbered : (past : List Entry) → IsLegalPoolPast past → IsNumbered (state past)
 past_numbered past legal = every_past IsNumbered (omega arith) numbered_step past legal
 
 -- ---- so it is of each reply of a past
 
-past_low : (past : List Entry) → IsLegalPast past → All (λ (e : Entry). IsLow ((state past).openings + 1) e.reply) past
+past_low : (past : List Entry) → IsLegalPoolPast past → All (λ (e : Entry). IsLow ((state past).openings + 1) e.reply) past
 past_low [] legal = All-nil (λ (e : Entry). IsLow ((state []).openings + 1) e.reply)
 past_low (e ∷ past) legal =
     let was = state past in
@@ -168,18 +168,18 @@ one_counted true true h = absurd (true≢false (h refl))
 one_counted true false h = omega arith
 one_counted false device h = omega arith
 
-openings_few : (pool : List ℕ) (past : List PoolEntry) → IsLegalPast (entries_in pool past) → (state (entries_in pool past)).openings ≤ used_entries past
+openings_few : (pool : List ℕ) (past : List PoolEntry) → IsLegalPoolPast (entries_in pool past) → (state (entries_in pool past)).openings ≤ used_entries past
 openings_few pool [] legal = omega arith
 openings_few pool (m ∷ past) legal = ⊎_elim
     (λ mine.
     let parts = past_own pool m past mine in
-    let here = subst IsLegalPast parts legal in
+    let here = subst IsLegalPoolPast parts legal in
     let s = state (entries_in pool past) in
     let grown : (state (m.entry ∷ entries_in pool past)).openings ≡ (if is_opening m.entry.reply then 1 else 0) + s.openings = reply_counts s _ m.entry.caller m.entry.act m.entry.reply here.0 in
     omega (arith, ap (λ (es : List Entry). (state es).openings) parts, grown, openings_few pool past here.1, one_counted (is_opening m.entry.reply) (is_of_device m.entry.reply) (opening_counted m.entry.reply), more))
     (λ other.
     let parts = past_other pool m past other in
-    omega (arith, ap (λ (es : List Entry). (state es).openings) parts, openings_few pool past (subst IsLegalPast parts legal), more))
+    omega (arith, ap (λ (es : List Entry). (state es).openings) parts, openings_few pool past (subst IsLegalPoolPast parts legal), more))
     (cases_Bool (is_in pool m)) where
       more : used_entries (m ∷ past) ≡ cond (is_counted m.entry) 1 0 + used_entries past
       more = sum_by-cons (λ (e : Entry). cond (is_counted e) 1 0) m.entry (entries_of past)

@@ -91,7 +91,7 @@ module _ (before later : List PoolEntry) (m : PoolEntry) (legal : IsLegal (befor
   pool_legal =
       let parts : entries_in m.pool (before ++ m ∷ later) ≡ entries_in m.pool before ++ m.entry ∷ entries_in m.pool later =
       in_append m.pool before (m ∷ later) ∙ ap (λ (es : List Entry). entries_in m.pool before ++ es) (past_own m.pool m later (name_same m.pool)) in
-      (legal_first (entries_in m.pool before) (entries_in m.pool later) m.entry (subst one.IsLegal parts (legal_in (before ++ m ∷ later) m.pool legal))).0
+      (legal_first (entries_in m.pool before) (entries_in m.pool later) m.entry (subst one.IsLegalPool parts (legal_in (before ++ m ∷ later) m.pool legal))).0
 
 -- an accepted publication is replied with its total
 total_of_act : (s : State) (counted caller : ℕ) (a : Act) (r : Reply) → IsReply counted (answer s caller a) r → is_publication a ≡ true → is_no_refusal r ≡ true → (total : ℕ) × (r ≡ reply.Published total)

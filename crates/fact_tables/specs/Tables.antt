@@ -1,5 +1,6 @@
 -- The tables of claims and accounts, and how an entry changes them.
-use Rattle.std.specs.Prelude.{◌≡◌, ℕ, Bool, length, ◌-◌, ◌≤◌, count_by, All, ◌∷◌, ◌++◌, [], List, map, Option, None, pos, ◌+ℤ◌, ◌-ℤ◌, if◌then◌else◌}
+use Rattle.std.specs.Prelude.{◌≡◌, ℕ, Bool, length, ◌-◌, ◌≤◌, count_by, All, ◌∷◌, ◌++◌, []}
+use Rattle.std.specs.Prelude.{List, map, Option, None, pos, ◌+ℤ◌, ◌-ℤ◌, if◌then◌else◌}
 use Rattle.setoff_model.specs.declared.name.Key.{Key}
 use Rattle.setoff_model.specs.declared.limits.TheConstants.{FIRST_CEILING}
 use Rattle.setoff_model.specs.Same.{same_name, same_key}
@@ -72,7 +73,8 @@ accounts_with e accounts = if is_accepted e then accounts_after e.act accounts e
 
 -- a claim that was just filed
 abbrev pub new_claim : Key → List ℕ → ℕ → ℕ → ClaimFact
-new_claim key debtor amount due = record { key = key; debtor = debtor; status = status.Filed; amount = amount; left = amount; part = 0; due = due }
+new_claim key debtor amount due =
+    record { key = key; debtor = debtor; status = status.Filed; amount = amount; left = amount; part = 0; due = due }
 
 -- what is open of the amount that is agreed to, or of all where none is named: what was paid counts against it first; 0 in another
 -- status

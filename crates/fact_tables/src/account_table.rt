@@ -1,5 +1,6 @@
 //! The accounts of a book.
-ghost use Rattle.std.specs.Prelude.{◌≡◌, ◌+◌, ◌*◌, ◌<◌, ◌≤◌, ◌++◌, ◌∷◌, [], ◌||◌, Bool, find, map, length, position, vec_len, vec_capacity, true, false, OnOk, OnErr};
+ghost use Rattle.std.specs.Prelude.{◌≡◌, ◌+◌, ◌*◌, ◌<◌, ◌≤◌, ◌++◌, ◌∷◌, [], ◌||◌, Bool, find, map};
+ghost use Rattle.std.specs.Prelude.{length, position, vec_len, vec_capacity, true, false, OnOk, OnErr};
 ghost use Rattle.std.specs.List.{list_any};
 ghost use Rattle.setoff_model.specs.declared.limits.TheConstants.{SUM_LIMIT};
 ghost use Rattle.setoff_model.specs.Setoff.{total_of};
@@ -9,7 +10,8 @@ ghost use Rattle.claim_history.specs.Acts.{is_valid};
 ghost use Rattle.fact_tables.specs.Settling.{settled_account};
 ghost use Rattle.claim_history.specs.declared.fact.AccountFact.{AccountFact};
 ghost use Rattle.fact_tables.specs.Marks.{accounts_in, no_marks, account_marks_with, mark_at};
-ghost use Rattle.fact_tables.specs.Tables.{new_account, funded, drawn, limited, offered, accounts_after, accounts_with, RegistersNone, FirmsOnce, AreSmall, AreWithin, AreAccounts};
+ghost use Rattle.fact_tables.specs.Tables.{new_account, funded, drawn, limited, offered, accounts_after, accounts_with};
+ghost use Rattle.fact_tables.specs.Tables.{RegistersNone, FirmsOnce, AreSmall, AreWithin, AreAccounts};
 
 use crate::guesses::Guesses;
 use claim_history::{AccountFact, Act, Entry, accepted};

@@ -1,5 +1,6 @@
 //! The claims of a book.
-ghost use Rattle.std.specs.Prelude.{Bool, ◌≡◌, ◌+◌, ◌<◌, ◌≤◌, ◌^◌, ◌++◌, ◌∷◌, [], false, ◌||◌, sum, sum_by, filter, find, position, map, set, length, get_or, OnOk, OnErr};
+ghost use Rattle.std.specs.Prelude.{Bool, ◌≡◌, ◌+◌, ◌<◌, ◌≤◌, ◌^◌, ◌++◌, ◌∷◌, [], false, ◌||◌, sum, sum_by};
+ghost use Rattle.std.specs.Prelude.{filter, find, position, map, set, length, get_or, OnOk, OnErr};
 ghost use Rattle.setoff_model.specs.CutView.{WellFormed};
 ghost use Rattle.setoff_model.specs.Same.{same_name, same_key};
 ghost use Rattle.fact_tables.specs.Settling.{settled_claim};

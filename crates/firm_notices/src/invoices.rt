@@ -4,7 +4,8 @@ ghost use Rattle.claim_book.specs.claim_history.specs.declared.act.Act.{Act};
 ghost use Rattle.request_text.specs.Lanes.{IsLane};
 ghost use Rattle.csv.specs.Records.{fields_of};
 ghost use Rattle.firm_notices.specs.Rows.{StandsAt};
-ghost use Rattle.firm_notices.specs.Invoices.{invoice_names, IsInvoiceText, IsFirstBadRow, OnBadRow, HasCause, import_text, IsFiled, OneReadingLaw, FiledLaw};
+ghost use Rattle.firm_notices.specs.Invoices.{invoice_names, IsInvoiceText, IsFirstBadRow, OnBadRow};
+ghost use Rattle.firm_notices.specs.Invoices.{HasCause, import_text, IsFiled, OneReadingLaw, FiledLaw};
 
 use crate::error::{ImportError, RowCause};
 use crate::invoice::{has_names, invoice_of};
@@ -21,7 +22,7 @@ use std::alloc::Global;
 /// The first row has the names `creditor,invoice,debtor,amount,due`, and every other row these fields of an invoice. A
 /// byte order mark at the start, quoted fields, and rows that end with a carriage return and a line feed are read as
 /// spreadsheets write them. `BadRow` tells the first row that is not as it has to be, and its first cause; the other error is
-/// want of memory. The lane is 1 to 16.
+/// running out of memory. The lane is 1 to 16.
 pub fn import(alloc: Global, input: &[u8], lane: u32) -> Result<Vec<u8>, ImportError>
     requires { IsLane lane }
     ensures read { IfOk result (λ text. (filings : List Act) × IsInvoiceText input.now filings × (text.items ≡ import_text lane filings)) }

@@ -7,7 +7,7 @@ use netting_graph::{Arc, Net};
 use residual_state::{Edge, State, state_at_start};
 use std::alloc::{AllocError, Global};
 
-/// The state at the beginning of a search on a net, where a cent counts 1 on each arc. The one error is want of memory.
+/// The state at the beginning of a search on a net, where a cent counts 1 on each arc. The only error is running out of memory.
 pub fn state_of_net(alloc: Global, net: &Net) -> Result<State, AllocError>
     ensures { IfOk result (IsStateOf (unweighed net.now)) }
 {

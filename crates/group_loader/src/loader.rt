@@ -1,5 +1,6 @@
 //! A load.
-ghost use Rattle.std.specs.Prelude.{◌≡◌, ◌+◌, ◌<◌, ◌≤◌, ◌++◌, ◌∷◌, [], length, true, false, All, IsTrue, IfOk, IfErr, OnOk, OnErr, vec_capacity};
+ghost use Rattle.std.specs.Prelude.{◌≡◌, ◌+◌, ◌<◌, ◌≤◌, ◌++◌, ◌∷◌, [], length, true, false};
+ghost use Rattle.std.specs.Prelude.{All, IsTrue, IfOk, IfErr, OnOk, OnErr, vec_capacity};
 ghost use Rattle.claim_history.specs.Acts.{is_valid, is_publication, is_close};
 ghost use Rattle.claim_history.specs.History.{is_no_refusal};
 ghost use Rattle.claim_history.specs.Pools.{AreValid, IsLegal, accepted_calls, answered, call_of, due_reply, state_in};

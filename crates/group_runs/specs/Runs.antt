@@ -1,5 +1,6 @@
 -- The groups of a load, and how it ended.
-use Rattle.std.specs.Prelude.{◌≡◌, ◌≤◌, ◌||◌, ℕ, zero, suc, Bool, true, List, [], ◌∷◌, ◌++◌, Option, All, length, map, take, drop, flat_map, if◌then◌else◌, IsTrue}
+use Rattle.std.specs.Prelude.{◌≡◌, ◌≤◌, ◌||◌, ℕ, zero, suc, Bool, true, List, [], ◌∷◌, ◌++◌, Option}
+use Rattle.std.specs.Prelude.{All, length, map, take, drop, flat_map, if◌then◌else◌, IsTrue}
 use Rattle.std.specs.Io.KnownBytes.{Appends}
 use Rattle.std.specs.List.{list_any}
 use Rattle.bureau_edge.specs.Streams.{AppendsPart}
@@ -28,7 +29,8 @@ use Rattle.group_runs.specs.declared.load_break.LoadBreak.TheVariants as breaks
 use Rattle.group_loader.specs.Loading.{GoesOnBy, HasKept, HasStopped, LoadView}
 use Rattle.group_runs.specs.declared.limits.TheConstants.{GROUP_LINES}
 use Rattle.group_runs.specs.declared.tally.Tally.{Tally}
-use Rattle.group_runs.specs.Lines.{AreEndsDue, CanBeLoaded, GroupsAreDue, IsEndDue, answers_of_lines, end_adds, group_calls, groups_add, groups_text, lines_add, requests_of_lines}
+use Rattle.group_runs.specs.Lines.{AreEndsDue, CanBeLoaded, GroupsAreDue, IsEndDue, answers_of_lines, end_adds}
+use Rattle.group_runs.specs.Lines.{group_calls, groups_add, groups_text, lines_add, requests_of_lines}
 
 -- ---- groups
 
@@ -154,7 +156,8 @@ IsBreakCounted before now (breaks.Disk stopped) = now ≡ before
 
 -- Calls were kept in groups behind those that were kept before, and then perhaps a group was tried, at which the disk failed: time went
 -- on, and the groups have their moments.
-pub record IsKeptBy {D : Type 0} (seen : D → Seen) (old new : D) (kept : List Call) (groups : List (List Call)) (tried : List Call) : Type 0 where
+pub record IsKeptBy {D : Type 0} (seen : D → Seen) (old new : D) (kept : List Call)
+    (groups : List (List Call)) (tried : List Call) : Type 0 where
   pub tells : (seen new).tells ≡ (seen old).tells
   pub goes : IsTrue (seen old).tells → GoesOn (seen old) (seen new)
   pub grows : IsTrue (seen old).tells → GoesOnBy (seen old) (seen new) kept (λ before. before ++ groups) tried
@@ -202,7 +205,8 @@ pub record HaveNotKept {D : Type 0} (seen : D → Seen) (old : LoadView D) (stop
   pub risen : HasRisen stopped.device.before stopped.device.after
 
 -- why a load ended at the last of some groups
-abbrev pub HaveBroken : {D : Type 0} → (D → Seen) → LoadView D → List (List Request) → Option (List ℕ) → Option (List ℕ) → LoadBreak D → Type 0
+abbrev pub HaveBroken : {D : Type 0} → (D → Seen) → LoadView D → List (List Request) → Option (List ℕ) → Option (List ℕ)
+    → LoadBreak D → Type 0
 HaveBroken seen old requests held_old held_new (breaks.Sink disk) = HaveNotTold seen old disk requests held_old held_new
 HaveBroken seen old requests held_old held_new (breaks.Disk stopped) = HaveNotKept seen old stopped requests held_old held_new
 

@@ -3,7 +3,8 @@ ghost use Rattle.std.specs.Prelude.{◌≡◌, ◌≤◌, [], All, length, vec_c
 ghost use Rattle.printed_text.specs.setoff_model.specs.declared.limits.TheConstants.{OUTPUT_BYTES};
 ghost use Rattle.group_runs.specs.declared.limits.TheConstants.{GROUP_LINES};
 ghost use Rattle.group_runs.specs.Lines.{CanBeLoaded};
-ghost use Rattle.group_runs.specs.Runs.{CanAllBeLoaded, HasBroken, HasBrokenAt, HasLoaded, HasServed, HaveServed, IsAllKept, IsBreakCounted, IsEmptied, cut_batch, groups_of};
+ghost use Rattle.group_runs.specs.Runs.{CanAllBeLoaded, HasBroken, HasBrokenAt, HasLoaded, HasServed, HaveServed};
+ghost use Rattle.group_runs.specs.Runs.{IsAllKept, IsBreakCounted, IsEmptied, cut_batch, groups_of};
 
 use crate::answering::answer_lines;
 use crate::limits::GROUP_LINES;
@@ -83,7 +84,8 @@ fn serve_batch<K: Sink, D: Disk>(
     // What was kept and told.
     ensures served { IfOk result (λ l. HaveServed D.seen loader l (cut_batch (length requests.now) requests.now) tally.old tally.new
         (K.held sink.old) (K.held sink.new)) }
-    ensures broken { IfErr result (HasBroken D.seen loader (cut_batch (length requests.now) requests.now) (K.held sink.old) (K.held sink.new)) }
+    ensures broken { IfErr result (HasBroken D.seen loader (cut_batch (length requests.now) requests.now)
+        (K.held sink.old) (K.held sink.new)) }
     ensures counted { IfErr result (IsBreakCounted (K.faults sink.old) (K.faults sink.new)) }
     ensures quiet { OnOk result (K.faults sink.new ≡ K.faults sink.old) }
 

@@ -93,7 +93,7 @@ same_number : (a b : ℕ) (x y : OutcomeView) → act.Publish a x ≡ act.Publis
 same_number a b x y e = cc e
 
 -- the round was open before it
-open_before : (before later : List Entry) (e : Entry) (round : ℕ) → one.IsLegal (before ++ e ∷ later) → publishes_round round e ≡ true
+open_before : (before later : List Entry) (e : Entry) (round : ℕ) → one.IsLegalPool (before ++ e ∷ later) → publishes_round round e ≡ true
     → (o : OpenRound) × ((state_of before).open_round ≡ Some o) × (o.cut.round ≡ round)
 open_before before later e round legal is =
     let p = publishes_so round e.act e.reply is in
@@ -110,7 +110,7 @@ ends_it round e is =
 pub publication_accepted : (round : ℕ) (e : Entry) → publishes_round round e ≡ true → is_accepted e ≡ true
 publication_accepted round e is = ap is_no_refusal (publishes_so round e.act e.reply is).told
 
-published_twice : (front mid later : List Entry) (first second : Entry) (round : ℕ) → one.IsLegal ((front ++ first ∷ mid) ++ second ∷ later)
+published_twice : (front mid later : List Entry) (first second : Entry) (round : ℕ) → one.IsLegalPool ((front ++ first ∷ mid) ++ second ∷ later)
     → publishes_round round first ≡ true → publishes_round round second ≡ true → ⊥
 published_twice front mid later first second round legal is again_ =
     let between = front ++ first ∷ mid in
@@ -122,7 +122,7 @@ published_twice front mid later first second round legal is again_ =
     let parts : between ≡ o.before ++ o.opening ∷ rest = ap (λ (l : List Entry). l ++ first ∷ mid) o.parts ∙ append_assoc o.before (o.opening ∷ o.later) (first ∷ mid) in
     let still : number_of (state_of (o.before ++ o.opening ∷ rest)).open_round ≡ was.0.cut.round =
     ap (λ (es : List Entry). number_of (state_of es).open_round) (sym parts) ∙ ap number_of now.1 ∙ now.2 ∙ sym was.2 in
-    let none : has_end rest ≡ false = (open_law o.before rest o.opening was.0.cut.round (subst one.IsLegal parts legal_between) o.opens).0 still in
+    let none : has_end rest ≡ false = (open_law o.before rest o.opening was.0.cut.round (subst one.IsLegalPool parts legal_between) o.opens).0 still in
     let some : has_end rest ≡ true =
     list_any-append ends_round o.later (first ∷ mid) ∙ or_right (has_end o.later) (has_end (first ∷ mid)) (or_left (ends_round first) (has_end mid) (ends_it round first is)) in
     true≢false (sym some ∙ none)
@@ -141,12 +141,12 @@ each_part : (P : Entry → Type 0) (xs : List Entry) → ((front later : List En
 each_part P [] h = All-nil P
 each_part P (x ∷ xs) h = All-cons P x xs (h [] xs x refl) (each_part P xs (λ front later y e. h (x ∷ front) later y (ap (λ (l : List Entry). x ∷ l) e)))
 
-module _ (front later : List Entry) (e : Entry) (round : ℕ) (legal : one.IsLegal (front ++ e ∷ later)) (is : publishes_round round e ≡ true) where
+module _ (front later : List Entry) (e : Entry) (round : ℕ) (legal : one.IsLegalPool (front ++ e ∷ later)) (is : publishes_round round e ≡ true) where
   place_is : position (publishes_round round) (front ++ e ∷ later) ≡ Some (length front)
   place_is =
       let none : All (λ y. publishes_round round y ≡ false) front =
       each_part (λ y. publishes_round round y ≡ false) front (λ f m y parts.
-      false_from_ne_true (publishes_round round y) (λ yes_. published_twice f m later y e round (subst (λ (l : List Entry). one.IsLegal (l ++ e ∷ later)) parts legal) yes_ is)) in
+      false_from_ne_true (publishes_round round y) (λ yes_. published_twice f m later y e round (subst (λ (l : List Entry). one.IsLegalPool (l ++ e ∷ later)) parts legal) yes_ is)) in
       let at : position_or_len (publishes_round round) (front ++ e ∷ later) ≡ length front = first_passes (publishes_round round) front later e none is in
       let within : length front < length (front ++ e ∷ later) = omega (arith, length-append front (e ∷ later)) in
       ap (λ (n : ℕ). cond (nat_lt n (length (front ++ e ∷ later))) (Some n) None) at
@@ -158,7 +158,7 @@ module _ (front later : List Entry) (e : Entry) (round : ℕ) (legal : one.IsLeg
       ∙ ap (λ (x : Entry). Some x) (get_or-append_seam front e later e)
 
 -- what is told of it is the statement of its publication
-module _ (round : ℕ) (pool : List ℕ) (history : List PoolEntry) (front later : List Entry) (e : Entry) (text : List ℕ) (parts : entries_in pool history ≡ front ++ e ∷ later) (legal : one.IsLegal (front ++ e ∷ later)) (is : publishes_round round e ≡ true) (told : IsRoundText round pool history text) where
+module _ (round : ℕ) (pool : List ℕ) (history : List PoolEntry) (front later : List Entry) (e : Entry) (text : List ℕ) (parts : entries_in pool history ≡ front ++ e ∷ later) (legal : one.IsLegalPool (front ++ e ∷ later)) (is : publishes_round round e ≡ true) (told : IsRoundText round pool history text) where
   found : publication_place round pool history ≡ Some (length front)
   found = ap (position (publishes_round round)) parts ∙ place_is front later e round legal is
 
@@ -186,7 +186,7 @@ one_statement before later m round text legal is told =
     let rest = entries_in m.pool later in
     let parts : entries_in m.pool (before ++ m ∷ later) ≡ front ++ m.entry ∷ rest =
     in_append m.pool before (m ∷ later) ∙ ap (λ (es : List Entry). front ++ es) (past_own m.pool m later (name_same m.pool)) in
-    told_is round m.pool (before ++ m ∷ later) front rest m.entry text parts (subst one.IsLegal parts (legal_in (before ++ m ∷ later) m.pool legal)) is told
+    told_is round m.pool (before ++ m ∷ later) front rest m.entry text parts (subst one.IsLegalPool parts (legal_in (before ++ m ∷ later) m.pool legal)) is told
 
 pub statement_law : StatementLaw
 statement_law = record {

@@ -22,7 +22,7 @@ told_legal (Some pool) history legal = (main_law.legal (entries_in pool history)
 
 pub told_valid : (pool : Option (List ℕ)) (history : List PoolEntry) → AreValid history → AreValid (told_members pool history)
 told_valid None history valid = valid
-told_valid (Some pool) history valid = subst one.AreValid (sym (own_entries (entries_in pool history))) (valid_in history pool valid)
+told_valid (Some pool) history valid = subst one.AreValidEntries (sym (own_entries (entries_in pool history))) (valid_in history pool valid)
 
 -- they are as many as the entries of the pool
 pub told_many : (pool : List ℕ) (history : List PoolEntry) → length (told_members (Some pool) history) ≡ length (entries_in pool history)

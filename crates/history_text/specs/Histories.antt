@@ -1,5 +1,6 @@
 -- What a history comes to as text: the entries of all pools or of one, and the statement of one round or its pages.
-use Rattle.std.specs.Prelude.{◌≡◌, ℕ, Bool, true, false, ◌==◌, List, [], ◌++◌, ◌≤◌, length, map, take, drop, position, slice_get, is_some, codes, decimal, Option, Some, None, if◌then◌else◌}
+use Rattle.std.specs.Prelude.{◌≡◌, ℕ, Bool, true, false, ◌==◌, List, [], ◌++◌, ◌≤◌, length, map, take, drop}
+use Rattle.std.specs.Prelude.{position, slice_get, is_some, codes, decimal, Option, Some, None, if◌then◌else◌}
 use Rattle.std.specs.Io.KnownBytes.{Appends}
 use Rattle.claim_history.specs.declared.act.Act.{Act}
 use Rattle.claim_history.specs.declared.act.Act.TheVariants as act

@@ -1,5 +1,6 @@
 -- The pages of a published round, one for each party: its window and price, its claims, and what is discharged towards and by it.
-use Rattle.std.specs.Prelude.{◌≡◌, ℕ, ◌+◌, ◌*◌, ◌==◌, ◌||◌, Bool, List, [], ◌∷◌, ◌++◌, length, All, codes, count_by, ℤ, Option, Some, if◌then◌else◌}
+use Rattle.std.specs.Prelude.{◌≡◌, ℕ, ◌+◌, ◌*◌, ◌==◌, ◌||◌, Bool, List, [], ◌∷◌, ◌++◌}
+use Rattle.std.specs.Prelude.{length, All, codes, count_by, ℤ, Option, Some, if◌then◌else◌}
 use Rattle.setoff_model.specs.declared.cut.Party.{Party}
 use Rattle.setoff_model.specs.declared.cut.CutClaim.{CutClaim}
 use Rattle.setoff_model.specs.CutView.{CutView, OutcomeView, WellFormed, obligations}

@@ -1,5 +1,6 @@
 //! The entries of a history, printed in order. They are replayed only where a round is published behind them.
-ghost use Rattle.std.specs.Prelude.{ℕ, ◌≡◌, ◌<◌, ◌≤◌, ◌++◌, ◌∷◌, [], true, is_some, Some, OnErr, OnOk, IfOk, length, slice_get, take, drop, vec_capacity};
+ghost use Rattle.std.specs.Prelude.{ℕ, ◌≡◌, ◌<◌, ◌≤◌, ◌++◌, ◌∷◌, [], true, is_some, Some, OnErr};
+ghost use Rattle.std.specs.Prelude.{OnOk, IfOk, length, slice_get, take, drop, vec_capacity};
 ghost use Rattle.setoff_model.specs.declared.limits.TheConstants.{OUTPUT_BYTES};
 ghost use Rattle.setoff_model.specs.CutView.{CutView};
 ghost use Rattle.bureau_edge.specs.Streams.{AppendsPart, CountsFaults};
@@ -14,7 +15,8 @@ ghost use Rattle.printed_text.specs.Printing.{IsPrintableAt, member_text, statem
 ghost use Rattle.printed_text.specs.Statuses.{TellsSinkFault};
 ghost use Rattle.printed_text.specs.Writing.{GoesThrough, Wrote};
 ghost use Rattle.history_text.specs.declared.told.Told.TheVariants as told;
-ghost use Rattle.history_text.specs.Histories.{AreFirst, HasPrinted, HasTold, HasToldOne, IsHistoryDue, IsToldDue, text_from, told_members, told_text};
+ghost use Rattle.history_text.specs.Histories.{AreFirst, HasPrinted, HasTold, HasToldOne, IsHistoryDue};
+ghost use Rattle.history_text.specs.Histories.{IsToldDue, text_from, told_members, told_text};
 
 use crate::replaying::{open_cut, replay_to};
 use crate::told::{Told, told_at, told_len};
@@ -41,7 +43,8 @@ fn print_one<K: Sink>(
     ensures ok { OnOk result (GoesThrough (K.held sink.old) (K.held sink.new) buffer.old.items buffer.new.items
         (entry_line (member_of pool.now entry.now) ++ statement_of (slice_get rounds.now 0) entry.now.act entry.now.reply)) }
     ensures part { OnErr result (AppendsPart (K.held sink.old) (K.held sink.new)
-        (buffer.old.items ++ (entry_line (member_of pool.now entry.now) ++ statement_of (slice_get rounds.now 0) entry.now.act entry.now.reply))) }
+        (buffer.old.items ++ (entry_line (member_of pool.now entry.now)
+        ++ statement_of (slice_get rounds.now 0) entry.now.act entry.now.reply))) }
     ensures cause { CountsFaults (K.faults sink.old) (K.faults sink.new) result }
     ensures room { OUTPUT_BYTES ≤ vec_capacity buffer.new }
 {

@@ -153,7 +153,8 @@ fn print_page<K: Sink>(
     ensures ok { (none : Party) → OnOk result (GoesThrough (K.held sink.old) (K.held sink.new) buffer.old.items buffer.new.items
         (page_text cut.now outcome.now.discharges place (slice_index_or cut.now.parties place none) (price_at outcome.now.prices place))) }
     ensures part { (none : Party) → OnErr result (AppendsPart (K.held sink.old) (K.held sink.new) (buffer.old.items
-        ++ page_text cut.now outcome.now.discharges place (slice_index_or cut.now.parties place none) (price_at outcome.now.prices place))) }
+        ++ page_text cut.now outcome.now.discharges place
+        (slice_index_or cut.now.parties place none) (price_at outcome.now.prices place))) }
     ensures cause { CountsFaults (K.faults sink.old) (K.faults sink.new) result }
     ensures room { OUTPUT_BYTES ≤ vec_capacity buffer.new }
 {

@@ -8,7 +8,8 @@ ghost use Rattle.printed_text.specs.declared.exit_status.ExitStatus.TheVariants 
 ghost use Rattle.printed_text.specs.Printing.{IsPrintableAt, statement_of};
 ghost use Rattle.printed_text.specs.Statuses.{TellsSinkFault};
 ghost use Rattle.printed_text.specs.Writing.{IsWritten, Wrote};
-ghost use Rattle.history_text.specs.Histories.{IsDoneWith, IsFormDue, IsRoundDue, no_round_text, publication_place, publishes_round, text_in_form, was_published};
+ghost use Rattle.history_text.specs.Histories.{IsDoneWith, IsFormDue, IsRoundDue, no_round_text};
+ghost use Rattle.history_text.specs.Histories.{publication_place, publishes_round, text_in_form, was_published};
 
 use crate::pages::tell_pages;
 use crate::replaying::{open_cut, replay_to};
@@ -58,8 +59,10 @@ fn print_stated<K: Sink>(
     requires spare { OUTPUT_BYTES ≤ vec_capacity buffer.old }
 
     // The text was taken, or the sink failed and took some first bytes of it.
-    ensures ok { OnOk result (Appends (K.held sink.old) (K.held sink.new) (statement_of (slice_get rounds.now 0) entry.now.act entry.now.reply)) }
-    ensures part { OnErr result (AppendsPart (K.held sink.old) (K.held sink.new) (statement_of (slice_get rounds.now 0) entry.now.act entry.now.reply)) }
+    ensures ok { OnOk result (Appends (K.held sink.old) (K.held sink.new)
+        (statement_of (slice_get rounds.now 0) entry.now.act entry.now.reply)) }
+    ensures part { OnErr result (AppendsPart (K.held sink.old) (K.held sink.new)
+        (statement_of (slice_get rounds.now 0) entry.now.act entry.now.reply)) }
     ensures cause { CountsFaults (K.faults sink.old) (K.faults sink.new) result }
 {
     print_publication(sink, buffer, entry, rounds, 0)?;

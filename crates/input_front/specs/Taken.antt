@@ -1,5 +1,6 @@
 -- What was taken of an input, and how far it was read.
-use Rattle.std.specs.Prelude.{◌≡◌, ◌+◌, ◌-◌, ◌<◌, ◌≤◌, ℕ, Bool, true, false, Option, Some, None, List, [], ◌∷◌, ◌++◌, length, take, drop, All, MatchBool}
+use Rattle.std.specs.Prelude.{◌≡◌, ◌+◌, ◌-◌, ◌<◌, ◌≤◌, ℕ, Bool, true, false, Option, Some}
+use Rattle.std.specs.Prelude.{None, List, [], ◌∷◌, ◌++◌, length, take, drop, All, MatchBool}
 use Rattle.input_front.specs.declared.intake.TheConstants.{PIECE}
 use Rattle.setoff_model.specs.declared.limits.TheConstants.{MOST_INPUT_BYTES}
 use Rattle.std.specs.Io.KnownBytes.{Consumes, IsAtEnd, Keeps}
@@ -141,7 +142,8 @@ abbrev pub HasCome : {S : Type 0} → (S → Option (List ℕ)) → S → S → 
 HasCome left source_old source_new old new more.Some = HasPiece (left source_old) (left source_new) old new
 HasCome left source_old source_new old new more.End =
     (new ≡ old) × Consumes (left source_old) (left source_new) [] × IsAtEnd (left source_new) × (length old.taken ≤ old.limit)
-HasCome left source_old source_new old new more.Failed = (new ≡ old) × Keeps (left source_old) (left source_new) × (length old.taken ≤ old.limit)
+HasCome left source_old source_new old new more.Failed =
+    (new ≡ old) × Keeps (left source_old) (left source_new) × (length old.taken ≤ old.limit)
 HasCome left source_old source_new old new more.TooLong = (new ≡ old) × (source_new ≡ source_old) × (old.limit < length old.taken)
 HasCome left source_old source_new old new more.Memory = (new ≡ old) × (source_new ≡ source_old)
 

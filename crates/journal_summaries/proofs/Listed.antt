@@ -16,7 +16,7 @@ use Rattle.printed_text.specs.claim_history.specs.declared.entry.Reply.{Reply}
 use Rattle.printed_text.specs.claim_history.specs.declared.entry.Reply.TheVariants as reply
 use Rattle.printed_text.specs.claim_history.specs.Facts.{Filing, Ledger, filing_of, filings, is_registered, position_of}
 use Rattle.printed_text.specs.claim_history.specs.States.{OpenRound, State, after, state}
-use Rattle.printed_text.specs.claim_history.specs.History.{IsLegalPast, IsReply, abandon_answer, abandon_refusals, answer, close_answer, close_refusals, confirm_refusals, dispute_refusals, draw_refusals, failed, file_refusals, firm_refusals, fund_refusals, limit_refusals, offer_refusals, position_refusals, publish_answer, publish_refusals, receive_refusals, replied, withdraw_refusals}
+use Rattle.printed_text.specs.claim_history.specs.History.{IsLegalPoolPast, IsReply, abandon_answer, abandon_refusals, answer, close_answer, close_refusals, confirm_refusals, dispute_refusals, draw_refusals, failed, file_refusals, firm_refusals, fund_refusals, limit_refusals, offer_refusals, position_refusals, publish_answer, publish_refusals, receive_refusals, replied, withdraw_refusals}
 use Rattle.printed_text.specs.claim_history.specs.Rounds.{open_cut}
 use Rattle.printed_text.specs.claim_history.specs.Touched.{is_debtor_of, is_side_of}
 use Rattle.printed_text.specs.claim_history.proofs.Rows.{by_rows, key_is, name_is, not_false}
@@ -139,6 +139,6 @@ reply_registers firm s counted caller a r (replied e) knows = subst (Registers f
 reply_registers firm s counted caller a r (failed device) knows = subst (Registers firm s caller a) (sym device.is) (λ known listed. absurd (true≢false (sym listed)))
 
 -- so it is after every legal past
-pub listed_known : (firm : List ℕ) (e : Entry) (past : List Entry) → IsLegalPast (e ∷ past) → is_listed firm (open_cut past) (state (e ∷ past)).ledger e ≡ true → is_registered (state (e ∷ past)).ledger firm ≡ true
+pub listed_known : (firm : List ℕ) (e : Entry) (past : List Entry) → IsLegalPoolPast (e ∷ past) → is_listed firm (open_cut past) (state (e ∷ past)).ledger e ≡ true → is_registered (state (e ∷ past)).ledger firm ≡ true
 listed_known firm e past legal listed =
     reply_registers firm (state past) _ e.caller e.act e.reply legal.0 (knows past legal.1) (knows (e ∷ past) legal).0 listed

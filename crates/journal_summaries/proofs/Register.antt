@@ -19,7 +19,7 @@ use Rattle.printed_text.specs.claim_history.specs.declared.fact.Position.{Positi
 use Rattle.printed_text.specs.claim_history.specs.Facts.{Ledger, is_registered, position_of}
 use Rattle.printed_text.specs.claim_history.specs.States.{OpenRound, state, state_of}
 use Rattle.printed_text.specs.claim_history.specs.History as one
-use Rattle.printed_text.specs.claim_history.specs.History.{MayFollow}
+use Rattle.printed_text.specs.claim_history.specs.History.{MayFollowInPool}
 use Rattle.printed_text.specs.claim_history.specs.Pools.{IsLegal, entries_in, is_in}
 use Rattle.printed_text.specs.claim_history.specs.Rounds.{open_cut, open_cut_of}
 use Rattle.printed_text.specs.claim_history.proofs.Greatest.{reply_published}
@@ -111,7 +111,7 @@ ended_some cut r view is = absurd (none_some view is) where
   none_some : (v : CutView) → None ≡ Some v → ⊥
   none_some v e = cc e
 
-module _ (history : List Entry) (legal : one.IsLegal history) (valid : one.AreValid history) (e : Entry) (next : MayFollow history e) where
+module _ (history : List Entry) (legal : one.IsLegalPool history) (valid : one.AreValidEntries history) (e : Entry) (next : MayFollowInPool history e) where
   -- the cut that is given is that of the round that it publishes
   pub cut_given : (given : Option CutView) → given ≡ cut_ended (open_cut_of history) e.reply → IsCutOf given e
   cut_given given given_is = λ view is.
@@ -140,13 +140,13 @@ module _ (history : List Entry) (legal : one.IsLegal history) (valid : one.AreVa
       subst (λ (p : List Entry). is_registered (state p).ledger firm ≡ true) (sym past) (listed_known firm e (reverse history) (next, legal) here)
 
 -- the entry of a member of a pool may stand next there
-pub may_follow : (history : List PoolEntry) (pool : List ℕ) (i : ℕ) (m : PoolEntry) → slice_get history i ≡ Some m → is_in pool m ≡ true → IsLegal history → MayFollow (entries_in pool (take i history)) m.entry
+pub may_follow : (history : List PoolEntry) (pool : List ℕ) (i : ℕ) (m : PoolEntry) → slice_get history i ≡ Some m → is_in pool m ≡ true → IsLegal history → MayFollowInPool (entries_in pool (take i history)) m.entry
 may_follow history pool i m is own legal =
     let before = take i history in
     let later = drop (i + 1) history in
     let parts : entries_in pool history ≡ entries_in pool before ++ m.entry ∷ entries_in pool later =
     ap (entries_in pool) (whole history i m is) ∙ in_append pool before (m ∷ later) ∙ ap (λ (es : List Entry). entries_in pool before ++ es) (past_own pool m later own) in
-    (legal_first (entries_in pool before) (entries_in pool later) m.entry (subst one.IsLegal parts (legal_in history pool legal))).0
+    (legal_first (entries_in pool before) (entries_in pool later) m.entry (subst one.IsLegalPool parts (legal_in history pool legal))).0
 
 -- ---- one more row
 

@@ -13,7 +13,7 @@ use Rattle.printed_text.specs.claim_history.specs.declared.entry.Reply.TheVarian
 use Rattle.printed_text.specs.claim_history.specs.Acts.{is_close, is_publication}
 use Rattle.printed_text.specs.claim_history.specs.Cut.{cut_of}
 use Rattle.printed_text.specs.claim_history.specs.States.{OpenRound, State, state_of}
-use Rattle.printed_text.specs.claim_history.specs.History.{IsReply, MayFollow, answer, is_no_refusal, is_opening}
+use Rattle.printed_text.specs.claim_history.specs.History.{IsReply, MayFollowInPool, answer, is_no_refusal, is_opening}
 use Rattle.printed_text.specs.claim_history.specs.Rounds.{open_cut_of}
 use Rattle.printed_text.specs.claim_history.proofs.Greatest.{reply_published}
 use Rattle.printed_text.specs.claim_history.proofs.Replies.{IsOpening, opens, publishes}
@@ -22,18 +22,18 @@ use Rattle.journal_summaries.specs.Replay.{cut_ended}
 
 -- ---- openings
 
-opening_at : (history : List Entry) (e : Entry) → MayFollow history e → is_opening e.reply ≡ true → IsOpening (state_of history) e.act e.reply
+opening_at : (history : List Entry) (e : Entry) → MayFollowInPool history e → is_opening e.reply ≡ true → IsOpening (state_of history) e.act e.reply
 opening_at history e next is = opens (state_of history) _ e.caller e.act e.reply next is
 
 round_told : (r : Reply) (n round : ℕ) → r ≡ reply.Opened n → r ≡ reply.Opened round → n ≡ round
 round_told r n round a b = let same : reply.Opened n ≡ reply.Opened round = sym a ∙ b in cc same
 
-pub few_opened : (history : List Entry) (e : Entry) (round : ℕ) → MayFollow history e → e.reply ≡ reply.Opened round → round ≤ MOST_ROUNDS → (state_of history).openings < MOST_ROUNDS
+pub few_opened : (history : List Entry) (e : Entry) (round : ℕ) → MayFollowInPool history e → e.reply ≡ reply.Opened round → round ≤ MOST_ROUNDS → (state_of history).openings < MOST_ROUNDS
 few_opened history e round next is small =
     let o = opening_at history e next (ap is_opening is) in
     omega (arith, round_told e.reply ((state_of history).openings + 1) round o.reply_is is, small)
 
-pub opening_closes : (history : List Entry) (e : Entry) (round : ℕ) → MayFollow history e → e.reply ≡ reply.Opened round → is_close e.act ≡ true
+pub opening_closes : (history : List Entry) (e : Entry) (round : ℕ) → MayFollowInPool history e → e.reply ≡ reply.Opened round → is_close e.act ≡ true
 opening_closes history e round next is = ap is_close (opening_at history e next (ap is_opening is)).act_is
 
 -- the cut that a book gives of the next round is the one that is due
@@ -59,7 +59,7 @@ ended_by : (cut : Option CutView) (r : Reply) (total : ℕ) → r ≡ reply.Publ
 ended_by cut r total is = sym (ap (cut_ended cut) is)
 
 -- what a book gives of a publication is the cut of the round that it ends
-pub given_is : (history : List Entry) (e : Entry) (given : Option CutView) → MayFollow history e → is_publication e.act ≡ true → GivesCut (state_of history).open_round e given → given ≡ cut_ended (open_cut_of history) e.reply
+pub given_is : (history : List Entry) (e : Entry) (given : Option CutView) → MayFollowInPool history e → is_publication e.act ≡ true → GivesCut (state_of history).open_round e given → given ≡ cut_ended (open_cut_of history) e.reply
 given_is history e None next is gives = refused_none (open_cut_of history) e.reply gives
 given_is history e (Some cut) next is gives =
     let published = published_reply (state_of history) _ e.caller e.act e.reply is next gives.0 in
@@ -71,6 +71,6 @@ none_ended cut (reply.Published total) never = absurd (never total refl)
 none_ended cut r never = refl
 
 -- another entry ends none by its reply
-pub none_given : (history : List Entry) (e : Entry) → MayFollow history e → is_publication e.act ≡ false → None ≡ cut_ended (open_cut_of history) e.reply
+pub none_given : (history : List Entry) (e : Entry) → MayFollowInPool history e → is_publication e.act ≡ false → None ≡ cut_ended (open_cut_of history) e.reply
 none_given history e next apart =
     none_ended (open_cut_of history) e.reply (λ total is. true≢false (sym (ap is_publication (reply_published (state_of history) _ e.caller e.act e.reply total next is).asks) ∙ apart))

@@ -1,6 +1,7 @@
 -- The register of a firm: what each accepted entry of a pool that concerns it adds and takes, and its position afterwards.
 -- A past is a list of members, newest first. The history in order of time is its reverse.
-use Rattle.std.specs.Prelude.{ℕ, ◌+◌, Bool, false, List, [], ◌∷◌, ◌++◌, length, map, reverse, sum_by, codes, decimal, is_some, Option, Some, None, if◌then◌else◌}
+use Rattle.std.specs.Prelude.{ℕ, ◌+◌, Bool, false, List, [], ◌∷◌, ◌++◌, length, map, reverse}
+use Rattle.std.specs.Prelude.{sum_by, codes, decimal, is_some, Option, Some, None, if◌then◌else◌}
 use Rattle.setoff_model.specs.CutView.{CutView}
 use Rattle.setoff_model.specs.Texts.{cents_text, signed_cents_text}
 use Rattle.printed_text.specs.claim_history.specs.declared.act.Act.{Act}
@@ -10,7 +11,8 @@ use Rattle.printed_text.specs.claim_history.specs.declared.entry.Reply.{Reply}
 use Rattle.printed_text.specs.claim_history.specs.declared.entry.Reply.TheVariants as reply
 use Rattle.printed_text.specs.claim_history.specs.declared.fact.Position.{Position}
 use Rattle.printed_text.specs.claim_history.specs.Acts.{act_text}
-use Rattle.printed_text.specs.claim_history.specs.Facts.{Ledger, Settled, amount_or, discharged_by, discharged_to, gained_by, is_registered, party_place, position_of, spent_by}
+use Rattle.printed_text.specs.claim_history.specs.Facts.{Ledger, Settled, amount_or, discharged_by, discharged_to}
+use Rattle.printed_text.specs.claim_history.specs.Facts.{gained_by, is_registered, party_place, position_of, spent_by}
 use Rattle.printed_text.specs.claim_history.specs.States.{discharges_of, state}
 use Rattle.printed_text.specs.claim_history.specs.Rounds.{open_cut}
 use Rattle.printed_text.specs.claim_history.specs.Pools.{entries_in, is_in, ledger_in}

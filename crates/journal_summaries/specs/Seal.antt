@@ -1,5 +1,6 @@
 -- The bytes of the acts of a history, as a journal keeps them, and the line that tells their digest.
-use Rattle.std.specs.Prelude.{ℕ, Bool, true, List, [], ◌∷◌, ◌++◌, flat_map, length, nat_le, take, codes, decimal, Option, Some, None, if◌then◌else◌}
+use Rattle.std.specs.Prelude.{ℕ, Bool, true, List, [], ◌∷◌, ◌++◌, flat_map, length, nat_le}
+use Rattle.std.specs.Prelude.{take, codes, decimal, Option, Some, None, if◌then◌else◌}
 use Rattle.act_bodies.specs.Bodies.{body_of, four}
 use Rattle.hex.specs.Hex.{encode_lower}
 use Rattle.sha2.specs.Sha256.{sha256}

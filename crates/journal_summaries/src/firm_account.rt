@@ -3,12 +3,13 @@ ghost use Rattle.std.specs.Prelude.{◌≡◌, ◌<◌, ◌++◌, ◌∷◌, [],
 ghost use Rattle.setoff_model.specs.declared.limits.TheConstants.{LINE_BYTES};
 ghost use Rattle.printed_text.specs.claim_history.specs.Acts.{is_valid};
 ghost use Rattle.printed_text.specs.claim_history.specs.Facts.{is_registered};
-ghost use Rattle.printed_text.specs.claim_history.specs.History.{MayFollow};
+ghost use Rattle.printed_text.specs.claim_history.specs.History.{MayFollowInPool};
 ghost use Rattle.printed_text.specs.claim_history.specs.Pools.{ledger_in};
 ghost use Rattle.printed_text.specs.claim_history.specs.Rounds.{open_cut_of};
 ghost use Rattle.printed_text.specs.claim_book.specs.Book.{ledger_of};
 ghost use Rattle.printed_text.specs.firm_notices.specs.Tables.{HoldsText};
-ghost use Rattle.journal_summaries.specs.Account.{AccountRow, account_rows, account_status, account_text, is_listed, no_firm_text, register_text, row_of, rows_of};
+ghost use Rattle.journal_summaries.specs.Account.{AccountRow, account_rows, account_status, account_text};
+ghost use Rattle.journal_summaries.specs.Account.{is_listed, no_firm_text, register_text, row_of, rows_of};
 ghost use Rattle.journal_summaries.specs.Replay.{IsCutOf};
 
 use crate::flows::flow_of;
@@ -76,7 +77,7 @@ fn put_member(
     entry: &Entry,
 ) -> Result<(), AllocError>
     requires valid { is_valid entry.now.act ≡ true }
-    requires next { MayFollow book.old.history entry.now }
+    requires next { MayFollowInPool book.old.history entry.now }
     ensures history { OnOk result (book.new.history ≡ book.old.history ++ entry.now ∷ []) }
     ensures rows { OnOk result ((rows : List AccountRow) → HoldsText table.old (register_text rows)
         → HoldsText table.new (register_text (rows ++ rows_of firm.now number (open_cut_of book.old.history)

@@ -2,7 +2,7 @@
 ghost use Rattle.std.specs.Prelude.{◌≡◌, ◌++◌, ◌∷◌, [], None, OnOk, IfOk, true, false};
 ghost use Rattle.printed_text.specs.claim_history.specs.declared.entry.Reply.TheVariants as reply;
 ghost use Rattle.printed_text.specs.claim_history.specs.Acts.{is_close, is_publication, is_valid};
-ghost use Rattle.printed_text.specs.claim_history.specs.History.{MayFollow, is_opening};
+ghost use Rattle.printed_text.specs.claim_history.specs.History.{MayFollowInPool, is_opening};
 ghost use Rattle.printed_text.specs.claim_history.specs.Rounds.{open_cut_of};
 ghost use Rattle.journal_summaries.specs.Replay.{cut_ended};
 
@@ -15,7 +15,7 @@ use std::alloc::{AllocError, Global};
 fn put_publication(book: &mut Book, entry: Entry) -> Result<Option<Cut>, AllocError>
     requires valid { is_valid entry.act ≡ true }
     requires publishes { is_publication entry.act ≡ true }
-    requires next { MayFollow book.old.history entry }
+    requires next { MayFollowInPool book.old.history entry }
     ensures history { OnOk result (book.new.history ≡ book.old.history ++ entry ∷ []) }
     ensures cut { IfOk result (λ cut. cut ≡ cut_ended (open_cut_of book.old.history) entry.reply) }
 {
@@ -28,7 +28,7 @@ fn put_opening(alloc: Global, book: &mut Book, entry: Entry, round: u32) -> Resu
     requires valid { is_valid entry.act ≡ true }
     requires closes { is_close entry.act ≡ true }
     requires opens { entry.reply ≡ reply.Opened round }
-    requires next { MayFollow book.old.history entry }
+    requires next { MayFollowInPool book.old.history entry }
     ensures { OnOk result (book.new.history ≡ book.old.history ++ entry ∷ []) }
 {
     let _ = round;
@@ -46,7 +46,7 @@ fn put_other(book: &mut Book, entry: Entry) -> Result<(), AllocError>
     requires valid { is_valid entry.act ≡ true }
     requires apart { is_publication entry.act ≡ false }
     requires no_opening { is_opening entry.reply ≡ false }
-    requires next { MayFollow book.old.history entry }
+    requires next { MayFollowInPool book.old.history entry }
     ensures { OnOk result (book.new.history ≡ book.old.history ++ entry ∷ []) }
 {
     book.reserve(&entry.act)?;
@@ -58,7 +58,7 @@ fn put_other(book: &mut Book, entry: Entry) -> Result<(), AllocError>
 fn put_unpublished(alloc: Global, book: &mut Book, entry: Entry) -> Result<(), AllocError>
     requires valid { is_valid entry.act ≡ true }
     requires apart { is_publication entry.act ≡ false }
-    requires next { MayFollow book.old.history entry }
+    requires next { MayFollowInPool book.old.history entry }
     ensures { OnOk result (book.new.history ≡ book.old.history ++ entry ∷ []) }
 {
     let Reply::Opened { round } = entry.reply else {
@@ -86,7 +86,7 @@ pub(crate) fn put_next(
     entry: &Entry,
 ) -> Result<Option<Cut>, AllocError>
     requires valid { is_valid entry.now.act ≡ true }
-    requires next { MayFollow book.old.history entry.now }
+    requires next { MayFollowInPool book.old.history entry.now }
     ensures history { OnOk result (book.new.history ≡ book.old.history ++ entry.now ∷ []) }
     ensures cut { IfOk result (λ cut. cut ≡ cut_ended (open_cut_of book.old.history) entry.now.reply) }
 {

@@ -1,5 +1,6 @@
 //! The digest of the acts of a journal.
-ghost use Rattle.std.specs.Prelude.{◌≡◌, ◌+◌, ◌<◌, ◌≤◌, ◌^◌, ◌++◌, [], ℕ, List, IfOk, OnOk, length, codes, decimal, drop, take, true, vec_len, vec_capacity};
+ghost use Rattle.std.specs.Prelude.{◌≡◌, ◌+◌, ◌<◌, ◌≤◌, ◌^◌, ◌++◌, [], ℕ, List, IfOk, OnOk, length};
+ghost use Rattle.std.specs.Prelude.{codes, decimal, drop, take, true, vec_len, vec_capacity};
 ghost use Rattle.sha2.specs.Hashers.{Holds256};
 ghost use Rattle.act_bodies.specs.Bodies.{body_of, called};
 ghost use Rattle.printed_text.specs.claim_history.specs.Acts.{is_valid};

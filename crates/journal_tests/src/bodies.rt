@@ -187,7 +187,7 @@ fn other_bytes_are_no_bodies(rt: HostRuntime) {
         b"\0\0\0\x01\x01\x01AA",
         // caller 0 registers a firm
         b"\0\0\0\0\x01\x01A",
-        // names out of form
+        // malformed names
         b"\0\0\0\x01\x01\0",
         b"\0\0\0\x01\x01\x01a",
         b"\0\0\0\x01\x01\x11ABCDEFGHIJKLMNOPQ",
@@ -216,7 +216,7 @@ fn other_bytes_are_no_bodies(rt: HostRuntime) {
         b"\0\0\0\x01\x0f\x04MAIN\x01\x01A",
         b"\0\0\0\x01\x0f\x04EAST\x0f\x04WEST\x01\x01A",
         b"\0\0\0\0\x0f\x04EAST\x01\x01A",
-        // a pool without an act, a part of a name, no name, and names out of form
+        // a pool without an act, a part of a name, no name, and malformed names
         b"\0\0\0\x01\x0f\x04EAST",
         b"\0\0\0\x01\x0f\x04EAS",
         b"\0\0\0\x01\x0f\0\x01\x01A",

@@ -19,7 +19,7 @@ const LEVELS_BEFORE_COLD: usize = 2;
 /// Moves excess until no node of the state has any above 0: one level of prices after another, and the rest at once where levels
 /// stall.
 ///
-/// The state may be one on claims with weights as well. An error is want of memory.
+/// The state may be one on claims with weights as well. The only error is running out of memory.
 pub fn settle(alloc: Global, state: &mut State) -> Result<(), AllocError>
     requires { IsState state.old }
     ensures state { OnOk result (StaysOn state.old state.new) }

@@ -4,9 +4,11 @@ ghost use Rattle.setoff_model.specs.declared.limits.TheConstants.{MOST_ENTRIES, 
 ghost use Rattle.setoff_model.specs.CutView.{WellFormed};
 ghost use Rattle.claim_book.specs.claim_history.specs.History.{is_opening, is_no_refusal};
 ghost use Rattle.claim_book.specs.claim_history.specs.Acts.{is_valid, is_publication, is_close};
-ghost use Rattle.claim_book.specs.claim_history.specs.Pools.{IsLegal, AreValid, MayFollow, call_of, due_reply, entries_in, member_of, open_round_in, state_in};
+ghost use Rattle.claim_book.specs.claim_history.specs.Pools.{IsLegal, AreValid, MayFollow, call_of, due_reply};
+ghost use Rattle.claim_book.specs.claim_history.specs.Pools.{entries_in, member_of, open_round_in, state_in};
 ghost use Rattle.claim_book.specs.claim_history.specs.Needs.{endings_entries};
-ghost use Rattle.claim_book.specs.claim_history.specs.PoolNeeds.{Fits, IsReserved, IsWithinLimits, is_full, pool_endings_bytes, reserved_bytes_of, reserved_entries_of, used_bytes_of, used_entries_of};
+ghost use Rattle.claim_book.specs.claim_history.specs.PoolNeeds.{Fits, IsReserved, IsWithinLimits, is_full, pool_endings_bytes};
+ghost use Rattle.claim_book.specs.claim_history.specs.PoolNeeds.{reserved_bytes_of, reserved_entries_of, used_bytes_of, used_entries_of};
 ghost use Rattle.claim_book.specs.claim_history.specs.PoolRounds.{IsCutDue};
 ghost use Rattle.claim_book.specs.Book.{room_for, room_needed, KeepsRoom, GivesCut};
 ghost use Rattle.claim_book.specs.Pools.{KeepsRooms, room_in};
@@ -121,7 +123,8 @@ impl LimitedBooks {
     fn reserved_after(&self, pool: &Name, reply: Reply) -> Need
         ensures entries { result.entries ≡ reserved_entries_of self.now.members - endings_entries (open_round_in self.now.members pool.now)
             + endings_entries (round_after reply (open_round_in self.now.members pool.now)) }
-        ensures bytes { result.bytes ≡ reserved_bytes_of self.now.members - pool_endings_bytes pool.now (open_round_in self.now.members pool.now)
+        ensures bytes { result.bytes ≡ reserved_bytes_of self.now.members
+            - pool_endings_bytes pool.now (open_round_in self.now.members pool.now)
             + pool_endings_bytes pool.now (round_after reply (open_round_in self.now.members pool.now)) }
         ensures fewer { result.entries ≤ reserved_entries_of self.now.members }
         ensures shorter { result.bytes ≤ reserved_bytes_of self.now.members }

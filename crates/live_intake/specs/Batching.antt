@@ -42,7 +42,8 @@ pub record IsNewLane {D : Type 0} (turn : Turn (DeskView D) PoolEntry (DeskBase 
   pub fit : IsFit turn lane
 
 -- the lanes and their rings, between two segments
-pub record AreReady {D : Type 0} (turn : Turn (DeskView D) PoolEntry (DeskBase D)) (rings : List Ring) (lanes : List (LiveLane D)) : Type 0 where
+pub record AreReady {D : Type 0} (turn : Turn (DeskView D) PoolEntry (DeskBase D))
+    (rings : List Ring) (lanes : List (LiveLane D)) : Type 0 where
   pub many : length lanes ≡ MOST_LANES
   pub joined : AreJoined rings lanes
   pub fit : All (IsFit turn) lanes
@@ -56,7 +57,8 @@ pub record HaveServedAll {D : Type 0} (first now : List (LiveLane D)) (requests 
       → HasServedLines (slice_index_or first k lane).seat (slice_index_or now k lane).seat (lane_lines (k + 1) requests answers)
 
 -- All segments of a batch were read and served.
-pub record HasServedBatch {D : Type 0} (turn : Turn (DeskView D) PoolEntry (DeskBase D)) (left_new : Option (List ℕ)) (faults_old faults_new : ℕ)
+pub record HasServedBatch {D : Type 0} (turn : Turn (DeskView D) PoolEntry (DeskBase D))
+    (left_new : Option (List ℕ)) (faults_old faults_new : ℕ)
     (old new : IntakeView) (rings : List Ring) (first now : List (LiveLane D)) (answers : List Answer) (why : Option Stop) : Type 0 where
   pub batch : List Request
   pub ready : AreReady turn rings now
@@ -64,8 +66,10 @@ pub record HasServedBatch {D : Type 0} (turn : Turn (DeskView D) PoolEntry (Desk
   pub ends : Ends left_new faults_old faults_new old new batch why
 
 -- One segment more was read and served: its requests have their answers behind those that were there.
-pub record HasServedMore {D : Type 0} (turn : Turn (DeskView D) PoolEntry (DeskBase D)) (left_new : Option (List ℕ)) (faults_old faults_new : ℕ)
-    (old new : IntakeView) (rings : List Ring) (first now : List (LiveLane D)) (answers_old answers_new : List Answer) (why : Option Stop) : Type 0 where
+pub record HasServedMore {D : Type 0} (turn : Turn (DeskView D) PoolEntry (DeskBase D))
+    (left_new : Option (List ℕ)) (faults_old faults_new : ℕ)
+    (old new : IntakeView) (rings : List Ring) (first now : List (LiveLane D))
+    (answers_old answers_new : List Answer) (why : Option Stop) : Type 0 where
   pub requests : List Request
   pub later : List Answer
   pub answers_are : answers_new ≡ answers_old ++ later

@@ -27,7 +27,8 @@ pub record IsJoined {D : Type 0} (k : ℕ) (ring : Ring) (lane : LiveLane D) : T
 
 pub record AreJoined {D : Type 0} (rings : List Ring) (lanes : List (LiveLane D)) : Type 0 where
   pub same : length lanes ≡ length rings
-  pub each : (k : ℕ) (ring : Ring) (lane : LiveLane D) → k < length rings → IsJoined k (slice_index_or rings k ring) (slice_index_or lanes k lane)
+  pub each : (k : ℕ) (ring : Ring) (lane : LiveLane D) → k < length rings
+      → IsJoined k (slice_index_or rings k ring) (slice_index_or lanes k lane)
 
 module _ {D : Type 0} (turn : Turn (DeskView D) PoolEntry (DeskBase D)) where
   -- a lane served these requests
@@ -39,4 +40,5 @@ module _ {D : Type 0} (turn : Turn (DeskView D) PoolEntry (DeskBase D)) where
   -- each lane served just its own
   pub record HaveServedThese (requests : List Request) (old new : List (LiveLane D)) : Type 0 where
     pub all : length new ≡ length old
-    pub each : (k : ℕ) (lane : LiveLane D) → k < length old → HasServedThese (of_lane (k + 1) requests) (slice_index_or old k lane) (slice_index_or new k lane)
+    pub each : (k : ℕ) (lane : LiveLane D) → k < length old
+        → HasServedThese (of_lane (k + 1) requests) (slice_index_or old k lane) (slice_index_or new k lane)

@@ -71,7 +71,8 @@ pub record HasRunLive {D S : Type 0} (seen : D → Seen) (left : S → Option (L
   pub counted : answers ≡ None → AreNumbered (old.lines + 1) batch × (new.lines ≡ old.lines + length batch + fence_lines why)
 
 -- The lines of a batch were served, where this was known of the desk before: they are read behind those of the batches before.
-pub record HasServedLive {D : Type 0} (seen : D → Seen) (known : View PoolEntry (DeskBase D)) (left_new : Option (List ℕ)) (faults_old faults_new : ℕ)
+pub record HasServedLive {D : Type 0} (seen : D → Seen) (known : View PoolEntry (DeskBase D))
+    (left_new : Option (List ℕ)) (faults_old faults_new : ℕ)
     (old new : IntakeView) (desk : DeskView D) (answers : List Answer) (why : Stop) : Type 0 where
   pub batch : List Request
   pub all : HasServedAll seen known desk batch answers

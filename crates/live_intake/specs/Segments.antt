@@ -32,4 +32,5 @@ module _ {D : Type 0} (turn : Turn (DeskView D) PoolEntry (DeskBase D)) where
 
   -- each lane did
   abbrev pub HaveServed : List (LiveLane D) → List (LiveLane D) → Type 0
-  HaveServed old new = (length new ≡ length old) × ((k : ℕ) (none : LiveLane D) → k < length old → HasServedSegment (slice_index_or old k none) (slice_index_or new k none))
+  HaveServed old new = (length new ≡ length old)
+      × ((k : ℕ) (none : LiveLane D) → k < length old → HasServedSegment (slice_index_or old k none) (slice_index_or new k none))

@@ -152,8 +152,9 @@ fn run_both<
         { serve_lanes(service, bells, lanes, MOST_LANES) },
         &mut || -> Option<Stop>
             requires { MayRead intake.now rings.now requests.now answers.now }
-            ensures { HasReadSegment (S.left source.entry.now) (S.left source.exit.now) (S.faults source.entry.now) (S.faults source.exit.now)
-                intake.entry.now intake.exit.now rings.entry.now rings.exit.now requests.exit.now answers.entry.now answers.exit.now result }
+            ensures { HasReadSegment (S.left source.entry.now) (S.left source.exit.now)
+                (S.faults source.entry.now) (S.faults source.exit.now) intake.entry.now intake.exit.now
+                rings.entry.now rings.exit.now requests.exit.now answers.entry.now answers.exit.now result }
         {
             read_segment(
                 service.alloc,

@@ -23,8 +23,9 @@ MayRead intake rings requests answers = (intake.fenced ≡ false)
     × HasSpare intake answers (vec_len requests)
 
 -- The lines of the segment were read, and each lane was handed its own of them, and the mark.
-pub record HasReadSegment (left_old left_new : Option (List ℕ)) (faults_old faults_new : ℕ) (old new : IntakeView) (rings_old rings_new : List Ring)
-    (requests : Vec Request Global) (answers_old answers_new : Vec Answer Global) (why : Option Stop) : Type 0 where
+pub record HasReadSegment (left_old left_new : Option (List ℕ)) (faults_old faults_new : ℕ) (old new : IntakeView)
+    (rings_old rings_new : List Ring) (requests : Vec Request Global)
+    (answers_old answers_new : Vec Answer Global) (why : Option Stop) : Type 0 where
   pub handed : HaveHanded rings_old rings_new requests.items
   pub own : All (λ r. IsLane r.lane) requests.items
   pub few : vec_len requests ≤ MOST_ASKED

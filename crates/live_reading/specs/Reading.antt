@@ -1,5 +1,6 @@
 -- What the reader of a segment reads, and hands to the lanes.
-use Rattle.std.specs.Prelude.{◌≡◌, ◌⊎◌, ◌+◌, ◌<◌, ◌≤◌, ℕ, true, false, Option, Some, None, List, [], ◌∷◌, ◌++◌, All, length, take, drop, map, slice_index_or}
+use Rattle.std.specs.Prelude.{◌≡◌, ◌⊎◌, ◌+◌, ◌<◌, ◌≤◌, ℕ, true, false, Option, Some, None, List}
+use Rattle.std.specs.Prelude.{[], ◌∷◌, ◌++◌, All, length, take, drop, map, slice_index_or}
 use Rattle.live_reading.specs.declared.reading.TheConstants.{MOST_ASKED}
 use Rattle.std.specs.Io.KnownBytes.{Consumes, IsAtEnd}
 use Rattle.served_lines.specs.fault_count.specs.Counts.{HasRisen}
@@ -26,7 +27,8 @@ pub record HasSentAll (old new : Ring) (requests : List Request) : Type 0 where
 -- each lane was handed its own of these requests, in order
 pub record HaveSentAll (old new : List Ring) (requests : List Request) : Type 0 where
   pub all : length new ≡ length old
-  pub each : (k : ℕ) (ring : Ring) → k < length old → HasSentAll (slice_index_or old k ring) (slice_index_or new k ring) (of_lane (k + 1) requests)
+  pub each : (k : ℕ) (ring : Ring) → k < length old
+      → HasSentAll (slice_index_or old k ring) (slice_index_or new k ring) (of_lane (k + 1) requests)
 
 -- the lines that were read are the old ones and these requests, which are of the last batch
 abbrev pub HasReadThese : IntakeView → IntakeView → List Request → Type 0
@@ -63,12 +65,14 @@ fence_lines _ = 0
 module _ (left_new : Option (List ℕ)) (faults_old faults_new : ℕ) (old new : IntakeView) (requests : List Request) where
   -- a FENCE was read behind them
   abbrev pub HasReadFence : Type 0
-  HasReadFence = OfRead old (λ ended batch. HasRead new (ended ++ (batch ++ requests) ∷ []) [] × IsBatchAt new.taken false (length ended) (batch ++ requests))
+  HasReadFence = OfRead old (λ ended batch.
+      HasRead new (ended ++ (batch ++ requests) ∷ []) [] × IsBatchAt new.taken false (length ended) (batch ++ requests))
 
   -- the input has ended: its last batch is this one, or an empty one behind a FENCE without a line feed
   abbrev pub HasReadToEnd : Type 0
   HasReadToEnd = OfRead old (λ ended batch.
-      (IsRequestText new.taken (ended ++ (batch ++ requests) ∷ []) ⊎ IsRequestText new.taken ((ended ++ (batch ++ requests) ∷ []) ++ [] ∷ []))
+      (IsRequestText new.taken (ended ++ (batch ++ requests) ∷ [])
+      ⊎ IsRequestText new.taken ((ended ++ (batch ++ requests) ∷ []) ++ [] ∷ []))
       × IsBatchAt new.taken true (length ended) (batch ++ requests))
 
   -- Why the reading ended, by what was read; None: the batch goes on.
@@ -90,8 +94,8 @@ module _ (left_new : Option (List ℕ)) (faults_old faults_new : ℕ) (old new :
       × (HasNoFeed (drop new.read new.taken) → HasFront old new.taken requests)
 
 -- More lines were read, and each lane was handed its own of them. They are noted behind those that were.
-pub record HasGoneOn (left_old left_new : Option (List ℕ)) (faults_old faults_new : ℕ) (old new : IntakeView) (rings_old rings_new : List Ring)
-    (noted_old noted_new : List Request) (why : Option Stop) : Type 0 where
+pub record HasGoneOn (left_old left_new : Option (List ℕ)) (faults_old faults_new : ℕ) (old new : IntakeView)
+    (rings_old rings_new : List Ring) (noted_old noted_new : List Request) (why : Option Stop) : Type 0 where
   pub more : List Request
   pub noted : noted_new ≡ noted_old ++ more
   pub sent : HaveSentAll rings_old rings_new more

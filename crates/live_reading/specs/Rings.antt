@@ -33,7 +33,8 @@ pub record HasSent (old new : Ring) (one : Handed) : Type 0 where
 -- the lane of the request was handed it, and no other anything
 pub record HasHanded (old new : List Ring) (request : Request) : Type 0 where
   pub all : length new ≡ length old
-  pub own : (none : Ring) → HasSent (slice_index_or old (request.lane - 1) none) (slice_index_or new (request.lane - 1) none) (handed_of request)
+  pub own : (none : Ring)
+      → HasSent (slice_index_or old (request.lane - 1) none) (slice_index_or new (request.lane - 1) none) (handed_of request)
   pub others : (k : ℕ) (none : Ring) → (k + 1 ≡ request.lane → ⊥) → slice_index_or new k none ≡ slice_index_or old k none
 
 -- each was handed the mark
@@ -53,4 +54,5 @@ pub record HasHandedSegment (old new : Ring) (requests : List Request) : Type 0 
 -- each was
 pub record HaveHanded (old new : List Ring) (requests : List Request) : Type 0 where
   pub all : length new ≡ length old
-  pub each : (k : ℕ) (ring : Ring) → k < length old → HasHandedSegment (slice_index_or old k ring) (slice_index_or new k ring) (of_lane (k + 1) requests)
+  pub each : (k : ℕ) (ring : Ring) → k < length old
+      → HasHandedSegment (slice_index_or old k ring) (slice_index_or new k ring) (of_lane (k + 1) requests)

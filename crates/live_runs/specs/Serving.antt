@@ -32,7 +32,8 @@ pub record HasToldLive {D S T E : Type 0} (seen : D → Seen) (left : S → Opti
 -- The batches of an input were served in turn while it was read, and what each added was written after it was served. That ended
 -- where a batch did not end by a FENCE, or where a write failed. Where none failed, and the input has ended, they are all its batches.
 pub record HasServedInput {D : Type 0} (seen : D → Seen) (left_old left_new : Option (List ℕ)) (faults_old faults_new : ℕ)
-    (old new : DeskView D) (held_old held_new : Option (List ℕ)) (shown_old shown_new : List (Shown D)) (why : Stop) (status : ExitStatus) : Type 0 where
+    (old new : DeskView D) (held_old held_new : Option (List ℕ))
+    (shown_old shown_new : List (Shown D)) (why : Stop) (status : ExitStatus) : Type 0 where
   pub taken : List ℕ
   pub consumed : Consumes left_old left_new taken
   pub batches : List (List Request)

@@ -34,7 +34,7 @@ use Rattle.load_command.proofs.Reading.{all_taken, taken_long}
 abbrev Failed : ExitStatus → Type 0
 Failed status = (status ≡ statuses.Source) ⊎ ((status ≡ statuses.Sink) ⊎ (status ≡ statuses.Disk))
 
--- the status and the text that are due: of a failure, of want of memory, or of what is done
+-- the status and the text that are due: of a failure, of running out of memory, or of what is done
 abbrev Ends : (ExitStatus → List ℕ → Type 0) → ExitStatus → List ℕ → Type 0
 Ends Done status text = Failed status ⊎ ((status ≡ statuses.Memory) ⊎ Done status text)
 

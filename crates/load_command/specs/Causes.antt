@@ -48,7 +48,7 @@ pub record HadFullLine {D : Type 0} (seen : D → Seen) (Taken : List ℕ → Ty
 
 -- ---- statuses
 
--- Where each cause is, its status comes, or that of a fault: of the source, of the disk, for want of memory, or of the sink.
+-- Where each cause is, its status comes, or that of a fault: of the source, of the disk, out of memory, or of the sink.
 pub record ComesWhere (words : List (List ℕ)) (left : Option (List ℕ)) (disk : Seen) (status : ExitStatus) : Type 0 where
   -- any words
   pub of_words : words ≢ [] → IsOneOf (statuses.Words ∷ statuses.Sink ∷ []) status

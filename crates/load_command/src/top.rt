@@ -97,7 +97,7 @@ fn answer_words<S: Source, K: Sink, D: Disk>(
 /// - 6 exactly where the input is not in the grammar, with the first bad line; the disk is then not called;
 /// - 7 exactly where the source had more than 2^26 bytes, or a line was full;
 /// - 8 exactly where the disk has more than nine bytes that stand for no sound records;
-/// - 9 for want of memory, always where a line was not replied to for want of it, and neither sink nor disk failed.
+/// - 9 when memory ran out, always where a line got no reply because of it and neither sink nor disk failed.
 ///
 /// Where the cause of one of these is, 4 or 9 may come in its place, or the status of a step before it: the words, the reading of the
 /// source, the grammar, the opening of the journal, and then the groups in turn, at the end of which 9 comes before 7.

@@ -56,7 +56,7 @@ fn first_bad(_input: &[u8], line: u64, cause: LineCause, close: Option<u64>) -> 
 /// The batches of requests that the input of a load spells: as `read_requests` reads them, and none is a CLOSE.
 ///
 /// `BadLine` comes exactly where some line is not in this grammar, with the first such line and the first cause that applies to it,
-/// which is `Verb` of a line that asks for a CLOSE. The other error is want of memory.
+/// which is `Verb` of a line that asks for a CLOSE. The other error is running out of memory.
 pub fn read_load(alloc: Global, input: &[u8]) -> Result<Vec<Batch>, RequestError>
     ensures found { IfOk result (λ batches. IsLoadText input.now batches.items) }
     ensures bad { IfErr result (OnBadLine (λ number cause. IsFirstBadLoadLine input.now number cause × IsNoLoadText input.now)) }

@@ -28,7 +28,7 @@ pub struct Inner {
 }
 
 impl Inner {
-    /// The net inside the parts of a net. An error is want of memory, here and below.
+    /// The net inside the parts of a net. The only error is running out of memory, here and below.
     pub fn of(alloc: Global, net: &Unused, parts: &Parts) -> Result<Inner, AllocError> {
         let mut inner = Inner {
             windows: Vec::new(alloc),

@@ -18,7 +18,7 @@ pub struct Parts {
 }
 
 impl Parts {
-    /// The parts of a net. An error is want of memory.
+    /// The parts of a net. The only error is running out of memory.
     #[inline(never)]
     pub fn of(alloc: Global, net: &Unused) -> Result<Parts, AllocError> {
         let mut search = Search::new(alloc, net.ground().saturating_add(1))?;

@@ -13,7 +13,7 @@ const FEW_PRICES: usize = 64;
 ///
 /// Nodes stand in the order of a search into the depth, and a claim leads back to one that stands before. So a simplex that begins here,
 /// where nothing is set off, has little to do. The ground's price is 0, in the middle of those of the parties where there are windows.
-/// An error is want of memory.
+/// The only error is running out of memory.
 pub fn risen(alloc: Global, net: &Unused, parts: &Parts) -> Result<Option<Vec<i32>>, AllocError> {
     if net.windows.iter().all(|&spend| spend == 0) {
         return risen_over(alloc, net, &parts.left);

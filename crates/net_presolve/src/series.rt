@@ -9,8 +9,8 @@ use std::alloc::{AllocError, Global};
 // Stands where a party has several claims on a side.
 const SEVERAL: u32 = u32::MAX - 1;
 
-/// A net whose series are one arc each. A series goes over parties with one claim that they owe, one that is owed to them, and no window: the
-/// same is set off of all its claims. Its arc holds what the least of them does, and counts what they count together.
+/// A net whose series are one arc each. A series goes over parties with one claim that they owe, one that is owed to them, and no
+/// window: the same is set off of all its claims. Its arc holds what the least of them does, and counts what they count together.
 #[derive(Drop)]
 pub struct Series {
     /// The windows of the parties that are left.
@@ -25,8 +25,8 @@ pub struct Series {
 }
 
 impl Series {
-    /// The net of the series of a net. None where at most a quarter of its parties are inside series. An error is want of memory, here
-    /// and below.
+    /// The net of the series of a net. None where at most a quarter of its parties are inside series. The only error is running out
+    /// of memory, here and below.
     pub fn of(alloc: Global, net: &Inner) -> Result<Option<Series>, AllocError> {
         let parties = net.windows.len();
         let mut series = Series {

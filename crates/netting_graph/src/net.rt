@@ -33,7 +33,7 @@ impl Model for Net {
 impl Net {
     /// Merges the claims of a well-formed cut: those of one debtor and one creditor are one arc, with their sum.
     ///
-    /// The arcs stand in order of the first claim of each. An error is want of memory.
+    /// The arcs stand in order of the first claim of each. The only error is running out of memory.
     pub fn of(alloc: Global, cut: &Cut) -> Result<Net, AllocError>
         requires { WellFormed cut.now }
         ensures net_of { IfOk result (IsNetOf cut.now) }

@@ -15,7 +15,7 @@ use std::alloc::{AllocError, Global};
 /// and earlier claims are filled first.
 ///
 /// The net is that of the cut. There is one flow for each arc, in cents, at most the arc's amount.
-/// An error is want of memory.
+/// The only error is running out of memory.
 pub fn spread(alloc: Global, cut: &Cut, net: &Net, flows: &[u64]) -> Result<Vec<u64>, AllocError>
     requires net { IsNetOf cut.now net.now }
     requires one_each { length flows.now ≡ length net.now.arcs }

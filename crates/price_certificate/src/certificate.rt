@@ -14,7 +14,7 @@ use std::alloc::{AllocError, Global};
 ///
 /// The net is that of the cut, and the flow is one that a `Solver` may give for it. The outcome's prices prove that its
 /// discharges are greatest for the cut, and of two claims of one debtor and one creditor the earlier is filled first.
-/// An error is want of memory.
+/// The only error is running out of memory.
 pub fn outcome_of(alloc: Global, cut: &Cut, net: &Net, flow: Flow) -> Result<Outcome, AllocError>
     requires net { IsNetOf cut.now net.now }
     requires flow { IsSolution net.now flow }

@@ -13,7 +13,7 @@ use std::alloc::{AllocError, Global};
 /// A greatest set-off of a cut, found by a solver and certified by the checker. A round is solved by this call alone.
 ///
 /// The cut is well formed, and goes into what is answered. There is no other answer, since the checker never refuses what
-/// a solver finds. Of two claims of one debtor and one creditor the earlier is filled first. An error is want of memory.
+/// a solver finds. Of two claims of one debtor and one creditor the earlier is filled first. The only error is running out of memory.
 #[inline(never)]
 pub fn certified<S: Solver>(alloc: Global, solver: &S, cut: Cut) -> Result<Checked, AllocError>
     requires { WellFormed cut }

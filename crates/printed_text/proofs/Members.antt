@@ -147,8 +147,8 @@ module _ (from : ℕ) (history : List PoolEntry) (i : ℕ) (m : PoolEntry) (is :
   published_at rounds next total legal valid rounds_are next_is published =
       let before = entries_in m.pool (take i history) in
       let later = entries_in m.pool (drop (i + 1) history) in
-      let legal_pool = subst one.IsLegal (whole_pool history i m is) (legal_in history m.pool legal) in
-      let valid_before = All-first (λ (e : Entry). is_valid e.act ≡ true) before (m.entry ∷ later) (subst one.AreValid (whole_pool history i m is) (valid_in history m.pool valid)) in
+      let legal_pool = subst one.IsLegalPool (whole_pool history i m is) (legal_in history m.pool legal) in
+      let valid_before = All-first (λ (e : Entry). is_valid e.act ≡ true) before (m.entry ∷ later) (subst one.AreValidEntries (whole_pool history i m is) (valid_in history m.pool valid)) in
       let p = greatest_law before later m.entry total legal_pool published in
       let legal_before = (legal_first before later m.entry legal_pool).1 in
       let cut_is : slice_get rounds next ≡ Some p.round.cut = ap₂ (λ (cuts : List CutView) (n : ℕ). slice_get cuts n) rounds_are next_is ∙ next_cut total p.round published p.was_open in

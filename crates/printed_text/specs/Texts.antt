@@ -28,7 +28,7 @@ read_text = codes "fault read\n"
 abbrev pub too_long_text : List ℕ
 too_long_text = codes "fault input too long\n"
 
--- one line for a line of the input that was answered for want of memory
+-- one line for a line of the input that was answered as out of memory
 abbrev pub memory_line : ℕ → List ℕ
 memory_line line = codes "! line " ++ decimal line ++ codes " memory\n"
 

@@ -22,7 +22,7 @@ use setoff_model::limits::{LINE_BYTES, OUTPUT_BYTES};
 use setoff_model::{Cut, Name};
 use std::alloc::{AllocError, Global};
 
-/// An empty buffer with room for `OUTPUT_BYTES`, as each call that prints asks for. The one error is want of memory.
+/// An empty buffer with room for `OUTPUT_BYTES`, as each call that prints asks for. The only error is running out of memory.
 pub fn output_buffer(alloc: Global) -> Result<Vec<u8>, AllocError>
     ensures empty { IfOk result (λ buffer. buffer.items ≡ []) }
     ensures len { IfOk result (λ buffer. vec_len buffer ≡ 0) }
@@ -142,7 +142,8 @@ pub fn print_member<K: Sink>(
         (entry_line (member_of pool.now entry.now) ++ statement_of (slice_get rounds.now next) entry.now.act entry.now.reply)) }
     ensures next { IfOk result (λ place. place ≡ next + rounds_in entry.now.reply) }
     ensures part { OnErr result (AppendsPart (K.held sink.old) (K.held sink.new)
-        (buffer.old.items ++ (entry_line (member_of pool.now entry.now) ++ statement_of (slice_get rounds.now next) entry.now.act entry.now.reply))) }
+        (buffer.old.items ++ (entry_line (member_of pool.now entry.now)
+        ++ statement_of (slice_get rounds.now next) entry.now.act entry.now.reply))) }
     ensures cause { CountsFaults (K.faults sink.old) (K.faults sink.new) result }
     ensures room { OUTPUT_BYTES ≤ vec_capacity buffer.new }
 {
@@ -295,7 +296,7 @@ fn print_memory_lines<K: Sink>(
     Ok(())
 }
 
-/// Prints a line for each line of a batch none of which was asked, for want of memory. The buffer and the failure are as for
+/// Prints a line for each line of a batch none of which was asked because memory ran out. The buffer and the failure are as for
 /// `print_batch`.
 pub fn print_unanswered<K: Sink>(
     sink: &mut K,
@@ -344,8 +345,8 @@ fn print_memory_range<K: Sink>(
     Ok(())
 }
 
-/// Prints a line for each of so many lines of a batch, from a number on, none of which was asked, for want of memory. The buffer and
-/// the failure are as for `print_batch`.
+/// Prints a line for each of so many lines of a batch, from a number on, none of which was asked because memory ran out. The buffer
+/// and the failure are as for `print_batch`.
 pub fn print_unanswered_lines<K: Sink>(
     sink: &mut K,
     buffer: &mut Vec<u8>,

@@ -26,7 +26,7 @@ use Rattle.read_copies.specs.declared.row.Row.{Row}
 use Rattle.read_copies.specs.Rows.{firm_of, row_of, row_in, row_at, put_at, put_row, put_all, HasRows, IsRowIn, IsSettled, AreAllSettled}
 use Rattle.claim_history.specs.declared.entry.Entry.{Entry}
 use Rattle.claim_history.specs.States.{state}
-use Rattle.claim_history.specs.History.{IsLegal, AreValid}
+use Rattle.claim_history.specs.History.{IsLegalPool, AreValidEntries}
 use Rattle.claim_history.specs.Acts.{is_valid}
 use Rattle.claim_history.proofs.Pasts.{all_reverse}
 use Rattle.claim_history.proofs.Bounds.{names_equivalent}
@@ -198,7 +198,7 @@ registered_more old all firm p h =
     subst (λ past. is_registered (state past).ledger firm ≡ true) longer (still_registered firm (reverse p.0) (reverse old) h)
 
 -- with changes that settle each registered firm, the table has the rows of the longer history
-pub all_right : (old all : List Entry) (rows changes : List Row) → IsPrefix old all → IsLegal all → AreValid all → AllPairs (λ (f g : List ℕ). f ≢ g) (map firm_of rows) → HasRows (ledger_of old) rows
+pub all_right : (old all : List Entry) (rows changes : List Row) → IsPrefix old all → IsLegalPool all → AreValidEntries all → AllPairs (λ (f g : List ℕ). f ≢ g) (map firm_of rows) → HasRows (ledger_of old) rows
     → AreAllSettled (ledger_of all) rows [] changes → HasRows (ledger_of all) (put_all rows changes)
 all_right old all rows changes pre legal valid once has settled firm =
     let l = ledger_of all in

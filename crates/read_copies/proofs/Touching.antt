@@ -14,7 +14,7 @@ use Rattle.claim_history.specs.declared.fact.AccountFact.{AccountFact}
 use Rattle.claim_history.specs.declared.fact.Position.{Position}
 use Rattle.claim_history.specs.declared.fact.ClaimFact.{ClaimFact}
 use Rattle.claim_history.specs.Facts.{Filing, Ledger, filing_of, claim_fact, is_registered, account_fact, position_of}
-use Rattle.claim_history.specs.History.{IsLegal}
+use Rattle.claim_history.specs.History.{IsLegalPool}
 use Rattle.claim_history.specs.Touched.{is_debtor_of, is_side_of, touches, Stays, TouchLaw}
 use Rattle.claim_book.specs.Book.{ledger_of, claim_in}
 use Rattle.read_copies.specs.declared.row.Row.{Row}
@@ -96,7 +96,7 @@ row_stays old l firm stays =
     registered ∙ (account ∙ position)
 
 -- where the firms that later entries touch are settled, all are
-pub all_settled : TouchLaw → (old all : List Entry) (shown : ℕ) (rows changes : List Row) → IsPrefix old all → shown ≡ length old → IsLegal all → HasRows (ledger_of old) rows
+pub all_settled : TouchLaw → (old all : List Entry) (shown : ℕ) (rows changes : List Row) → IsPrefix old all → shown ≡ length old → IsLegalPool all → HasRows (ledger_of old) rows
     → AreSettled (ledger_of all) rows (is_touched (ledger_of all) (drop shown all)) [] changes → AreAllSettled (ledger_of all) rows [] changes
 all_settled law old all shown rows changes begins is legal has settled = record {
   added = settled.added;
@@ -110,6 +110,6 @@ all_settled law old all shown rows changes begins is legal has settled = record 
     by firm known true e = settled.each firm e known
     by firm known false e =
         let stays : Stays (ledger_of old) (ledger_of (old ++ drop shown all)) firm =
-        law old (drop shown all) firm (subst IsLegal (sym parts) legal)
+        law old (drop shown all) firm (subst IsLegalPool (sym parts) legal)
         (subst (λ (h : List Entry). All (λ x. touches (ledger_of h) firm x ≡ false) (drop shown all)) (sym parts) (none_touched (ledger_of all) firm (drop shown all) e)) in
         inr (has firm ∙ row_stays (ledger_of old) (ledger_of all) firm (subst (λ (h : List Entry). Stays (ledger_of old) (ledger_of h) firm) parts stays))

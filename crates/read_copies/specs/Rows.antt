@@ -1,5 +1,6 @@
 -- The row of a firm, and how rows are put into a table.
-use Rattle.std.specs.Prelude.{◌≡◌, ◌⊎◌, ℕ, Bool, true, nat_lt, List, [], ◌∷◌, ◌++◌, length, fold, find, position, slice_set, All, Option, Some, None, if◌then◌else◌}
+use Rattle.std.specs.Prelude.{◌≡◌, ◌⊎◌, ℕ, Bool, true, nat_lt, List, [], ◌∷◌, ◌++◌, length, fold}
+use Rattle.std.specs.Prelude.{find, position, slice_set, All, Option, Some, None, if◌then◌else◌}
 use Rattle.std.specs.List.{list_any}
 use Rattle.setoff_model.specs.declared.limits.TheConstants.{MOST_FIRMS}
 use Rattle.setoff_model.specs.Same.{same_name}

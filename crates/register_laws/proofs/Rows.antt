@@ -54,7 +54,7 @@ module _ (pool firm : List ℕ) where
   abbrev Reach : List Entry → List AccountRow → Type 0
   Reach past rows = (last_or no_position rows ≡ position_of (state past).ledger firm) × RunOnFrom (pos 0) rows
 
-  entry_reached : (n : ℕ) (e : Entry) (past : List Entry) (rows : List AccountRow) (b : Bool) → is_listed firm (open_cut past) (state (e ∷ past)).ledger e ≡ b → one.IsLegalPast (e ∷ past) → Reach past rows
+  entry_reached : (n : ℕ) (e : Entry) (past : List Entry) (rows : List AccountRow) (b : Bool) → is_listed firm (open_cut past) (state (e ∷ past)).ledger e ≡ b → one.IsLegalPoolPast (e ∷ past) → Reach past rows
       → Reach (e ∷ past) (rows ++ (if b then row_of firm n (open_cut past) (state (e ∷ past)).ledger e ∷ [] else []))
   entry_reached n e past rows true listed legal so_far =
       let row = row_of firm n (open_cut past) (state (e ∷ past)).ledger e in
@@ -68,7 +68,7 @@ module _ (pool firm : List ℕ) where
 
   -- ---- one more member
 
-  member_reached : (m : PoolEntry) (past : List PoolEntry) (b : Bool) → is_in pool m ≡ b → one.IsLegalPast (entries_in pool (m ∷ past))
+  member_reached : (m : PoolEntry) (past : List PoolEntry) (b : Bool) → is_in pool m ≡ b → one.IsLegalPoolPast (entries_in pool (m ∷ past))
       → Reach (entries_in pool past) (past_rows pool firm past) → Reach (entries_in pool (m ∷ past)) (past_rows pool firm (m ∷ past))
   member_reached m past true own legal so_far =
       let es = entries_in pool past in
@@ -79,7 +79,7 @@ module _ (pool firm : List ℕ) where
       ap (λ (b : Bool). if b then rows_of firm n (open_cut es) (state (entries_in pool (m ∷ past))).ledger m.entry else []) own
       ∙ ap (λ (xs : List Entry). rows_of firm n (open_cut es) (state xs).ledger m.entry) parts in
       subst₂ Reach (sym parts) (sym (ap (λ (more : List AccountRow). past_rows pool firm past ++ more) rows))
-      (entry_reached n m.entry es (past_rows pool firm past) listed refl (subst one.IsLegalPast parts legal) so_far)
+      (entry_reached n m.entry es (past_rows pool firm past) listed refl (subst one.IsLegalPoolPast parts legal) so_far)
   member_reached m past false other legal so_far =
       let es = entries_in pool past in
       let n = length (m ∷ past) in

@@ -17,7 +17,7 @@ use Rattle.printed_text.specs.claim_history.specs.declared.entry.Reply.{Reply}
 use Rattle.printed_text.specs.claim_history.specs.declared.entry.Reply.TheVariants as reply
 use Rattle.printed_text.specs.claim_history.specs.Facts.{Filing, Ledger, Settled, agreed_of, at_place, balance_of, claim_place, discharge_of, discharged_by, discharged_to, filing_of, filings, flow_of, gained, is_confirmed, owed_of, paid, part_of, party_place, payable, position_of, receivable, spent, status_of}
 use Rattle.printed_text.specs.claim_history.specs.States.{OpenRound, discharges_of, settle, state}
-use Rattle.printed_text.specs.claim_history.specs.History.{IsLegalPast}
+use Rattle.printed_text.specs.claim_history.specs.History.{IsLegalPoolPast}
 use Rattle.printed_text.specs.claim_history.specs.Rounds.{open_cut}
 use Rattle.printed_text.specs.claim_history.specs.Touched.{touches}
 use Rattle.printed_text.specs.claim_history.proofs.Filed.{AreDistinct, IsCutOfFilings, IsFiledIn, is_at}
@@ -102,7 +102,7 @@ no_place None none = refl
 no_place (Some p) none = absurd (true≢false none)
 
 -- a publication of such a round
-published_same : (firm : List ℕ) (caller : ℕ) (a : Act) (total : ℕ) (past : List Entry) → IsLegalPast (entry_of caller a (reply.Published total) ∷ past)
+published_same : (firm : List ℕ) (caller : ℕ) (a : Act) (total : ℕ) (past : List Entry) → IsLegalPoolPast (entry_of caller a (reply.Published total) ∷ past)
     → is_party_of (open_cut past) firm ≡ false → position_of (state (entry_of caller a (reply.Published total) ∷ past)).ledger firm ≡ position_of (state past).ledger firm
 published_same firm caller a total past legal apart =
     let s = state past in
@@ -118,17 +118,17 @@ published_same firm caller a total past legal apart =
 pub turned : (e : Entry) (past : List Entry) → reverse (reverse past ++ e ∷ []) ≡ e ∷ past
 turned e past = reverse-append (reverse past) (e ∷ []) ∙ ap (λ (es : List Entry). e ∷ es) (reverse-reverse past)
 
-untouched_same : (firm : List ℕ) (e : Entry) (past : List Entry) → IsLegalPast (e ∷ past) → touches (state (e ∷ past)).ledger firm e ≡ false
+untouched_same : (firm : List ℕ) (e : Entry) (past : List Entry) → IsLegalPoolPast (e ∷ past) → touches (state (e ∷ past)).ledger firm e ≡ false
     → position_of (state (e ∷ past)).ledger firm ≡ position_of (state past).ledger firm
 untouched_same firm e past legal none =
     let longer = turned e past in
     let Leaves : Entry → Type 0 = λ x. touches (state (reverse (reverse past ++ e ∷ []))).ledger firm x ≡ false in
     let here : Leaves e = subst (λ (p : List Entry). touches (state p).ledger firm e ≡ false) (sym longer) none in
-    let stays = touch_law (reverse past) (e ∷ []) firm (subst IsLegalPast (sym longer) legal) (All-cons Leaves e [] here (All-nil Leaves)) in
+    let stays = touch_law (reverse past) (e ∷ []) firm (subst IsLegalPoolPast (sym longer) legal) (All-cons Leaves e [] here (All-nil Leaves)) in
     sym (ap (λ (p : List Entry). position_of (state p).ledger firm) longer) ∙ stays.position
     ∙ ap (λ (p : List Entry). position_of (state p).ledger firm) (reverse-reverse past)
 
-unlisted_by : (firm : List ℕ) (caller : ℕ) (a : Act) (r : Reply) (past : List Entry) → IsLegalPast (entry_of caller a r ∷ past)
+unlisted_by : (firm : List ℕ) (caller : ℕ) (a : Act) (r : Reply) (past : List Entry) → IsLegalPoolPast (entry_of caller a r ∷ past)
     → is_listed_by firm (open_cut past) (state (entry_of caller a r ∷ past)).ledger a r ≡ false
     → position_of (state (entry_of caller a r ∷ past)).ledger firm ≡ position_of (state past).ledger firm
 unlisted_by firm caller a (reply.Published total) past legal none = published_same firm caller a total past legal none
@@ -136,6 +136,6 @@ unlisted_by firm caller a r past legal none = untouched_same firm (entry_of call
 
 -- ---- all
 
-pub unlisted_same : (firm : List ℕ) (e : Entry) (past : List Entry) → IsLegalPast (e ∷ past) → is_listed firm (open_cut past) (state (e ∷ past)).ledger e ≡ false
+pub unlisted_same : (firm : List ℕ) (e : Entry) (past : List Entry) → IsLegalPoolPast (e ∷ past) → is_listed firm (open_cut past) (state (e ∷ past)).ledger e ≡ false
     → position_of (state (e ∷ past)).ledger firm ≡ position_of (state past).ledger firm
 unlisted_same firm e past legal none = unlisted_by firm e.caller e.act e.reply past legal none

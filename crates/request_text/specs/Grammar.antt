@@ -104,7 +104,8 @@ batches_text batch (next ∷ batches) = batch_text batch ++ (fence_line ++ batch
 -- the requests of a batch, one on each line
 abbrev pub numbered : ℕ → List Asked → List Request
 numbered number [] = []
-numbered number (asked ∷ batch) = record { line = number; lane = asked.lane; pool = asked.pool; act = asked.act } ∷ numbered (number + 1) batch
+numbered number (asked ∷ batch) =
+    record { line = number; lane = asked.lane; pool = asked.pool; act = asked.act } ∷ numbered (number + 1) batch
 
 -- the requests of batches, and a line for each fence
 abbrev pub all_numbered : ℕ → List (List Asked) → List (List Request)

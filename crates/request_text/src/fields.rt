@@ -8,7 +8,8 @@ ghost use Rattle.claim_history.specs.Acts.{is_key, is_amount, is_claim_amount, i
 ghost use Rattle.request_text.specs.Lanes.{IsLane};
 ghost use Rattle.request_text.specs.Pools.{IsOtherPool, pool_field};
 ghost use Rattle.request_text.specs.Grammar.{AreActFields, AreArgs, AreFields, ArePoolFields, IsLine};
-ghost use Rattle.request_text.specs.Causes.{HasArgsCause, HasCause, HasForm, HasPoolCause, HasVerbCause, forms_of, verb_text, any_cents, named, of_kind, on_day, some_cents};
+ghost use Rattle.request_text.specs.Causes.{HasArgsCause, HasCause, HasForm, HasPoolCause, HasVerbCause};
+ghost use Rattle.request_text.specs.Causes.{forms_of, verb_text, any_cents, named, of_kind, on_day, some_cents};
 ghost use Rattle.request_text.specs.declared.verb.Verb.TheVariants as verbs;
 
 use crate::error::LineCause;

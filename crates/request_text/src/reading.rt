@@ -39,10 +39,11 @@ fn request_of(alloc: Global, number: u64, line: &[u8]) -> Result<Request, Reques
 }
 
 /// The batches of requests that the input spells: lines `lane VERB fields`, with `@POOL` behind the lane where the pool
-/// is not MAIN, and lines `FENCE`, each of which ends a batch. An input with k fences has k + 1 batches, which may be empty. The lines are numbered from 1, fences too.
+/// is not MAIN, and lines `FENCE`, each of which ends a batch. An input with k fences has k + 1 batches, which may be empty. The
+/// lines are numbered from 1, fences too.
 ///
 /// `BadLine` comes exactly where some line is not in the grammar, with the first such line and the first cause that
-/// applies to it. The other error is want of memory.
+/// applies to it. The other error is running out of memory.
 pub fn read_requests(alloc: Global, input: &[u8]) -> Result<Vec<Batch>, RequestError>
     ensures found { IfOk result (λ batches. IsRequestText input.now batches.items) }
     ensures bad { IfErr result (OnBadLine (λ number cause. IsFirstBadLine input.now number cause × IsNoRequestText input.now)) }

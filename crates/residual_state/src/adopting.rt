@@ -16,7 +16,7 @@ use std::alloc::{AllocError, Global};
 /// Takes the flows and the prices, as they are or squeezed, in place of the state's, where they are a solution. Whether it did.
 ///
 /// They are one where each flow fits its arc, each arc keeps its facts at the prices, and no node has any excess. Else nothing is
-/// changed. An error is want of memory.
+/// changed. The only error is running out of memory.
 #[inline(never)]
 pub fn adopt(
     alloc: Global,

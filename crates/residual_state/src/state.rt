@@ -33,7 +33,7 @@ pub struct State {
 /// The state at the beginning of a search on the arcs of claims among parties: each claim is discharged whole, no balance changes,
 /// and the prices are 0.
 ///
-/// Several arcs may join the same two parties. A claim weighs what a cent on its arc counts. The one error is want of memory.
+/// Several arcs may join the same two parties. A claim weighs what a cent on its arc counts. The only error is running out of memory.
 pub fn state_at_start(
     alloc: Global,
     parties: &[Party],

@@ -25,7 +25,7 @@ use Rattle.claim_history.specs.Acts.{is_valid}
 use Rattle.claim_history.specs.Facts.{Ledger, Filing, firms, filings, filing_of, amount_of, left_of, part_of, gained, spent, balance_of, limits_of, offer_of, claim_fact, claim_facts, account_fact, account_facts}
 use Rattle.claim_history.specs.Cut.{distinct, is_due, due_claims, firms_of, party_of, cut_claim, cut_of}
 use Rattle.claim_history.specs.States.{state_of}
-use Rattle.claim_history.specs.History.{IsLegal, AreValid}
+use Rattle.claim_history.specs.History.{IsLegalPool, AreValidEntries}
 use Rattle.claim_history.specs.Laws.{KeepAmounts}
 use Rattle.claim_history.proofs.Rows.{name_is}
 use Rattle.claim_history.proofs.Formulas.{formulas_law}
@@ -176,10 +176,10 @@ cut_is l round kind horizon each =
 
 -- ---- histories
 
-history_orderly : (history : List Entry) → IsLegal history → AreValid history → IsOrderly (state_of history)
+history_orderly : (history : List Entry) → IsLegalPool history → AreValidEntries history → IsOrderly (state_of history)
 history_orderly history legal valid = orderly (reverse history) legal (all_reverse (λ (e : Entry). is_valid e.act ≡ true) history valid)
 
-limited : (history : List Entry) → IsLegal history → AreValid history → Limited (state_of history).ledger
+limited : (history : List Entry) → IsLegalPool history → AreValidEntries history → Limited (state_of history).ledger
 limited history legal valid firm = record {
   balance = (formulas_law.limits_kept (state_of history).ledger).0 (limits_law history legal).0 firm;
   credit = ((history_orderly history legal valid).1 firm).0;

@@ -1,5 +1,6 @@
 -- The cut of a round, read off what is known of claims and accounts.
-use Rattle.std.specs.Prelude.{◌≡◌, ◌≢◌, ℕ, ◌≤◌, Bool, true, ◌&&◌, nat_le, List, [], ◌∷◌, length, map, filter, flat_map, find, All, AllPairs, Option, Some, None}
+use Rattle.std.specs.Prelude.{◌≡◌, ◌≢◌, ℕ, ◌≤◌, Bool, true, ◌&&◌, nat_le, List, [], ◌∷◌, length}
+use Rattle.std.specs.Prelude.{map, filter, flat_map, find, All, AllPairs, Option, Some, None}
 use Rattle.std.specs.List.{list_any, position_or_len}
 use Rattle.setoff_model.specs.declared.limits.TheConstants.{MOST_AMOUNT, MOST_CLAIMS, MOST_FIRMS}
 use Rattle.setoff_model.specs.declared.kind.Kind.{Kind}

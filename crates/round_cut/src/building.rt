@@ -15,7 +15,7 @@ use std::alloc::{AllocError, Global};
 /// on or before the horizon, in their order, each with that part, and the firms that they name with their windows.
 ///
 /// The parties stand in order of first appearance, the debtor of a claim before its creditor. Each claim is looked at
-/// once, and firms are found by an index, so the time grows with the claims and the accounts. An error is want of memory.
+/// once, and firms are found by an index, so the time grows with the claims and the accounts. The only error is running out of memory.
 pub fn build_cut(
     alloc: Global,
     claims: &[ClaimFact],

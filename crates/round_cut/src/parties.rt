@@ -26,7 +26,7 @@ pub fn firms_of(alloc: Global, accounts: &[AccountFact]) -> Result<NameIndex, Al
 
 /// The place of a firm among the parties. A firm that is none of them is put at the end, with its window.
 ///
-/// The names are those of the parties, and the firms those of the accounts. An error is want of memory.
+/// The names are those of the parties, and the firms those of the accounts. The only error is running out of memory.
 pub fn place_of(
     parties: &mut Vec<Party>,
     names: &mut NameIndex,

@@ -22,7 +22,7 @@ publication_longer whole more request round m h = record {
   in_pool = h.in_pool;
   asks = h.asks;
   ends = h.ends;
-  cut_is = subst (λ (es : List Entry). one.IsRoundCut es round h.cut) (sym (in_append request.pool whole more))
+  cut_is = subst (λ (es : List Entry). one.IsPoolRoundCut es round h.cut) (sym (in_append request.pool whole more))
       (cut_longer (entries_in request.pool whole) (entries_in request.pool more) round h.cut h.cut_is);
   proved = h.proved;
   oldest_first = h.oldest_first;

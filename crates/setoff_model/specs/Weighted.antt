@@ -2,7 +2,8 @@
 use Rattle.std.specs.Prelude.{◌≡◌, ◌↔◌, ℕ, ◌+◌, ◌*◌, ◌<◌, ◌≤◌, ◌^◌, List, length, slice_index, ℤ, pos, ◌+ℤ◌, ◌-ℤ◌, ◌<ℤ◌, unsigned_abs}
 use Rattle.setoff_model.specs.declared.limits.TheConstants.{MOST_WEIGHT}
 use Rattle.setoff_model.specs.Sums.{sum_below, above_zero}
-use Rattle.setoff_model.specs.Setoff.{Obligations, inflow, outflow, IsLawful, IsGreatest, InRange, Proves, price_at, parties_bound, total_of, bound_of}
+use Rattle.setoff_model.specs.Setoff.{Obligations, inflow, outflow, IsLawful, IsGreatest, InRange}
+use Rattle.setoff_model.specs.Setoff.{Proves, price_at, parties_bound, total_of, bound_of}
 use Rattle.setoff_model.specs.CutView.{CutView, WellFormed, obligations, spends, rooms}
 
 -- one weight for each claim, from 1 to 9

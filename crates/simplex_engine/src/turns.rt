@@ -77,7 +77,7 @@ const ALONE: u64 = 500;
 /// A solution from where nothing is set off, if one is found with little work for each arc that enters.
 ///
 /// It is sought where there are more than three halves of arcs at a node and at most six, or where more than three fifths of what is
-/// set off are in excess. Nothing is proved of it. An error is want of memory.
+/// set off are in excess. Nothing is proved of it. The only error is running out of memory.
 pub fn seek_cold(
     alloc: Global,
     start: &Start,
@@ -132,7 +132,7 @@ fn tried_cold(
 
 /// A solution from where nothing is set off, at the price of each node, if one is found while arcs enter with little work each.
 ///
-/// Nothing is proved of it. An error is want of memory.
+/// Nothing is proved of it. The only error is running out of memory.
 pub fn seek_from(
     alloc: Global,
     start: &Start,
@@ -150,7 +150,7 @@ pub fn seek_from(
 
 /// A solution on these arcs alone, with the flows of the windows' arcs at which no balance changes, if one is found in time.
 ///
-/// The arcs of claims may count more than claims do. Nothing is proved of it. An error is want of memory.
+/// The arcs of claims may count more than claims do. Nothing is proved of it. The only error is running out of memory.
 pub fn seek_alone(
     alloc: Global,
     edges: &[Edge],
@@ -225,7 +225,7 @@ fn ends_lightly(
 
 /// A solution, if one is found in so many turns, each of twice as much work as the one before.
 ///
-/// Nothing is proved of it. An error is want of memory.
+/// Nothing is proved of it. The only error is running out of memory.
 pub fn seek_solution(
     alloc: Global,
     start: &Start,

@@ -43,7 +43,7 @@ impl Arc {
     }
 }
 
-/// The arcs with these flows. An error is want of memory.
+/// The arcs with these flows. The only error is running out of memory.
 pub fn arcs_of(alloc: Global, edges: &[Edge], flows: &[u64]) -> Result<Vec<Arc>, AllocError> {
     let mut arcs = Vec::with_capacity(alloc, edges.len())?;
     for (place, edge) in edges.iter().enumerate() {

@@ -14,11 +14,11 @@ use Rattle.claim_history.specs.declared.entry.Reply.{Reply}
 use Rattle.claim_history.specs.declared.entry.Reply.TheVariants as reply
 use Rattle.claim_history.specs.declared.entry.Why.TheVariants as why
 use Rattle.claim_history.specs.Acts.{is_valid}
-use Rattle.claim_history.specs.History.{AreValid, IsLegal, is_accepted, is_no_refusal}
+use Rattle.claim_history.specs.History.{AreValidEntries, IsLegalPool, is_accepted, is_no_refusal}
 use Rattle.claim_history.proofs.Histories.{is_of_rounds}
 use Rattle.claim_history.specs.Laws.{GreatestLaw}
 use Rattle.claim_history.specs.Needs.{is_of_device}
-use Rattle.claim_history.specs.Rounds.{cuts_after}
+use Rattle.claim_history.specs.Rounds.{pool_cuts_after}
 use Rattle.claim_history.specs.PoolLaws.{MainLaw}
 use Rattle.claim_history.specs.Pools as pools
 use Rattle.claim_history.specs.Pools.{entries_in, entries_of, main_pool, member_of, replay_of}
@@ -51,13 +51,13 @@ batch_is firms claims seed = refl
 -- the entries before the Close, whose cut is the trial's, and what the Close did
 module _ (firms claims seed : ℕ) (before : List Entry) (is_cut : cut_after before ≡ trial_cut firms claims seed) (of : All (λ e. is_of_rounds e.act ≡ false) before) (greatest : GreatestLaw) (formed : FormedLaw) where
   -- the Close was accepted
-  not_refused : (close : Entry) (later : List Entry) → close.act ≡ close_act → IsLegal (before ++ close ∷ later) → list_any has_device_reply (before ++ close ∷ later) ≡ false → is_accepted close ≡ false → ⊥
+  not_refused : (close : Entry) (later : List Entry) → close.act ≡ close_act → IsLegalPool (before ++ close ∷ later) → list_any has_device_reply (before ++ close ∷ later) ≡ false → is_accepted close ≡ false → ⊥
   not_refused close later asks legal none refused = true≢false (sym (ap is_no_refusal (opens_first before later close asks legal none of)) ∙ refused)
 
-  module _ (close publication : Entry) (asks : close.act ≡ close_act) (legal : IsLegal (before ++ close ∷ publication ∷ [])) (valid : AreValid before)
+  module _ (close publication : Entry) (asks : close.act ≡ close_act) (legal : IsLegalPool (before ++ close ∷ publication ∷ [])) (valid : AreValidEntries before)
       (none : list_any has_device_reply (before ++ close ∷ publication ∷ []) ≡ false) where
     published : (number : ℕ) (outcome : OutcomeView) → publication.act ≡ act.Publish number outcome → (total : ℕ) → publication.reply ≡ reply.Published total
-        → HasRound (trial_cut firms claims seed) (before ++ close ∷ publication ∷ []) (cuts_after 0 (before ++ close ∷ publication ∷ []))
+        → HasRound (trial_cut firms claims seed) (before ++ close ∷ publication ∷ []) (pool_cuts_after 0 (before ++ close ∷ publication ∷ []))
     published number outcome asked total told = record {
       outcome = outcome;
       ends = record { front = before ++ close ∷ []; publication = publication; number = number; parts = sym (append_assoc before (close ∷ []) (publication ∷ [])); asks = asked };
@@ -67,21 +67,21 @@ module _ (firms claims seed : ℕ) (before : List Entry) (is_cut : cut_after bef
     }
 
   -- what came of the Close
-  of_last : (whole last : List PoolEntry) (request : Request) → request.act ≡ close_act → (IsOne request last ⊎ IsRound whole request last) → IsLegal (before ++ entries_of last) → AreValid before
-      → list_any has_device_reply (before ++ entries_of last) ≡ false → HasRound (trial_cut firms claims seed) (before ++ entries_of last) (cuts_after 0 (before ++ entries_of last))
+  of_last : (whole last : List PoolEntry) (request : Request) → request.act ≡ close_act → (IsOne request last ⊎ IsRound whole request last) → IsLegalPool (before ++ entries_of last) → AreValidEntries before
+      → list_any has_device_reply (before ++ entries_of last) ≡ false → HasRound (trial_cut firms claims seed) (before ++ entries_of last) (pool_cuts_after 0 (before ++ entries_of last))
   of_last whole last request closes (inl one) legal valid none =
       let asks : one.call.entry.act ≡ close_act = one.asks.asks ∙ closes in
       let refused : is_accepted one.call.entry ≡ false = subst (λ (a : Act). EndsAtOnce a one.call) closes one.ends in
-      absurd (not_refused one.call.entry [] asks (subst (λ (l : List PoolEntry). IsLegal (before ++ entries_of l)) one.is legal) (subst (λ (l : List PoolEntry). list_any has_device_reply (before ++ entries_of l) ≡ false) one.is none) refused)
+      absurd (not_refused one.call.entry [] asks (subst (λ (l : List PoolEntry). IsLegalPool (before ++ entries_of l)) one.is legal) (subst (λ (l : List PoolEntry). list_any has_device_reply (before ++ entries_of l) ≡ false) one.is none) refused)
   of_last whole last request closes (inr round) legal valid none =
       let close = round.close.entry in
       let publication = round.publication.entry in
       let asks : close.act ≡ close_act = round.closes.call.asks ∙ closes in
-      let legal_round = subst (λ (l : List PoolEntry). IsLegal (before ++ entries_of l)) round.is legal in
+      let legal_round = subst (λ (l : List PoolEntry). IsLegalPool (before ++ entries_of l)) round.is legal in
       let none_round = subst (λ (l : List PoolEntry). list_any has_device_reply (before ++ entries_of l) ≡ false) round.is none in
       let none_last = none_in_first publication [] (none_in_first close (publication ∷ []) (none_in_parts before (close ∷ publication ∷ []) none_round).1).1 in
       let told = ended publication.reply round.publishes.ends none_last.0 in
-      subst (λ (l : List PoolEntry). HasRound (trial_cut firms claims seed) (before ++ entries_of l) (cuts_after 0 (before ++ entries_of l))) (sym round.is)
+      subst (λ (l : List PoolEntry). HasRound (trial_cut firms claims seed) (before ++ entries_of l) (pool_cuts_after 0 (before ++ entries_of l))) (sym round.is)
       (published close publication asks legal_round valid none_round round.round round.publishes.outcome round.publishes.asks told.0 told.1)
 
 -- the entries of the members before the Close have the trial's cut
@@ -103,10 +103,10 @@ has_round firms claims seed answers added served memory full legal valid none la
     let parts : entries ≡ entries_of p.before ++ entries_of p.last = ap entries_of p.parts ∙ map-append (λ (m : PoolEntry). m.entry) p.before p.last in
     let cut = before_cut firms claims seed p.before p.calls (before_main acts p.before p.calls) (legal_front p.before p.last (subst pools.IsLegal p.parts legal)) (none_in_front p.before p.last (subst (λ (l : List PoolEntry). list_any tells_of_device l ≡ false) p.parts none)) in
     let of = entries_of_none p.before acts p.calls (acts_of_none firms claims seed) in
-    let legal_entries : IsLegal entries = (law.legal entries).0 (subst pools.IsLegal (sym main) legal) in
-    let round = of_last firms claims seed (entries_of p.before) cut of greatest formed added p.last p.request p.closes p.ends (subst IsLegal parts legal_entries)
-    (All-first (λ (e : Entry). is_valid e.act ≡ true) (entries_of p.before) (entries_of p.last) (subst AreValid parts valid)) (subst (λ (l : List Entry). list_any has_device_reply l ≡ false) parts (none_of_entries added none)) in
-    let told : HasRound (trial_cut firms claims seed) entries (cuts_after 0 entries) = subst (λ (l : List Entry). HasRound (trial_cut firms claims seed) l (cuts_after 0 l)) (sym parts) round in
+    let legal_entries : IsLegalPool entries = (law.legal entries).0 (subst pools.IsLegal (sym main) legal) in
+    let round = of_last firms claims seed (entries_of p.before) cut of greatest formed added p.last p.request p.closes p.ends (subst IsLegalPool parts legal_entries)
+    (All-first (λ (e : Entry). is_valid e.act ≡ true) (entries_of p.before) (entries_of p.last) (subst AreValidEntries parts valid)) (subst (λ (l : List Entry). list_any has_device_reply l ≡ false) parts (none_of_entries added none)) in
+    let told : HasRound (trial_cut firms claims seed) entries (pool_cuts_after 0 entries) = subst (λ (l : List Entry). HasRound (trial_cut firms claims seed) l (pool_cuts_after 0 l)) (sym parts) round in
     let in_main : entries ≡ entries_in main_pool added = sym (law.same entries) ∙ ap (entries_in main_pool) main in
-    let cuts : cuts_after 0 entries ≡ rounds.cuts_after 0 added = main_cuts law entries ∙ ap (rounds.cuts_after 0) main in
+    let cuts : pool_cuts_after 0 entries ≡ rounds.cuts_after 0 added = main_cuts law entries ∙ ap (rounds.cuts_after 0) main in
     subst (λ (l : List Entry). HasRound (trial_cut firms claims seed) l (rounds.cuts_after 0 added)) in_main (subst (HasRound (trial_cut firms claims seed) entries) cuts told)

@@ -12,7 +12,7 @@ use Rattle.claim_history.specs.States.{state}
 use Rattle.claim_history.specs.PoolLaws.{MainLaw}
 use Rattle.claim_history.specs.Pools.{IsLegal, IsLegalPast, call_of, entries_in, entries_of, is_in, main_pool, member_of}
 use Rattle.claim_history.specs.PoolRounds as rounds
-use Rattle.claim_history.specs.Rounds.{cut_published, cuts_after, cuts_of, past_cuts}
+use Rattle.claim_history.specs.Rounds.{cut_published, pool_cuts_after, pool_cuts_of, past_pool_cuts}
 use Rattle.claim_history.proofs.Pools.{past_own}
 use Rattle.claim_history.proofs.Published.{past_cuts_more}
 use Rattle.trial_round.specs.Input.{call_by_one}
@@ -49,14 +49,14 @@ reversed (e ∷ entries) =
     ∙ sym (reverse-append (member_of main_pool e ∷ []) (in_main entries))
 
 module _ (law : MainLaw) where
-  past_main : (past : List Entry) → past_cuts past ≡ rounds.past_cuts (in_main past)
+  past_main : (past : List Entry) → past_pool_cuts past ≡ rounds.past_cuts (in_main past)
   past_main [] = refl
   past_main (e ∷ past) =
       past_cuts_more e past
       ∙ ap₂ (λ (es : List Entry) (cuts : List CutView). cut_published (state es).open_round e.reply ++ cuts) (sym (law.same past)) (past_main past)
 
-  cuts_main : (entries : List Entry) → cuts_of entries ≡ rounds.cuts_of (in_main entries)
+  cuts_main : (entries : List Entry) → pool_cuts_of entries ≡ rounds.cuts_of (in_main entries)
   cuts_main entries = ap reverse (past_main (reverse entries) ∙ ap rounds.past_cuts (reversed entries))
 
-  pub main_cuts : (entries : List Entry) → cuts_after 0 entries ≡ rounds.cuts_after 0 (in_main entries)
+  pub main_cuts : (entries : List Entry) → pool_cuts_after 0 entries ≡ rounds.cuts_after 0 (in_main entries)
   main_cuts entries = ap (drop 0) (cuts_main entries)

@@ -25,7 +25,7 @@ opened_empty seen old d is tells reads =
     let held = (is.found.reading tells).0 in
     is.history ∙ ap ended (no_records is.records (held_short (seen old).reads (bodies_of is.records) (omega (arith, ap length reads)) held))
 
--- ---- and none is refused but for want of memory
+-- ---- and none is refused unless memory runs out
 
 no_first : (before after : List Record) (r : Record) → [] ≡ before ++ r ∷ after → ⊥
 no_first [] after r is = cc is

@@ -16,9 +16,9 @@ use Rattle.claim_history.specs.declared.entry.Reply.{Reply}
 use Rattle.claim_history.specs.declared.entry.Reply.TheVariants as reply
 use Rattle.claim_history.specs.Cut.{cut_of}
 use Rattle.claim_history.specs.Facts.{Settled}
-use Rattle.claim_history.specs.History.{IsLegal, IsLegalPast, answer, close_answer, last_count}
+use Rattle.claim_history.specs.History.{IsLegalPool, IsLegalPoolPast, answer, close_answer, last_count}
 use Rattle.claim_history.specs.Laws.{GreatestLaw, IsGreatestPublication}
-use Rattle.claim_history.specs.Rounds.{cut_published, cuts_after, cuts_of}
+use Rattle.claim_history.specs.Rounds.{cut_published, pool_cuts_after, pool_cuts_of}
 use Rattle.claim_history.specs.States.{OpenRound, State, after, state, state_of}
 use Rattle.claim_history.proofs.Histories.{answer_leaves, is_of_rounds, reply_leaves}
 use Rattle.claim_history.proofs.Pasts.{all_reverse, legal_first}
@@ -36,14 +36,14 @@ pub record IsFresh (s : State) : Type 0 where
   pub openings : s.openings ≡ 0
   pub rounds : s.ledger.rounds ≡ []
 
-fresh_past : (past : List Entry) → IsLegalPast past → All (λ e. is_of_rounds e.act ≡ false) past → IsFresh (state past)
+fresh_past : (past : List Entry) → IsLegalPoolPast past → All (λ e. is_of_rounds e.act ≡ false) past → IsFresh (state past)
 fresh_past [] legal of = record { none_open = refl; openings = refl; rounds = refl }
 fresh_past (e ∷ past) legal of =
     let was = fresh_past past legal.1 (All-tail (λ (x : Entry). is_of_rounds x.act ≡ false) e past of) in
     reply_leaves IsFresh (state past) (last_count past) e.caller e.act e.reply legal.0 was
     (answer_leaves IsFresh (state past) e.caller e.act (All-head (λ (x : Entry). is_of_rounds x.act ≡ false) e past of) was (record { none_open = was.none_open; openings = was.openings; rounds = was.rounds }))
 
-pub fresh_history : (history : List Entry) → IsLegal history → All (λ e. is_of_rounds e.act ≡ false) history → IsFresh (state_of history)
+pub fresh_history : (history : List Entry) → IsLegalPool history → All (λ e. is_of_rounds e.act ≡ false) history → IsFresh (state_of history)
 fresh_history history legal of = fresh_past (reverse history) legal (all_reverse (λ (e : Entry). is_of_rounds e.act ≡ false) history of)
 
 -- ---- the opening
@@ -58,7 +58,7 @@ fresh_opens : (s : State) (caller : ℕ) → IsFresh s → (after caller close_a
 fresh_opens s caller fresh = ap (λ (n : ℕ). Some (record { owner = caller; horizon = HORIZON_DAY; cut = cut_of (n + 1) s.ledger Plain HORIZON_DAY })) fresh.openings
 
 -- a Close after acts that are not of rounds opens the first round
-pub opens_first : (before later : List Entry) (close : Entry) → close.act ≡ close_act → IsLegal (before ++ close ∷ later) → list_any has_device_reply (before ++ close ∷ later) ≡ false → All (λ e. is_of_rounds e.act ≡ false) before
+pub opens_first : (before later : List Entry) (close : Entry) → close.act ≡ close_act → IsLegalPool (before ++ close ∷ later) → list_any has_device_reply (before ++ close ∷ later) ≡ false → All (λ e. is_of_rounds e.act ≡ false) before
     → close.reply ≡ reply.Opened 1
 opens_first before later close asks legal none of =
     let first = legal_first before later close legal in
@@ -72,8 +72,8 @@ cut_after before = cut_of 1 (state_of before).ledger Plain HORIZON_DAY
 
 -- the entries before a round, its opening and its publication
 module _ (before : List Entry) (close publication : Entry) (asks : close.act ≡ close_act)
-    (legal : IsLegal (before ++ close ∷ publication ∷ [])) (none : list_any has_device_reply (before ++ close ∷ publication ∷ []) ≡ false) (of : All (λ e. is_of_rounds e.act ≡ false) before) where
-  pub legal_before : IsLegal before
+    (legal : IsLegalPool (before ++ close ∷ publication ∷ [])) (none : list_any has_device_reply (before ++ close ∷ publication ∷ []) ≡ false) (of : All (λ e. is_of_rounds e.act ≡ false) before) where
+  pub legal_before : IsLegalPool before
   legal_before = (legal_first before (publication ∷ []) close legal).1
 
   fresh : IsFresh (state_of before)
@@ -96,7 +96,7 @@ module _ (before : List Entry) (close publication : Entry) (asks : close.act ≡
 
   module _ (total : ℕ) (published : publication.reply ≡ reply.Published total) where
     found : GreatestLaw → IsGreatestPublication (before ++ close ∷ []) publication total
-    found law = law (before ++ close ∷ []) [] publication total (subst IsLegal (sym whole) legal) published
+    found law = law (before ++ close ∷ []) [] publication total (subst IsLegalPool (sym whole) legal) published
 
     cut_found : (law : GreatestLaw) → (found law).round.cut ≡ (cut_after before)
     cut_found law = ap (λ (r : OpenRound). r.cut) (same_open (found law).round (round_of close.caller (state_of before)) (sym (found law).was_open ∙ was_open))
@@ -108,15 +108,15 @@ module _ (before : List Entry) (close publication : Entry) (asks : close.act ≡
         subst (λ (o : OutcomeView). Proves (obligations (cut_after before)) o.discharges o.prices) same
         (subst (λ (c : CutView). Proves (obligations c) (found law).outcome.discharges (found law).outcome.prices) (cut_found law) (found law).proved)
 
-    none_before : cuts_after 0 before ≡ []
-    none_before = ap (drop (length (cuts_of (take 0 before)))) (ap (λ (rounds : List Settled). reverse (map (λ r. r.cut) rounds)) fresh.rounds) ∙ drop-nil (length (cuts_of (take 0 before)))
+    none_before : pool_cuts_after 0 before ≡ []
+    none_before = ap (drop (length (pool_cuts_of (take 0 before)))) (ap (λ (rounds : List Settled). reverse (map (λ r. r.cut) rounds)) fresh.rounds) ∙ drop-nil (length (pool_cuts_of (take 0 before)))
 
-    none_opened : cuts_after 0 (before ++ close ∷ []) ≡ []
+    none_opened : pool_cuts_after 0 (before ++ close ∷ []) ≡ []
     none_opened = cuts_more 0 before close (omega arith) ∙ ap₂ (λ (l : List CutView) (r : Reply). l ++ cut_published (state_of before).open_round r) none_before opened
 
-    pub one_cut : cuts_after 0 (before ++ close ∷ publication ∷ []) ≡ (cut_after before) ∷ []
+    pub one_cut : pool_cuts_after 0 (before ++ close ∷ publication ∷ []) ≡ (cut_after before) ∷ []
     one_cut =
-        ap (cuts_after 0) (sym whole)
+        ap (pool_cuts_after 0) (sym whole)
         ∙ cuts_more 0 (before ++ close ∷ []) publication (omega arith)
         ∙ ap (λ (l : List CutView). l ++ cut_published (state_of (before ++ close ∷ [])).open_round publication.reply) none_opened
         ∙ ap₂ cut_published was_open published

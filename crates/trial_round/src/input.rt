@@ -117,7 +117,8 @@ fn write_filed(text: &mut Vec<u8>, claim: DrawnClaim) -> Result<(), AllocError>
     requires key { is_key claim.key ≡ true }
     requires debtor { is_name claim.debtor ≡ true }
     requires amount { is_claim_amount claim.amount ≡ true }
-    ensures { OnOk result (text.new.items ≡ text.old.items ++ request_line 1 main_pool (acts.File claim.key claim.debtor claim.amount DUE_DAY)
+    ensures { OnOk result (text.new.items ≡ text.old.items
+        ++ request_line 1 main_pool (acts.File claim.key claim.debtor claim.amount DUE_DAY)
         ++ request_line 1 main_pool (acts.Confirm claim.key claim.debtor None)) }
 {
     let Some(due) = Day::of_number(DUE_DAY) else {
@@ -200,7 +201,7 @@ fn write_close(text: &mut Vec<u8>) -> Result<(), AllocError>
     write_line(text, &close)
 }
 
-/// The text of the input. The one error is want of memory.
+/// The text of the input. The only error is running out of memory.
 pub fn trial_text(alloc: Global, firms: u32, claims: u32, seed: u32) -> Result<Vec<u8>, AllocError>
     requires { IsTrialSize firms claims }
     ensures { IfOk result (λ text. text.items ≡ trial_input firms claims seed) }
@@ -213,7 +214,7 @@ pub fn trial_text(alloc: Global, firms: u32, claims: u32, seed: u32) -> Result<V
     Ok(text)
 }
 
-/// The one batch of the input. The one error is want of memory.
+/// The one batch of the input. The only error is running out of memory.
 pub fn trial_batch(alloc: Global, firms: u32, claims: u32, seed: u32) -> Result<Batch, AllocError>
     requires { IsTrialSize firms claims }
     ensures { IfOk result (λ batch. batch ≡ trial_batch firms claims seed) }

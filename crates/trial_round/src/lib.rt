@@ -24,7 +24,7 @@ use std::thread::Threads;
 
 /// Draws a round of 2 to 16,384 firms and 1 to 262,144 claims from a seed, serves it, and gives the line that tells of it, with its
 /// end: `trial firms FIRMS claims CLAIMS seed SEED cut C parties N total T yes`. C and N are the claims and the parties of the
-/// round's cut, and T is the greatest total that a lawful set-off of the cut has. The one error is want of memory.
+/// round's cut, and T is the greatest total that a lawful set-off of the cut has. The only error is running out of memory.
 pub fn trial<R: Threads + Wait + Sync>(
     rt: &R,
     alloc: Global,

@@ -21,7 +21,7 @@ fn write_count(buffer: &mut Vec<u8>, words: &[u8], number: u32)
     write_whole(buffer, u64::from(number));
 }
 
-/// The line that tells of a trial, with its end. The one error is want of memory.
+/// The line that tells of a trial, with its end. The only error is running out of memory.
 pub fn trial_line(
     alloc: Global,
     firms: u32,

@@ -51,7 +51,7 @@ fn last_outcome(history: &[Entry]) -> &Outcome
     }
 }
 
-// What the round of a cut came to, with an outcome that is proved for it. The one error is want of memory.
+// What the round of a cut came to, with an outcome that is proved for it. The only error is running out of memory.
 fn sums_of(alloc: Global, cut: &Cut, outcome: &Outcome) -> Result<Sums, AllocError>
     requires formed { WellFormed cut.now }
     requires proved { Proves (obligations cut.now) outcome.now.discharges outcome.now.prices }
@@ -82,7 +82,7 @@ fn opening_error(cause: DeskCause) -> AllocError
     }
 }
 
-// A desk on an empty disk in memory. The one error is want of memory.
+// A desk on an empty disk in memory. The only error is running out of memory.
 fn open_desk(alloc: Global) -> Result<Desk<MemoryDisk>, AllocError>
     ensures { IfOk result (λ desk. desk.history ≡ []) }
 {
@@ -93,7 +93,7 @@ fn open_desk(alloc: Global) -> Result<Desk<MemoryDisk>, AllocError>
     }
 }
 
-// What the round of a trial came to, which the entries of its pool end with. The one error is want of memory.
+// What the round of a trial came to, which the entries of its pool end with. The only error is running out of memory.
 fn sums_of_round(
     alloc: Global,
     firms: u32,
@@ -108,8 +108,8 @@ fn sums_of_round(
     sums_of(alloc, &rounds[0], last_outcome(history))
 }
 
-// What the round of a trial came to whose lines were served. The one error is want of memory: a line was answered so, or an entry
-// tells of the disk, whose faults are refused growths. No line is full, since a trial is within the bound.
+// What the round of a trial came to whose lines were served. The only error is running out of memory: a line was answered so, or an
+// entry tells of the disk, whose faults are refused growths. No line is full, since a trial is within the bound.
 fn judge(
     alloc: Global,
     firms: u32,
@@ -138,7 +138,7 @@ fn judge(
     sums_of_round(alloc, firms, claims, seed, history, rounds)
 }
 
-// Serves a batch on a desk of its own, whose disk is empty and in memory. The one error is want of memory.
+// Serves a batch on a desk of its own, whose disk is empty and in memory. The only error is running out of memory.
 fn serve_alone<R: Threads + Wait + Sync>(
     rt: &R,
     alloc: Global,
@@ -159,7 +159,7 @@ fn serve_alone<R: Threads + Wait + Sync>(
     Ok(end)
 }
 
-// What the round of a trial came to that was served so. The one error is want of memory.
+// What the round of a trial came to that was served so. The only error is running out of memory.
 fn judge_end(
     alloc: Global,
     firms: u32,
@@ -181,7 +181,7 @@ fn judge_end(
     }
 }
 
-/// Draws the input of a trial, serves it on a desk on a disk in memory, and judges its round. The one error is want of memory.
+/// Draws the input of a trial, serves it on a desk on a disk in memory, and judges its round. The only error is running out of memory.
 pub fn serve_trial<R: Threads + Wait + Sync>(
     rt: &R,
     alloc: Global,

@@ -11,7 +11,7 @@ use Rattle.printed_text.specs.claim_history.specs.declared.entry.Entry.{Entry}
 use Rattle.printed_text.specs.claim_history.specs.declared.fact.AccountFact.{AccountFact}
 use Rattle.printed_text.specs.claim_history.specs.declared.fact.ClaimFact.{ClaimFact}
 use Rattle.printed_text.specs.claim_history.specs.Facts.{Filing, Ledger, account_facts, claim_fact, claim_facts}
-use Rattle.printed_text.specs.claim_history.specs.History.{AreValid, IsLegal}
+use Rattle.printed_text.specs.claim_history.specs.History.{AreValidEntries, IsLegalPool}
 use Rattle.printed_text.specs.claim_history.specs.Cut.{cut_claim, due_claims, firms_of}
 use Rattle.printed_text.specs.claim_book.specs.Book.{ledger_of}
 use Rattle.printed_text.specs.round_cut.specs.CutLaw.{BuiltCutLaw}
@@ -57,7 +57,7 @@ are_weights l kind today =
 
 -- ---- the cut and the text
 
-pub cut_is : BuiltCutLaw → (history : List Entry) → IsLegal history → AreValid history → (kind : Kind) (today : ℕ) (claims : List ClaimFact) (accounts : List AccountFact) (cut : CutView)
+pub cut_is : BuiltCutLaw → (history : List Entry) → IsLegalPool history → AreValidEntries history → (kind : Kind) (today : ℕ) (claims : List ClaimFact) (accounts : List AccountFact) (cut : CutView)
     → claims ≡ claim_facts (ledger_of history) → accounts ≡ account_facts (ledger_of history) → cut ≡ cut_of_facts 0 claims accounts kind today → cut ≡ cut_by (ledger_of history) kind today
 cut_is law history legal valid kind today claims accounts cut of_claims of_accounts made =
     made ∙ ap₂ (λ (c : List ClaimFact) (a : List AccountFact). cut_of_facts 0 c a kind today) of_claims of_accounts ∙ law history 0 kind today legal valid

@@ -52,7 +52,7 @@ fn put_claims(
     Ok(())
 }
 
-/// The text of a weighted set-off of a cut. An error is want of memory.
+/// The text of a weighted set-off of a cut. The only error is running out of memory.
 pub(crate) fn text_of(
     alloc: Global,
     cut: &Cut,

@@ -14,7 +14,7 @@ fn weight_at(today: Day, due: Day) -> u32
     1 + (days / 30).min(8)
 }
 
-/// The weights of the claims that are due by a day, in their order. An error is want of memory.
+/// The weights of the claims that are due by a day, in their order. The only error is running out of memory.
 pub(crate) fn weights_of(
     alloc: Global,
     claims: &[ClaimFact],

@@ -12,7 +12,7 @@ use std::alloc::{AllocError, Global};
 /// A lawful set-off of the cut whose weighted total is greatest, in cents, with prices that prove it.
 ///
 /// The cut is well formed, and there is one weight for each claim, from 1 to 9. The prices of n parties are from -9n to 9n.
-/// The one error is want of memory.
+/// The only error is running out of memory.
 pub fn solve_weighted(alloc: Global, cut: &Cut, weights: &[u32]) -> Result<Outcome, AllocError>
     requires cut { WellFormed cut.now }
     requires weights { AreWeights (obligations cut.now) weights.now }

@@ -1,7 +1,7 @@
 use Rattle.std.proofs.Common.{◌∙◌, List, subst, sym}
 use Rattle.printed_text.specs.claim_history.specs.declared.call.PoolEntry.{PoolEntry}
 use Rattle.printed_text.specs.claim_history.specs.declared.entry.Entry.{Entry}
-use Rattle.printed_text.specs.claim_history.specs.History.{MayFollow}
+use Rattle.printed_text.specs.claim_history.specs.History.{MayFollowInPool}
 use Rattle.printed_text.specs.claim_history.specs.Pools.{member_of}
 use Rattle.printed_text.proofs.Members.{act_valid}
 use Rattle.journal_summaries.proofs.Register.{may_follow, other_entries, other_written, own_entries, own_written}
@@ -15,7 +15,7 @@ put_member-requires-clause-valid c =
 pub put_member-requires-clause-next : goal.put_member-requires-clause-next
 put_member-requires-clause-next c =
     let m : PoolEntry = member_of c.member-named.result.0 c.member-named.result.1.now in
-    subst (λ (es : List Entry). MayFollow es m.entry) (sym c.loop-place.invariant.book)
+    subst (λ (es : List Entry). MayFollowInPool es m.entry) (sym c.loop-place.invariant.book)
     (may_follow c.args.books.now.members c.args.pool.now c.loop-place.place m c.member-named.ensures (sym c.eq.ensures ∙ c.if-eq.true) c.len-len.ensures.legal)
 
 pub loop-place-preserved : goal.loop-place-preserved

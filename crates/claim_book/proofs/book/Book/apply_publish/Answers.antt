@@ -2,7 +2,7 @@ use Rattle.std.proofs.Common.{◌<◌, ◌≤◌, ◌++◌, ◌∷◌, [], lengt
 use Rattle.setoff_model.specs.declared.limits.TheConstants.{SUM_LIMIT}
 use Rattle.setoff_model.specs.Setoff.{total_of}
 use Rattle.round_cut.specs.claim_history.specs.States.{state_of}
-use Rattle.round_cut.specs.claim_history.specs.History.{MayFollow}
+use Rattle.round_cut.specs.claim_history.specs.History.{MayFollowInPool}
 use Rattle.claim_book.specs.Book.{BookView}
 use Rattle.claim_book.proofs.Parts.{refused_grows, are_accounts, settles, round_there}
 use Rattle.claim_book.proofs.Kept.{one_needed, keeps_room, need_of_other}
@@ -10,7 +10,7 @@ use Rattle.claim_book.proofs.book.Book.apply_publish.Goals as goal
 
 pub invariant_of-self : goal.invariant_of-self
 invariant_of-self c =
-    let next = subst (λ (b : BookView). MayFollow b.history c.args.entry) (sym c.self.view_is) c.requires.next in
+    let next = subst (λ (b : BookView). MayFollowInPool b.history c.args.entry) (sym c.self.view_is) c.requires.next in
     rw c.put_entry.ensures.items (refused_grows _ c.args.entry c.self.invariant c.requires.valid (sym c.accepted.ensures ∙ c.if-not-accepted.true) next)
 
 pub put_entry-requires : goal.put_entry-requires
@@ -21,56 +21,56 @@ put_entry-requires c =
 
 pub discharge-requires-2-clause-small : goal.discharge-requires-2-clause-small
 discharge-requires-2-clause-small c =
-    let next = subst (λ (b : BookView). MayFollow b.history c.args.entry) (sym c.self.view_is) c.requires.next in
+    let next = subst (λ (b : BookView). MayFollowInPool b.history c.args.entry) (sym c.self.view_is) c.requires.next in
     let is = settles _ c.args.entry c.outcome_in.ensures.0 c.outcome_in.result.now c.take_cut-cut.result c.self.invariant c.requires.valid (sym c.accepted.ensures ∙ c.if-not-accepted.false) c.outcome_in.ensures.1 next c.take_cut-cut.ensures.cut in
     rw c.discharges-discharges.ensures (are_accounts _ is.grows).small
 
 pub take_cut-cut-requires : goal.take_cut-cut-requires
 take_cut-cut-requires c =
-    let next = subst (λ (b : BookView). MayFollow b.history c.args.entry) (sym c.self.view_is) c.requires.next in
+    let next = subst (λ (b : BookView). MayFollowInPool b.history c.args.entry) (sym c.self.view_is) c.requires.next in
     round_there _ c.args.entry c.self.invariant c.requires.publishes (sym c.accepted.ensures ∙ c.if-not-accepted.false) next
 
 pub discharge-requires-clause-one_each : goal.discharge-requires-clause-one_each
 discharge-requires-clause-one_each c =
-    let next = subst (λ (b : BookView). MayFollow b.history c.args.entry) (sym c.self.view_is) c.requires.next in
+    let next = subst (λ (b : BookView). MayFollowInPool b.history c.args.entry) (sym c.self.view_is) c.requires.next in
     let asks = c.outcome_in.ensures.1 in
     let is = settles _ c.args.entry c.outcome_in.ensures.0 c.outcome_in.result.now c.take_cut-cut.result c.self.invariant c.requires.valid (sym c.accepted.ensures ∙ c.if-not-accepted.false) asks next c.take_cut-cut.ensures.cut in
     ap length c.discharges-discharges.ensures ∙ is.one_each
 
 pub discharge-requires-2-clause-one_each : goal.discharge-requires-2-clause-one_each
 discharge-requires-2-clause-one_each c =
-    let next = subst (λ (b : BookView). MayFollow b.history c.args.entry) (sym c.self.view_is) c.requires.next in
+    let next = subst (λ (b : BookView). MayFollowInPool b.history c.args.entry) (sym c.self.view_is) c.requires.next in
     let asks = c.outcome_in.ensures.1 in
     let is = settles _ c.args.entry c.outcome_in.ensures.0 c.outcome_in.result.now c.take_cut-cut.result c.self.invariant c.requires.valid (sym c.accepted.ensures ∙ c.if-not-accepted.false) asks next c.take_cut-cut.ensures.cut in
     ap length c.discharges-discharges.ensures ∙ is.one_each
 
 pub discharge-requires-2-clause-total : goal.discharge-requires-2-clause-total
 discharge-requires-2-clause-total c =
-    let next = subst (λ (b : BookView). MayFollow b.history c.args.entry) (sym c.self.view_is) c.requires.next in
+    let next = subst (λ (b : BookView). MayFollowInPool b.history c.args.entry) (sym c.self.view_is) c.requires.next in
     let is = settles _ c.args.entry c.outcome_in.ensures.0 c.outcome_in.result.now c.take_cut-cut.result c.self.invariant c.requires.valid (sym c.accepted.ensures ∙ c.if-not-accepted.false) c.outcome_in.ensures.1 next c.take_cut-cut.ensures.cut in
     subst (λ d. total_of d < SUM_LIMIT) (sym c.discharges-discharges.ensures) is.total
 
 pub invariant_of-self-2 : goal.invariant_of-self-2
 invariant_of-self-2 c =
-    let next = subst (λ (b : BookView). MayFollow b.history c.args.entry) (sym c.self.view_is) c.requires.next in
+    let next = subst (λ (b : BookView). MayFollowInPool b.history c.args.entry) (sym c.self.view_is) c.requires.next in
     let is = settles _ c.args.entry c.outcome_in.ensures.0 c.outcome_in.result.now c.take_cut-cut.result c.self.invariant c.requires.valid (sym c.accepted.ensures ∙ c.if-not-accepted.false) c.outcome_in.ensures.1 next c.take_cut-cut.ensures.cut in
     rw (c.put_entry-2.ensures.items, c.unmark.ensures.facts, c.unmark.ensures.marks, c.unmark-2.ensures.facts, c.unmark-2.ensures.marks, c.discharge.ensures.facts, c.discharge-2.ensures.facts, c.take_cut-cut.ensures.none, c.discharges-discharges.ensures) is.grows
 
 pub returns-clause-cut : goal.returns-clause-cut
 returns-clause-cut c =
-    let next = subst (λ (b : BookView). MayFollow b.history c.args.entry) (sym c.self.view_is) c.requires.next in
+    let next = subst (λ (b : BookView). MayFollowInPool b.history c.args.entry) (sym c.self.view_is) c.requires.next in
     let accepted = sym c.accepted.ensures ∙ c.if-not-accepted.false in
     let is = settles _ c.args.entry c.outcome_in.ensures.0 c.outcome_in.result.now c.take_cut-cut.result c.self.invariant c.requires.valid accepted c.outcome_in.ensures.1 next c.take_cut-cut.ensures.cut in
     (accepted, (is.round, ap (λ (b : BookView). (state_of b.history).open_round) (sym c.self.view_is) ∙ is.was_open, is.cut_is))
 
 pub discharge-requires-clause-formed : goal.discharge-requires-clause-formed
 discharge-requires-clause-formed c =
-    let next = subst (λ (b : BookView). MayFollow b.history c.args.entry) (sym c.self.view_is) c.requires.next in
+    let next = subst (λ (b : BookView). MayFollowInPool b.history c.args.entry) (sym c.self.view_is) c.requires.next in
     (settles _ c.args.entry c.outcome_in.ensures.0 c.outcome_in.result.now c.take_cut-cut.result c.self.invariant c.requires.valid (sym c.accepted.ensures ∙ c.if-not-accepted.false) c.outcome_in.ensures.1 next c.take_cut-cut.ensures.cut).formed
 
 pub discharge-requires-2-clause-formed : goal.discharge-requires-2-clause-formed
 discharge-requires-2-clause-formed c =
-    let next = subst (λ (b : BookView). MayFollow b.history c.args.entry) (sym c.self.view_is) c.requires.next in
+    let next = subst (λ (b : BookView). MayFollowInPool b.history c.args.entry) (sym c.self.view_is) c.requires.next in
     (settles _ c.args.entry c.outcome_in.ensures.0 c.outcome_in.result.now c.take_cut-cut.result c.self.invariant c.requires.valid (sym c.accepted.ensures ∙ c.if-not-accepted.false) c.outcome_in.ensures.1 next c.take_cut-cut.ensures.cut).formed
 
 pub returns-then-not-accepted-clause-history : goal.returns-then-not-accepted-clause-history
