@@ -39,6 +39,8 @@ fn tell_stop<K: Sink>(sink: &mut K, buffer: &mut Vec<u8>, stop: Stop, due: ExitS
     requires due { due ≢ statuses.Sink }
     requires empty { buffer.old.items ≡ [] }
     requires spare { OUTPUT_BYTES ≤ vec_capacity buffer.old }
+
+    // The text, and the status.
     ensures written { IsWritten (K.held sink.old) (K.held sink.new) (stop_status stop due) (stop_text stop) result }
     ensures write_fault { TellsSinkFault (K.faults sink.old) (K.faults sink.new) result }
 {

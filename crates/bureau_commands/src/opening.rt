@@ -45,6 +45,8 @@ pub fn begin<K: Sink, W: Witness<K, D>, D: Disk>(
     ensures empty { IfOk result (λ b. b.buffer.items ≡ []) }
     ensures room { IfOk result (λ b. OUTPUT_BYTES ≤ vec_capacity b.buffer) }
     ensures kept { IfOk result (λ _. K.faults sink.new ≡ K.faults sink.old) }
+
+    // Or the end is told.
     ensures wrote { IfErr result (λ e. WroteTaking (λ output. IsNotBegunDue D.seen output disk e.disk) (K.held sink.old)
         (K.held sink.new) (W.shown witness.old) (W.shown witness.new) e.status) }
     ensures write_fault { IfErr result (λ e. TellsSinkFault (K.faults sink.old) (K.faults sink.new) e.status) }

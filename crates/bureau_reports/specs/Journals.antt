@@ -90,19 +90,19 @@ IsMade (journals.Parts round pool) = ⊥
 IsMade (journals.Forecast kind horizon pool) = ⊥
 
 -- what is printed before memory is missing of a report that is printed entry by entry
-abbrev pub IsBegun : JournalReport → List PoolEntry → List ℕ → Type 0
-IsBegun journals.Audit history printed = ⊥
-IsBegun (journals.Positions pool) history printed = ⊥
-IsBegun (journals.Notices today pool) history printed = ⊥
-IsBegun (journals.Weigh kind today) history printed = ⊥
-IsBegun (journals.History pool) history printed = EndsAtPublication (told_members pool history) printed
-IsBegun (journals.Statement round pool) history printed = ⊥
-IsBegun journals.Pools history printed = ⊥
-IsBegun (journals.Since acts pool) history printed = EndsSince acts pool history printed
-IsBegun (journals.Seal acts) history printed = ⊥
-IsBegun (journals.Account firm pool) history printed = ⊥
-IsBegun (journals.Parts round pool) history printed = ⊥
-IsBegun (journals.Forecast kind horizon pool) history printed = ⊥
+abbrev pub IsReportFront : JournalReport → List PoolEntry → List ℕ → Type 0
+IsReportFront journals.Audit history printed = ⊥
+IsReportFront (journals.Positions pool) history printed = ⊥
+IsReportFront (journals.Notices today pool) history printed = ⊥
+IsReportFront (journals.Weigh kind today) history printed = ⊥
+IsReportFront (journals.History pool) history printed = EndsAtPublication (told_members pool history) printed
+IsReportFront (journals.Statement round pool) history printed = ⊥
+IsReportFront journals.Pools history printed = ⊥
+IsReportFront (journals.Since acts pool) history printed = EndsSince acts pool history printed
+IsReportFront (journals.Seal acts) history printed = ⊥
+IsReportFront (journals.Account firm pool) history printed = ⊥
+IsReportFront (journals.Parts round pool) history printed = ⊥
+IsReportFront (journals.Forecast kind horizon pool) history printed = ⊥
 
 -- fewer rounds of each pool were opened than a round can have a number
 abbrev pub HasFewOpenings : List PoolEntry → Type 0
@@ -111,7 +111,7 @@ HasFewOpenings history = (pool : List ℕ) → (state_in history pool).openings 
 -- this, or there was no memory for it, or for the rest of it
 pub data IsBookDue (report : JournalReport) (history : List PoolEntry) : ExitStatus → List ℕ → Type 0 where
   no_text_memory : IsBookDue report history statuses.Memory memory_text
-  broken_off : (printed : List ℕ) → IsBegun report history printed → IsBookDue report history statuses.Memory (printed ++ memory_text)
+  broken_off : (printed : List ℕ) → IsReportFront report history printed → IsBookDue report history statuses.Memory (printed ++ memory_text)
   made : (text : List ℕ) → IsTextOf report history text → IsBookDue report history (report_status report history) text
 
 -- the status and the text where there are no books: an audit tells the act that is refused or full, the others a fault of the journal
@@ -149,7 +149,7 @@ pub data IsJournalDue (report : JournalReport) (tells : Bool) (bytes : List ℕ)
   no_view_memory : IsJournalDue report tells bytes low high statuses.Memory memory_text
   viewed : (history : List PoolEntry) → HasViewed tells bytes history → (text : List ℕ) → IsTextOf report history text
       → IsJournalDue report tells bytes low high (report_status report history) text
-  begun : (history : List PoolEntry) → HasViewed tells bytes history → (printed : List ℕ) → IsBegun report history printed
+  begun : (history : List PoolEntry) → HasViewed tells bytes history → (printed : List ℕ) → IsReportFront report history printed
       → IsJournalDue report tells bytes low high statuses.Memory (printed ++ memory_text)
   unviewed : (cause : DeskCause) → HasViewCause tells bytes low high cause
       → IsJournalDue report tells bytes low high (unviewed_status report cause) (unviewed_text report cause)

@@ -21,7 +21,7 @@ use Rattle.live_intake.specs.declared.lane.LiveLane.{LiveLane}
 use Rattle.live_reading.specs.Handing.{IsMarked, handed_of, lines_since, segment_of}
 use Rattle.live_reading.specs.Rings.{AreOpen, HasHandedSegment, HaveHanded, IsOpen, Ring}
 use Rattle.live_intake.specs.Meeting.{ArePairs, HasMetLane, HaveMet}
-use Rattle.live_intake.specs.Segments.{HasServedSegment, HaveServed}
+use Rattle.live_intake.specs.Segments.{HasServedSegment, HaveServedSegment}
 use Rattle.live_intake.specs.Joining.{AreJoined, HasServedThese, HaveServedThese, IsJoined}
 use Rattle.live_reading.proofs.Handing.{all_own, prefix_of, same_requests, since_mark}
 
@@ -96,7 +96,7 @@ module _ {D : Type 0} (turn : Turn (DeskView D) PoolEntry (DeskBase D)) (request
     pub all_open : AreOpen rings0
     all_open = λ k ring lt. open_now k (get_or rings0 k ring) _ (joined.each k ring (one_of lanes0 k (omega (arith, joined.same, lt))) lt)
 
-    module _ (told : HaveHanded rings0 rings1 requests) (served : HaveServed turn lanes0 lanes1) where
+    module _ (told : HaveHanded rings0 rings1 requests) (served : HaveServedSegment turn lanes0 lanes1) where
       pub all_pairs : ArePairs rings1 lanes1
       all_pairs = record {
         all = served.0 ∙ joined.same ∙ sym told.all;

@@ -12,7 +12,7 @@ use Rattle.lane_runner.specs.served_lines.specs.Served.{of_lane}
 use Rattle.lane_runner.proofs.Merged.{Agree, agree_more, answered_more, answer_of, next_more}
 use Rattle.lane_runner.specs.served_lines.proofs.OfLane.{fewer_before, one_more}
 use Rattle.live_intake.specs.declared.lane.LiveLane.{LiveLane}
-use Rattle.live_intake.specs.Batching.{HasMergedMore, HaveEnds}
+use Rattle.live_intake.specs.Batching.{HasMergedMore, HaveLiveEnds}
 
 module _ {D : Type 0} (requests : List Request) (lanes : List (LiveLane D)) where
   -- the answers of the first ones stand behind the old ones, and it is known how many ends each lane has told
@@ -35,7 +35,7 @@ module _ {D : Type 0} (requests : List Request) (lanes : List (LiveLane D)) wher
     cursors = zero;
   }
 
-  module _ (few : length lanes ≤ MOST_LANES) (among : All (λ r. (1 ≤ r.lane) × (r.lane ≤ length lanes)) requests) (have : HaveEnds requests lanes) (i : ℕ) (told : List ℕ) (old now : List Answer) (m : IsMerging i told old now)
+  module _ (few : length lanes ≤ MOST_LANES) (among : All (λ r. (1 ≤ r.lane) × (r.lane ≤ length lanes)) requests) (have : HaveLiveEnds requests lanes) (i : ℕ) (told : List ℕ) (old now : List Answer) (m : IsMerging i told old now)
       (request : Request) (lt : i < length requests) (is : request ≡ get_or requests i request) (lane : LiveLane D) (lane_is : lane ≡ get_or lanes (request.lane - 1) lane) where
     range : (1 ≤ request.lane) × (request.lane ≤ length lanes)
     range = subst (λ (r : Request). (1 ≤ r.lane) × (r.lane ≤ length lanes)) (sym is) (among i request lt)

@@ -13,7 +13,7 @@ use Rattle.live_reading.specs.input_front.specs.Taken.{HasBatches, HasRead, Inta
 use Rattle.live_reading.specs.input_front.proofs.Fronts.{front_law}
 use Rattle.live_reading.specs.declared.stop.Stop.{Stop}
 use Rattle.live_reading.specs.declared.stop.Stop.TheVariants as stop
-use Rattle.live_reading.specs.Reading.{AreNumbered, Ends, HasFront, HasTaken, IsBadForGood, fence_lines}
+use Rattle.live_reading.specs.Reading.{AreNumbered, Ends, HasFront, HasTakenPiece, IsBadForGood, fence_lines}
 use Rattle.live_reading.specs.Fronts.{is_fence}
 use Rattle.live_intake.specs.Live.{HasRunLive, IsStop, front_bytes, is_end}
 
@@ -71,7 +71,7 @@ module _ (old begun new : IntakeView) (batch : List Request) (left : Option (Lis
 
 module _ {D S : Type 0} (seen : D → Seen) (left : S → Option (List ℕ)) (faults : S → ℕ) (desk_old desk_new : DeskView D) (source_old source_new : S) (old begun new : IntakeView) (answers : Option (List Answer)) (why : Stop) where
   pub has_run : old.fenced ≡ true → HasBatches old → begun ≡ record old { served = old.served + 1; fenced = false } → KeepsRead old begun
-      → HasTaken (left source_old) (left source_new) (faults source_old) (faults source_new) begun new
+      → HasTakenPiece (left source_old) (left source_new) (faults source_old) (faults source_new) begun new
       → (batch : List Request) → HasRunBatch seen desk_old desk_new batch answers → Ends (left source_new) (faults source_old) (faults source_new) begun new batch (Some why)
       → (answers ≡ None → AreNumbered (begun.lines + 1) batch × (new.lines ≡ begun.lines + length batch + fence_lines why))
       → HasRunLive seen left faults desk_old desk_new source_old source_new old new answers why

@@ -29,8 +29,8 @@ use Rattle.live_reading.specs.declared.stop.Stop.{Stop}
 use Rattle.live_reading.specs.Handing.{IsMarked}
 use Rattle.live_intake.specs.Joining.{AreJoined, HaveServedThese}
 use Rattle.live_reading.specs.Rings.{Ring}
-use Rattle.live_intake.specs.Segments.{IsFit}
-use Rattle.live_intake.specs.Batching.{AreReady, HasServedBatch, HasServedMore, HaveAnswers, HaveEnds, HaveServedAll, IsNewLane}
+use Rattle.live_intake.specs.Segments.{IsFitLiveLane}
+use Rattle.live_intake.specs.Batching.{AreReady, HasServedBatch, HasServedMore, HaveAnswers, HaveLiveEnds, HaveServedAll, IsNewLiveLane}
 use Rattle.live_intake.proofs.Following.{lane_lines_append, none_served, then_served}
 use Rattle.live_reading.proofs.InReading.{ends_more, none_read}
 
@@ -48,7 +48,7 @@ module _ {D : Type 0} (turn : Turn (DeskView D) PoolEntry (DeskBase D)) (request
         record { ready = one.ready; marked = subst IsMarked (sym at.all) at.marked; spare = one.spare };
   }
 
-  pub have_ends : HaveEnds requests lanes1
+  pub have_ends : HaveLiveEnds requests lanes1
   have_ends k lane lt = (served.each k lane (omega (arith, lt, served.all))).run.all
 
   pub all_among : All (λ r. IsLane r.lane) requests → All (λ r. (1 ≤ r.lane) × (r.lane ≤ length lanes1)) requests
@@ -108,7 +108,7 @@ module _ {D : Type 0} (turn : Turn (DeskView D) PoolEntry (DeskBase D)) where
 
 -- ---- all lanes of a batch
 
-module _ {D : Type 0} (turn : Turn (DeskView D) PoolEntry (DeskBase D)) (before : ℕ) (firsts lasts : List (LiveLane D)) (new : EachOf (IsNewLane turn before) firsts) where
+module _ {D : Type 0} (turn : Turn (DeskView D) PoolEntry (DeskBase D)) (before : ℕ) (firsts lasts : List (LiveLane D)) (new : EachOf (IsNewLiveLane turn before) firsts) where
   abbrev DeskSeat : Type 0
   DeskSeat = Seat (DeskView D) PoolEntry (DeskBase D)
 
@@ -141,7 +141,7 @@ module _ {D : Type 0} (turn : Turn (DeskView D) PoolEntry (DeskBase D)) (before 
           served_all requests answers before (seats firsts) (seats lasts) new_seats (last_length ∙ h.all ∙ sym first_length) each_seat of_disk known made d opened_is before_is
           seen_same opened_same base_same h.answered (λ k r lt. (h.own k r lt).0) (λ k r lt. let high = (h.own k r lt).1 in omega (arith, high, last_length, many)) fin
 
-pub all_ready : {D : Type 0} (turn : Turn (DeskView D) PoolEntry (DeskBase D)) (lanes : List (LiveLane D)) → All (IsFit turn) lanes → All (IsReady turn) (reverse (map (λ l. l.seat) lanes))
+pub all_ready : {D : Type 0} (turn : Turn (DeskView D) PoolEntry (DeskBase D)) (lanes : List (LiveLane D)) → All (IsFitLiveLane turn) lanes → All (IsReady turn) (reverse (map (λ l. l.seat) lanes))
 all_ready {D} turn lanes fit =
     let seats : List (Seat (DeskView D) PoolEntry (DeskBase D)) = map (λ (l : LiveLane D). l.seat) lanes in
     all_reverse (IsReady turn) seats (All-map (IsReady turn) (λ (l : LiveLane D). l.seat) lanes (λ k d lt. (fit k d lt).ready))

@@ -20,7 +20,7 @@ use Rattle.lane_runner.proofs.Running.{run_begins, run_more}
 use Rattle.live_reading.specs.declared.handed.Handed.TheVariants as handed
 use Rattle.live_intake.specs.declared.lane.LiveLane.{LiveLane}
 use Rattle.live_reading.specs.Handing.{MayHand, handed_of, lines_since}
-use Rattle.live_intake.specs.Segments.{HasServedSegment, IsFit}
+use Rattle.live_intake.specs.Segments.{HasServedSegment, IsFitLiveLane}
 use Rattle.live_reading.proofs.Handing.{since_line}
 
 -- the same ring
@@ -42,7 +42,7 @@ module _ {D : Type 0} (turn : Turn (DeskView D) PoolEntry (DeskBase D)) (first :
     pub counted : lines_since 0 (received lane.ring) ≡ vec_len lane.ends
     pub spare : MOST_HANDED ≤ vec_capacity lane.ends
 
-  pub begins : (lane : LiveLane D) → IsFit turn first → lane.seat ≡ first.seat → lane.ring ≡ first.ring → lane.ends.items ≡ [] → vec_len lane.ends ≡ 0 → MOST_HANDED ≤ vec_capacity lane.ends → IsTaking lane
+  pub begins : (lane : LiveLane D) → IsFitLiveLane turn first → lane.seat ≡ first.seat → lane.ring ≡ first.ring → lane.ends.items ≡ [] → vec_len lane.ends ≡ 0 → MOST_HANDED ≤ vec_capacity lane.ends → IsTaking lane
   begins lane fit seat ring none len spare = record {
     requests = [];
     own = λ i r lt. absurd (omega (arith, lt));

@@ -18,12 +18,12 @@ use Rattle.live_reading.specs.input_front.specs.Taken.{IntakeView}
 use Rattle.live_intake.specs.Joining.{AreJoined}
 use Rattle.live_reading.specs.Reading.{Ends}
 use Rattle.live_reading.specs.Rings.{Ring}
-use Rattle.live_intake.specs.Segments.{IsFit}
+use Rattle.live_intake.specs.Segments.{IsFitLiveLane}
 
 module _ {D : Type 0} (requests : List Request) (lanes : List (LiveLane D)) where
   -- each lane, of which the first has number 1, has an end for each of its requests
-  abbrev pub HaveEnds : Type 0
-  HaveEnds = EachOf (λ k lane. length lane.ends.items ≡ length (of_lane (k + 1) requests)) lanes
+  abbrev pub HaveLiveEnds : Type 0
+  HaveLiveEnds = EachOf (λ k lane. length lane.ends.items ≡ length (of_lane (k + 1) requests)) lanes
 
   -- each request has its answer, and the answers of each lane are those that the lane has, in order
   pub record HaveAnswers (answers : List Answer) : Type 0 where
@@ -37,16 +37,17 @@ module _ {D : Type 0} (requests : List Request) (lanes : List (LiveLane D)) wher
     pub have : HaveAnswers later
 
 -- a lane that has served nothing, at this place of the list, for a lock that was opened with so many members
-pub record IsNewLane {D : Type 0} (turn : Turn (DeskView D) PoolEntry (DeskBase D)) (before : ℕ) (k : ℕ) (lane : LiveLane D) : Type 0 where
+pub record IsNewLiveLane {D : Type 0} (turn : Turn (DeskView D) PoolEntry (DeskBase D)) (before : ℕ) (k : ℕ)
+    (lane : LiveLane D) : Type 0 where
   pub seat : IsNewSeatAt before k lane.seat
-  pub fit : IsFit turn lane
+  pub fit : IsFitLiveLane turn lane
 
 -- the lanes and their rings, between two segments
 pub record AreReady {D : Type 0} (turn : Turn (DeskView D) PoolEntry (DeskBase D))
     (rings : List Ring) (lanes : List (LiveLane D)) : Type 0 where
   pub many : length lanes ≡ MOST_LANES
   pub joined : AreJoined rings lanes
-  pub fit : All (IsFit turn) lanes
+  pub fit : All (IsFitLiveLane turn) lanes
 
 -- These requests were served: they have their answers, and each lane has served just its own lines.
 pub record HaveServedAll {D : Type 0} (first now : List (LiveLane D)) (requests : List Request) (answers : List Answer) : Type 0 where

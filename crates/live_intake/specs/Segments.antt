@@ -15,7 +15,7 @@ use Rattle.live_reading.specs.Handing.{IsMarked, segment_of}
 
 module _ {D : Type 0} (turn : Turn (DeskView D) PoolEntry (DeskBase D)) where
   -- a lane of this lock at the beginning of a segment, with room for what comes of its lines
-  pub record IsFit (lane : LiveLane D) : Type 0 where
+  pub record IsFitLiveLane (lane : LiveLane D) : Type 0 where
     pub ready : IsReady turn lane.seat
     pub marked : IsMarked (received lane.ring)
     pub spare : MOST_HANDED ≤ vec_capacity lane.ends
@@ -31,6 +31,6 @@ module _ {D : Type 0} (turn : Turn (DeskView D) PoolEntry (DeskBase D)) where
     pub spare : MOST_HANDED ≤ vec_capacity new.ends
 
   -- each lane did
-  abbrev pub HaveServed : List (LiveLane D) → List (LiveLane D) → Type 0
-  HaveServed old new = (length new ≡ length old)
+  abbrev pub HaveServedSegment : List (LiveLane D) → List (LiveLane D) → Type 0
+  HaveServedSegment old new = (length new ≡ length old)
       × ((k : ℕ) (none : LiveLane D) → k < length old → HasServedSegment (slice_index_or old k none) (slice_index_or new k none))

@@ -1,7 +1,7 @@
 //! What came of the lines of a segment, behind what came of those before.
 ghost use Rattle.std.specs.Prelude.{◌≡◌, ◌+◌, ◌≤◌, length, All, vec_len, vec_capacity};
 ghost use Rattle.setoff_model.specs.declared.limits.TheConstants.{MOST_LANES};
-ghost use Rattle.live_intake.specs.Batching.{HasMergedMore, HaveEnds};
+ghost use Rattle.live_intake.specs.Batching.{HasMergedMore, HaveLiveEnds};
 
 use crate::lane::LiveLane;
 use lane_runner::{Answer, Disk, Request};
@@ -13,7 +13,7 @@ pub fn merge<D: Disk>(requests: &[Request], lanes: &[LiveLane<D>], answers: &mut
     // The lanes are those of the requests, and each has an end for each of its own.
     requires few { length lanes.now ≤ MOST_LANES }
     requires lanes { All (λ r. (1 ≤ r.lane) × (r.lane ≤ length lanes.now)) requests.now }
-    requires all { HaveEnds requests.now lanes.now }
+    requires all { HaveLiveEnds requests.now lanes.now }
 
     // There is room for the answers.
     requires spare { vec_len answers.old + length requests.now ≤ vec_capacity answers.old }

@@ -2,7 +2,7 @@
 ghost use Rattle.std.specs.Prelude.{◌≡◌, ◌++◌, ◌∷◌, []};
 ghost use Rattle.rtrb.specs.Ring.{received, SameConsumer};
 ghost use Rattle.live_reading.specs.Handing.{MayHand};
-ghost use Rattle.live_intake.specs.Segments.{HasServedSegment, IsFit};
+ghost use Rattle.live_intake.specs.Segments.{HasServedSegment, IsFitLiveLane};
 
 use lane_runner::{Desk, Disk, Gate, LineEnd, Pause, Request, Service, Solver, serve};
 use live_reading::{Handed, InSegments};
@@ -29,7 +29,7 @@ pub fn serve_segment<D: Disk, R: Wait, V: Solver, G: Gate, P: Pause>(
     bell: Option<&Parker>,
     lane: &mut LiveLane<D>,
 )
-    requires { IsFit service.now.shared.now.turn lane.old }
+    requires { IsFitLiveLane service.now.shared.now.turn lane.old }
     ensures { HasServedSegment service.now.shared.now.turn lane.old lane.new }
 {
     lane.ends.clear();

@@ -2,7 +2,7 @@
 ghost use Rattle.std.specs.Prelude.{None, ◌≡◌, ◌-◌, ◌<◌, ◌≤◌, true, false, length, vec_capacity, IfSome};
 ghost use Rattle.turn_lock.specs.Seats.{lock_of, made, registrar_view, registry};
 ghost use Rattle.live_intake.specs.Live.{HasRunLive, HasServedLive};
-ghost use Rattle.live_reading.specs.Reading.{HasPassed, HasTaken};
+ghost use Rattle.live_reading.specs.Reading.{HasPassed, HasTakenPiece};
 ghost use Rattle.live_intake.specs.Rooms.{IsRoom};
 ghost use Rattle.live_reading.specs.Sparing.{HasSpare};
 
@@ -137,7 +137,9 @@ fn serve_live<
     requires begun { intake.old.fenced ≡ false }
     requires room { IsRoom room }
     requires answers { HasSpare intake.old room.answers 0 }
-    ensures taken { HasTaken (S.left source.old) (S.left source.new) (S.faults source.old) (S.faults source.new)
+
+    // What was read and served.
+    ensures taken { HasTakenPiece (S.left source.old) (S.left source.new) (S.faults source.old) (S.faults source.new)
         intake.old intake.new }
     ensures served { HasServedLive D.seen (registrar_view registrar) (S.left source.new) (S.faults source.old) (S.faults source.new)
         intake.old intake.new result.0 result.1.items result.2 }

@@ -4,7 +4,7 @@ ghost use Rattle.setoff_model.specs.declared.limits.TheConstants.{MOST_LANES};
 ghost use Rattle.turn_lock.specs.Seats.{lock_of, made, registrar_view, registry};
 ghost use Rattle.turn_lock.specs.Turns.{EachOf};
 ghost use Rattle.lane_runner.specs.Seating.{HasMade};
-ghost use Rattle.live_intake.specs.Batching.{AreReady, IsNewLane};
+ghost use Rattle.live_intake.specs.Batching.{AreReady, IsNewLiveLane};
 ghost use Rattle.live_intake.specs.Rooms.{IsPlace};
 
 use crate::lane::LiveLane;
@@ -33,7 +33,7 @@ pub fn seat_lanes<D: Disk>(
     // The lanes have the seats from number 1 on.
     ensures registrar { HasMade registrar.old registrar.new MOST_LANES }
     ensures ready { AreReady shared.now.turn rings.new.items lanes.new.items }
-    ensures lanes { EachOf (IsNewLane shared.now.turn (registrar_view registrar.old).opened) lanes.new.items }
+    ensures lanes { EachOf (IsNewLiveLane shared.now.turn (registrar_view registrar.old).opened) lanes.new.items }
 {
     let mut places = places;
     while let Some(place) = places.pop() {

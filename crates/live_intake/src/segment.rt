@@ -3,10 +3,10 @@ ghost use Rattle.std.specs.Prelude.{◌≡◌, ◌≤◌, false, [], length, All
 ghost use Rattle.live_reading.specs.declared.reading.TheConstants.{MOST_ASKED};
 ghost use Rattle.setoff_model.specs.declared.limits.TheConstants.{MOST_LANES};
 ghost use Rattle.lane_runner.specs.request_text.specs.Lanes.{IsLane};
-ghost use Rattle.live_reading.specs.Reading.{Ends, HasTaken};
+ghost use Rattle.live_reading.specs.Reading.{Ends, HasTakenPiece};
 ghost use Rattle.live_reading.specs.Reader.{HasReadSegment, MayRead};
 ghost use Rattle.live_intake.specs.Joining.{AreJoined, HaveServedThese};
-ghost use Rattle.live_intake.specs.Segments.{HaveServed, IsFit};
+ghost use Rattle.live_intake.specs.Segments.{HaveServedSegment, IsFitLiveLane};
 ghost use Rattle.live_reading.specs.Sparing.{HasSpare, KeepsSpare};
 
 use crate::fork::{serve_first, serve_lanes};
@@ -42,14 +42,20 @@ pub fn run_segment<
     requires all { length rings.old ≡ MOST_LANES }
     requires fresh { (requests.old.items ≡ []) × (vec_len requests.old ≡ 0) × (MOST_ASKED ≤ vec_capacity requests.old) }
     requires answers { HasSpare intake.old answers.old (vec_len requests.old) }
+
+    // The lanes are at the beginning of a segment.
     requires joined { AreJoined rings.old lanes.old }
-    requires fit { All (IsFit service.now.shared.now.turn) lanes.old }
+    requires fit { All (IsFitLiveLane service.now.shared.now.turn) lanes.old }
+
+    // They served what they were handed.
     ensures joined { AreJoined rings.new lanes.new }
     ensures served { HaveServedThese service.now.shared.now.turn requests.new.items lanes.old lanes.new }
     ensures own { All (λ r. IsLane r.lane) requests.new.items }
     ensures few { vec_len requests.new ≤ MOST_ASKED }
+
+    // What was read, and the room for more.
     ensures spare { MOST_ASKED ≤ vec_capacity requests.new }
-    ensures taken { HasTaken (S.left source.old) (S.left source.new) (S.faults source.old) (S.faults source.new)
+    ensures taken { HasTakenPiece (S.left source.old) (S.left source.new) (S.faults source.old) (S.faults source.new)
         intake.old intake.new }
     ensures ends { Ends (S.left source.new) (S.faults source.old) (S.faults source.new)
         intake.old intake.new requests.new.items result }
@@ -81,10 +87,10 @@ fn run_lanes<
     answers: &mut Vec<Answer>,
 ) -> Option<Stop>
     requires ready { MayRead intake.old rings.old requests.old answers.old }
-    requires fit { All (IsFit service.now.shared.now.turn) lanes.old }
+    requires fit { All (IsFitLiveLane service.now.shared.now.turn) lanes.old }
     ensures read { HasReadSegment (S.left source.old) (S.left source.new) (S.faults source.old) (S.faults source.new)
         intake.old intake.new rings.old rings.new requests.new answers.old answers.new result }
-    ensures served { HaveServed service.now.shared.now.turn lanes.old lanes.new }
+    ensures served { HaveServedSegment service.now.shared.now.turn lanes.old lanes.new }
 {
     match steps_alone(intake.unread()) {
         Some(steps) => {
@@ -139,16 +145,16 @@ fn run_both<
     answers: &mut Vec<Answer>,
 ) -> Option<Stop>
     requires ready { MayRead intake.old rings.old requests.old answers.old }
-    requires fit { All (IsFit service.now.shared.now.turn) lanes.old }
+    requires fit { All (IsFitLiveLane service.now.shared.now.turn) lanes.old }
     ensures read { HasReadSegment (S.left source.old) (S.left source.new) (S.faults source.old) (S.faults source.new)
         intake.old intake.new rings.old rings.new requests.new answers.old answers.new result }
-    ensures served { HaveServed service.now.shared.now.turn lanes.old lanes.new }
+    ensures served { HaveServedSegment service.now.shared.now.turn lanes.old lanes.new }
 {
     let (_, stop) = join_mut(
         service.rt,
         &mut ||
-            requires { All (IsFit service.now.shared.now.turn) lanes.now }
-            ensures { HaveServed service.entry.now.shared.now.turn lanes.entry.now lanes.exit.now }
+            requires { All (IsFitLiveLane service.now.shared.now.turn) lanes.now }
+            ensures { HaveServedSegment service.entry.now.shared.now.turn lanes.entry.now lanes.exit.now }
         { serve_lanes(service, bells, lanes, MOST_LANES) },
         &mut || -> Option<Stop>
             requires { MayRead intake.now rings.now requests.now answers.now }

@@ -2,7 +2,7 @@
 ghost use Rattle.std.specs.Prelude.{◌≡◌, ◌≤◌, false, [], None, Some, vec_capacity};
 ghost use Rattle.live_reading.specs.declared.reading.TheConstants.{MOST_ASKED};
 ghost use Rattle.live_intake.specs.Batching.{AreReady, HasServedBatch, HasServedMore};
-ghost use Rattle.live_reading.specs.Reading.{HasTaken};
+ghost use Rattle.live_reading.specs.Reading.{HasTakenPiece};
 ghost use Rattle.live_reading.specs.Sparing.{HasMoved, HasSpare};
 
 use crate::answers::merge;
@@ -33,10 +33,14 @@ pub fn serve_segments<
 ) -> Stop
     requires begun { intake.old.fenced ≡ false }
     requires ready { AreReady service.now.shared.now.turn rings.old lanes.old }
+
+    // The lists.
     requires room { MOST_ASKED ≤ vec_capacity requests.old }
     requires none { answers.old.items ≡ [] }
     requires answers { HasSpare intake.old answers.old 0 }
-    ensures taken { HasTaken (S.left source.old) (S.left source.new) (S.faults source.old) (S.faults source.new)
+
+    // What was read and served.
+    ensures taken { HasTakenPiece (S.left source.old) (S.left source.new) (S.faults source.old) (S.faults source.new)
         intake.old intake.new }
     ensures served { HasServedBatch service.now.shared.now.turn (S.left source.new) (S.faults source.old) (S.faults source.new)
         intake.old intake.new rings.new
@@ -75,10 +79,14 @@ fn serve_next<
     requires ready { AreReady service.now.shared.now.turn rings.old lanes.old }
     requires room { MOST_ASKED ≤ vec_capacity requests.old }
     requires answers { HasSpare intake.old answers.old 0 }
+
+    // Where the batch goes on, the next segment can begin.
     ensures answers { result ≡ None → HasSpare intake.new answers.new 0 }
     ensures moves { result ≡ None → HasMoved intake.old intake.new }
     ensures room { MOST_ASKED ≤ vec_capacity requests.new }
-    ensures taken { HasTaken (S.left source.old) (S.left source.new) (S.faults source.old) (S.faults source.new)
+
+    // What was read and served.
+    ensures taken { HasTakenPiece (S.left source.old) (S.left source.new) (S.faults source.old) (S.faults source.new)
         intake.old intake.new }
     ensures served { HasServedMore service.now.shared.now.turn (S.left source.new) (S.faults source.old) (S.faults source.new)
         intake.old intake.new rings.new

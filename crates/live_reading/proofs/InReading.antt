@@ -27,7 +27,7 @@ use Rattle.live_reading.specs.declared.stop.Stop.{Stop}
 use Rattle.live_reading.specs.declared.stop.Stop.TheVariants as stop
 use Rattle.live_reading.specs.Handing.{handed_of}
 use Rattle.live_reading.specs.Rings.{AreMarked, HasHanded, HasSent, HaveHanded, Ring}
-use Rattle.live_reading.specs.Reading.{Ends, HasFront, HasGoneOn, HasReadLast, HasReadThese, HasSentAll, HasTaken, HaveSentAll, IsBadForGood}
+use Rattle.live_reading.specs.Reading.{Ends, HasFront, HasGoneOn, HasReadLast, HasReadThese, HasSentAll, HasTakenPiece, HaveSentAll, IsBadForGood}
 
 -- ---- rings
 
@@ -93,10 +93,10 @@ sent_alone olds news request one = sent_more olds olds news [] request (none_sen
 pub none_read : (v : IntakeView) → HasReadThese v v []
 none_read v = λ ended batch h. subst (λ (b : List Request). HasRead v ended b) (sym (append-nil batch)) h
 
-pub none_taken : {L : Option (List ℕ)} {n : ℕ} (v : IntakeView) → HasTaken L L n n v v
+pub none_taken : {L : Option (List ℕ)} {n : ℕ} (v : IntakeView) → HasTakenPiece L L n n v v
 none_taken {L} {n} v = record { piece = []; taken = sym (append-nil v.taken); consumed = Consumes-nil L; limit_is = refl; served_is = refl; later = omega arith }
 
-pub taken_twice : (l0 l1 l2 : Option (List ℕ)) (n0 n1 n2 : ℕ) (u v w : IntakeView) → HasTaken l0 l1 n0 n1 u v → HasTaken l1 l2 n1 n2 v w → HasTaken l0 l2 n0 n2 u w
+pub taken_twice : (l0 l1 l2 : Option (List ℕ)) (n0 n1 n2 : ℕ) (u v w : IntakeView) → HasTakenPiece l0 l1 n0 n1 u v → HasTakenPiece l1 l2 n1 n2 v w → HasTakenPiece l0 l2 n0 n2 u w
 taken_twice l0 l1 l2 n0 n1 n2 u v w h k = record {
   piece = h.piece ++ k.piece;
   taken = k.taken ∙ ap (λ (l : List ℕ). l ++ k.piece) h.taken ∙ append_assoc u.taken h.piece k.piece;
@@ -250,7 +250,7 @@ none_own : All (λ (r : Request). IsLane r.lane) []
 none_own = λ i r lt. absurd (omega (arith, lt))
 
 -- nothing more was handed
-pub gone_so : (l0 l1 : Option (List ℕ)) (n0 n1 : ℕ) (u v : IntakeView) (rings : List Ring) (noted : List Request) (why : Option Stop) → HasTaken l0 l1 n0 n1 u v → Ends l1 n0 n1 u v [] why → HasGoneOn l0 l1 n0 n1 u v rings rings noted noted why
+pub gone_so : (l0 l1 : Option (List ℕ)) (n0 n1 : ℕ) (u v : IntakeView) (rings : List Ring) (noted : List Request) (why : Option Stop) → HasTakenPiece l0 l1 n0 n1 u v → Ends l1 n0 n1 u v [] why → HasGoneOn l0 l1 n0 n1 u v rings rings noted noted why
 gone_so l0 l1 n0 n1 u v rings noted why taken ends = record { more = []; noted = sym (append-nil noted); sent = none_sent rings; own = none_own; taken = taken; ends = ends }
 
 -- nothing at all was done
@@ -258,7 +258,7 @@ pub gone_nowhere : (l : Option (List ℕ)) (n : ℕ) (v : IntakeView) (rings : L
 gone_nowhere l n v rings noted begun = gone_so l l n n v v rings noted None (none_taken v) (begun, none_read v)
 
 -- the reading stands as it did, and so does the source but for what is told of it
-pub taken_none : (l0 l1 : Option (List ℕ)) (n0 n1 : ℕ) (u v : IntakeView) → v ≡ u → Consumes l0 l1 [] → n0 ≤ n1 → HasTaken l0 l1 n0 n1 u v
+pub taken_none : (l0 l1 : Option (List ℕ)) (n0 n1 : ℕ) (u v : IntakeView) → v ≡ u → Consumes l0 l1 [] → n0 ≤ n1 → HasTakenPiece l0 l1 n0 n1 u v
 taken_none l0 l1 n0 n1 u v same consumed later = record {
   piece = [];
   taken = ap (λ (x : IntakeView). x.taken) same ∙ sym (append-nil u.taken);

@@ -7,7 +7,7 @@ use Rattle.std.proofs.lemmas.List.{append-nil}
 use Rattle.input_front.specs.declared.line.Line.TheVariants as line
 use Rattle.input_front.specs.Taken.{HasAsked, HasNext, IntakeView}
 use Rattle.live_reading.specs.declared.stop.Stop.TheVariants as stop
-use Rattle.live_reading.specs.Reading.{AreNumbered, HasPassed, HasReadThese, HasTaken}
+use Rattle.live_reading.specs.Reading.{AreNumbered, HasPassed, HasReadThese, HasTakenPiece}
 use Rattle.live_reading.proofs.InReading.{ends_bad, ends_fence, ends_memory, none_read, reads_more}
 use Rattle.std.proofs.KnownBytes.{Consumes-nil}
 
@@ -43,10 +43,10 @@ module _ (first old : IntakeView) (h : IsPassing first old) where
     served_is = ap (λ (x : IntakeView). x.served) k.same ∙ h.served_is;
   }
 
-  nothing : (new : IntakeView) → new.taken ≡ first.taken → new.limit ≡ first.limit → new.served ≡ first.served → (left : Option (List ℕ)) (faults : ℕ) → HasTaken left left faults faults first new
+  nothing : (new : IntakeView) → new.taken ≡ first.taken → new.limit ≡ first.limit → new.served ≡ first.served → (left : Option (List ℕ)) (faults : ℕ) → HasTakenPiece left left faults faults first new
   nothing new taken limit served left faults = record { piece = []; taken = taken ∙ sym (append-nil first.taken); consumed = Consumes-nil left; limit_is = limit; served_is = served; later = omega arith }
 
-  still : (new : IntakeView) → new ≡ old → (left : Option (List ℕ)) (faults : ℕ) → HasTaken left left faults faults first new
+  still : (new : IntakeView) → new ≡ old → (left : Option (List ℕ)) (faults : ℕ) → HasTakenPiece left left faults faults first new
   still new same = nothing new (ap (λ (x : IntakeView). x.taken) same ∙ h.taken_is) (ap (λ (x : IntakeView). x.limit) same ∙ h.limit_is) (ap (λ (x : IntakeView). x.served) same ∙ h.served_is)
 
   -- no line more

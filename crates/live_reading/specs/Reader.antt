@@ -8,7 +8,7 @@ use Rattle.served_lines.specs.request_text.specs.Lanes.{IsLane}
 use Rattle.served_lines.specs.declared.answer.Answer.{Answer}
 use Rattle.input_front.specs.Taken.{IntakeView}
 use Rattle.live_reading.specs.declared.stop.Stop.{Stop}
-use Rattle.live_reading.specs.Reading.{Ends, HasTaken}
+use Rattle.live_reading.specs.Reading.{Ends, HasTakenPiece}
 use Rattle.live_reading.specs.Rings.{AreOpen, HaveHanded, Ring}
 use Rattle.live_reading.specs.Sparing.{HasSpare, KeepsSpare}
 
@@ -30,6 +30,6 @@ pub record HasReadSegment (left_old left_new : Option (List ℕ)) (faults_old fa
   pub own : All (λ r. IsLane r.lane) requests.items
   pub few : vec_len requests ≤ MOST_ASKED
   pub spare : MOST_ASKED ≤ vec_capacity requests
-  pub taken : HasTaken left_old left_new faults_old faults_new old new
+  pub taken : HasTakenPiece left_old left_new faults_old faults_new old new
   pub ends : Ends left_new faults_old faults_new old new requests.items why
   pub answers : KeepsSpare old new answers_old answers_new (vec_len requests) why

@@ -35,7 +35,7 @@ abbrev pub HasReadThese : IntakeView → IntakeView → List Request → Type 0
 HasReadThese old new requests = OfRead old (λ ended batch. HasRead new ended (batch ++ requests))
 
 -- Bytes of the source were taken, and its count of faults did not fall.
-pub record HasTaken (left_old left_new : Option (List ℕ)) (faults_old faults_new : ℕ) (old new : IntakeView) : Type 0 where
+pub record HasTakenPiece (left_old left_new : Option (List ℕ)) (faults_old faults_new : ℕ) (old new : IntakeView) : Type 0 where
   pub piece : List ℕ
   pub taken : new.taken ≡ old.taken ++ piece
   pub consumed : Consumes left_old left_new piece
@@ -100,7 +100,7 @@ pub record HasGoneOn (left_old left_new : Option (List ℕ)) (faults_old faults_
   pub noted : noted_new ≡ noted_old ++ more
   pub sent : HaveSentAll rings_old rings_new more
   pub own : All (λ r. IsLane r.lane) more
-  pub taken : HasTaken left_old left_new faults_old faults_new old new
+  pub taken : HasTakenPiece left_old left_new faults_old faults_new old new
   pub ends : Ends left_new faults_old faults_new old new more why
 
 -- The rest of an input that has ended was read, as its last line.
@@ -118,7 +118,7 @@ pub record HasPassed (old new : IntakeView) (why : Stop) : Type 0 where
   pub batch : List Request
   pub numbered : AreNumbered (old.lines + 1) batch
   pub lines_are : new.lines ≡ old.lines + length batch + fence_lines why
-  pub taken : (left : Option (List ℕ)) (faults : ℕ) → HasTaken left left faults faults old new
+  pub taken : (left : Option (List ℕ)) (faults : ℕ) → HasTakenPiece left left faults faults old new
   pub ends : (left : Option (List ℕ)) (faults : ℕ) → Ends left faults faults old new batch (Some why)
 
 -- why a step of the reader was the last one, if it was
@@ -128,7 +128,7 @@ end_of step.Full = None
 end_of (step.Over why) = Some why
 
 -- where the segment goes on, each lane may be handed more, and so may be noted
-abbrev pub GoesOn : Step → List Ring → ℕ → Type 0
-GoesOn step.On rings noted = All IsOpen rings × (noted < MOST_ASKED)
-GoesOn step.Full rings noted = Unit {0}
-GoesOn (step.Over why) rings noted = Unit {0}
+abbrev pub MayGoOn : Step → List Ring → ℕ → Type 0
+MayGoOn step.On rings noted = All IsOpen rings × (noted < MOST_ASKED)
+MayGoOn step.Full rings noted = Unit {0}
+MayGoOn (step.Over why) rings noted = Unit {0}

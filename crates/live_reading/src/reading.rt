@@ -5,11 +5,12 @@ ghost use Rattle.setoff_model.specs.declared.limits.TheConstants.{MOST_LANES};
 ghost use Rattle.served_lines.specs.claim_history.specs.Acts.{is_request};
 ghost use Rattle.served_lines.specs.request_text.specs.Lanes.{IsLane};
 ghost use Rattle.input_front.specs.Taken.{HasNoFeed};
-ghost use Rattle.live_reading.specs.Reading.{GoesOn, HasGoneOn, HasReadLast, end_of};
+ghost use Rattle.live_reading.specs.Reading.{MayGoOn, HasGoneOn, HasReadLast, end_of};
 ghost use Rattle.live_reading.specs.Reader.{HasReadSegment, MayRead};
 ghost use Rattle.live_reading.specs.Rings.{HasHanded, HasRoom, IsOpen};
 ghost use Rattle.live_reading.specs.Sparing.{HasSpare, KeepsSpare};
 
+use crate::handed::MOST_HANDED;
 use crate::rings::{Ring, hand, mark};
 use crate::stop::Stop;
 use input_front::{Intake, Line, More, PIECE, Source};
@@ -19,7 +20,7 @@ use std::alloc::Global;
 use std::thread::Parker;
 
 /// How many lines a segment has, at most: with so many each lane was handed `MOST_HANDED`.
-pub const MOST_ASKED: usize = 63 * MOST_LANES;
+pub const MOST_ASKED: usize = MOST_HANDED * MOST_LANES;
 
 // The room for the answers of a segment, of the lines of a piece, and of the rest of an input.
 const MOST_ANSWERS: usize = MOST_ASKED + PIECE + 1;
@@ -73,9 +74,13 @@ fn hand_lines<S: Source>(
     requires begun { intake.old.fenced ≡ false }
     requires all { length rings.old ≡ MOST_LANES }
     requires open { All IsOpen rings.old }
+
+    // The lines of the segment so far, and the room for their answers.
     requires few { (vec_len requests.old < MOST_ASKED) × (MOST_ASKED ≤ vec_capacity requests.old) }
     requires answers { HasSpare intake.old answers.old (vec_len requests.old) }
     requires some { 1 ≤ steps }
+
+    // More lines were read and handed on, and there is as much room again.
     ensures gone { HasGoneOn (S.left source.old) (S.left source.new) (S.faults source.old) (S.faults source.new) intake.old intake.new
         rings.old rings.new requests.old.items requests.new.items result }
     ensures room { All HasRoom rings.new }
@@ -105,11 +110,17 @@ fn hand_next<S: Source>(
     requires begun { intake.old.fenced ≡ false }
     requires all { length rings.old ≡ MOST_LANES }
     requires open { All IsOpen rings.old }
+
+    // The lines of the segment so far, and the room for their answers.
     requires few { (vec_len requests.old < MOST_ASKED) × (MOST_ASKED ≤ vec_capacity requests.old) }
     requires answers { HasSpare intake.old answers.old (vec_len requests.old) }
+
+    // Perhaps a line was read and handed on.
     ensures gone { HasGoneOn (S.left source.old) (S.left source.new) (S.faults source.old) (S.faults source.new) intake.old intake.new
         rings.old rings.new requests.old.items requests.new.items (end_of result) }
-    ensures open { GoesOn result rings.new (vec_len requests.new) }
+    ensures open { MayGoOn result rings.new (vec_len requests.new) }
+
+    // There is as much room again.
     ensures room { All HasRoom rings.new }
     ensures few { (vec_len requests.new ≤ MOST_ASKED) × (MOST_ASKED ≤ vec_capacity requests.new) }
     ensures answers { KeepsSpare intake.old intake.new answers.old answers.new (vec_len requests.new) (end_of result) }
@@ -146,8 +157,12 @@ fn hand_last(
     requires begun { intake.now.fenced ≡ false }
     requires all { length rings.old ≡ MOST_LANES }
     requires open { All IsOpen rings.old }
+
+    // What is noted, and what is left of the input.
     requires few { (vec_len requests.old < MOST_ASKED) × (MOST_ASKED ≤ vec_capacity requests.old) }
     requires none { HasNoFeed (drop intake.now.read intake.now.taken) }
+
+    // The line was read, handed on and noted.
     ensures last { HasReadLast intake.now rings.old rings.new requests.old.items requests.new.items result }
     ensures room { All HasRoom rings.new }
     ensures few { (vec_len requests.new ≤ MOST_ASKED) × (MOST_ASKED ≤ vec_capacity requests.new) }
@@ -175,11 +190,17 @@ fn hand_one(
     requires all { length rings.old ≡ MOST_LANES }
     requires valid { is_request request.act ≡ true }
     requires open { All IsOpen rings.old }
+
+    // There is a place to note it.
     requires few { (vec_len requests.old < MOST_ASKED) × (MOST_ASKED ≤ vec_capacity requests.old) }
+
+    // It was handed on and noted, and the segment may go on.
     ensures handed { HasHanded rings.old rings.new request }
     ensures noted { requests.new.items ≡ requests.old.items ++ request ∷ [] }
-    ensures open { GoesOn result rings.new (vec_len requests.new) }
+    ensures open { MayGoOn result rings.new (vec_len requests.new) }
     ensures on { end_of result ≡ None }
+
+    // The rings and the list have room again.
     ensures room { All HasRoom rings.new }
     ensures few { (vec_len requests.new ≤ MOST_ASKED) × (MOST_ASKED ≤ vec_capacity requests.new) }
     ensures one { vec_len requests.new ≡ vec_len requests.old + 1 }

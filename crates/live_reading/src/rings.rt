@@ -19,6 +19,8 @@ pub fn hand(rings: &mut [Ring], bells: &[Parker], request: Request) -> bool
     requires lane { (1 ≤ request.lane) × (request.lane ≤ length rings.old) }
     requires valid { is_request request.act ≡ true }
     requires open { All IsOpen rings.old }
+
+    // It is handed to its lane alone.
     ensures handed { HasHanded rings.old rings.new request }
     ensures open { result ≡ false → All IsOpen rings.new }
     ensures room { All HasRoom rings.new }
@@ -39,6 +41,8 @@ pub fn hand(rings: &mut [Ring], bells: &[Parker], request: Request) -> bool
 fn hand_to(ring: &mut Ring, line: u64, pool: Name, act: Act) -> bool
     requires valid { is_request act ≡ true }
     requires open { IsOpen ring.old }
+
+    // It is the last that the lane was handed.
     ensures handed { HasSent ring.old ring.new (handed.Line line pool act) }
     ensures open { result ≡ false → IsOpen ring.new }
     ensures room { HasRoom ring.new }

@@ -9,7 +9,7 @@ use Rattle.lane_runner.specs.shared_bureau.specs.Adding.{IsReady}
 use Rattle.lane_runner.specs.shared_bureau.specs.Finishing.{HasFinished}
 use Rattle.lane_runner.proofs.AllLanes.{left_whole}
 use Rattle.live_intake.specs.declared.lane.LiveLane.{LiveLane}
-use Rattle.live_intake.specs.Batching.{AreReady, IsNewLane}
+use Rattle.live_intake.specs.Batching.{AreReady, IsNewLiveLane}
 use Rattle.live_reading.specs.Rings.{Ring}
 use Rattle.live_intake.proofs.Served.{all_lanes_served, all_ready}
 use Rattle.live_intake.proofs.live.serve_live.Goals as goal
@@ -48,7 +48,7 @@ returns-clause-served g c =
     let firsts = c.as_mut_slice.result.now in
     let lasts = c.serve_segments-stop.new.lanes in
     let told = c.serve_segments-stop.ensures.served in
-    let new : EachOf (IsNewLane turn known.opened) firsts = subst (EachOf (IsNewLane turn known.opened)) (sym c.as_mut_slice.ensures.value) c.seat_lanes.ensures.lanes in
+    let new : EachOf (IsNewLiveLane turn known.opened) firsts = subst (EachOf (IsNewLiveLane turn known.opened)) (sym c.as_mut_slice.ensures.value) c.seat_lanes.ensures.lanes in
     let long : length lasts ≡ length items = told.served.all ∙ ap (λ (l : List L). length l) c.as_mut_slice.ensures.value in
     let len : length items ≤ c.seat_lanes.new.lanes.len = search rules in
     let same : take c.seat_lanes.new.lanes.len (lasts ++ drop (length lasts) items) ≡ lasts = left_whole c.seat_lanes.new.lanes.len items lasts long len in

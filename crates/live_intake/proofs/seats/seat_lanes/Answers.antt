@@ -8,7 +8,7 @@ use Rattle.lane_runner.specs.bureau_desk.specs.declared.base.DeskBase.{DeskBase}
 use Rattle.lane_runner.proofs.Places.{each_front, each_last}
 use Rattle.live_intake.specs.declared.lane.LiveLane.{LiveLane}
 use Rattle.live_intake.specs.declared.room.Place.{Place}
-use Rattle.live_intake.specs.Batching.{IsNewLane}
+use Rattle.live_intake.specs.Batching.{IsNewLiveLane}
 use Rattle.live_reading.specs.Handing.{lines_since}
 use Rattle.live_intake.specs.Joining.{AreJoined}
 use Rattle.live_intake.specs.Rooms.{IsPlace}
@@ -29,7 +29,7 @@ loop-place-preserved g c =
     let seat = c.caller-seat.result in
     let number_is : number seat ≡ length lanes + 1 = omega (arith, c.caller-seat.ensures.seat.1, inv.made.made_is) in
     let lane : L = record { seat = seat; ring = place.end; ends = place.ends } in
-    let fresh : IsNewLane c.args.shared.now.turn (registrar_view c.args.registrar.now).opened (length lanes) lane = record {
+    let fresh : IsNewLiveLane c.args.shared.now.turn (registrar_view c.args.registrar.now).opened (length lanes) lane = record {
       seat = record {
         number_is = number_is;
         opened_is = ap (λ (v : View PoolEntry (DeskBase g.row.D.Denot)). v.opened) c.caller-seat.ensures.seat.2 ∙ inv.made.opened_is;
@@ -52,8 +52,8 @@ loop-place-preserved g c =
       places = each_front P left place old;
       joined = subst (λ rs. AreJoined rs c.push_reserved.new.self.items) (sym ring_items) (subst (AreJoined (rings ++ place.ring ∷ [])) (sym items)
           (joined_more rings lanes place.ring lane inv.joined (joined_place (length lanes) place lane one refl number_is)));
-      lanes = subst (EachOf (IsNewLane c.args.shared.now.turn (registrar_view c.args.registrar.now).opened)) (sym items)
-          (each_pushed (IsNewLane c.args.shared.now.turn (registrar_view c.args.registrar.now).opened) lanes lane inv.lanes fresh);
+      lanes = subst (EachOf (IsNewLiveLane c.args.shared.now.turn (registrar_view c.args.registrar.now).opened)) (sym items)
+          (each_pushed (IsNewLiveLane c.args.shared.now.turn (registrar_view c.args.registrar.now).opened) lanes lane inv.lanes fresh);
       rings_spare = omega (arith, inv.rings_spare, c.push_reserved-in-Some.ensures.capacity);
       spare = omega (arith, inv.spare, c.push_reserved.ensures.capacity);
     }

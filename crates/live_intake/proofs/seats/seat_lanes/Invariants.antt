@@ -3,7 +3,7 @@ use Rattle.setoff_model.specs.declared.limits.TheConstants.{MOST_LANES}
 use Rattle.turn_lock.specs.Turns.{EachOf}
 use Rattle.turn_lock.specs.Seats.{registrar_view}
 use Rattle.lane_runner.specs.Seating.{HasMade}
-use Rattle.live_intake.specs.Batching.{IsNewLane}
+use Rattle.live_intake.specs.Batching.{IsNewLiveLane}
 use Rattle.live_intake.specs.Joining.{AreJoined}
 use Rattle.live_intake.specs.Rooms.{IsPlace}
 use Rattle.live_intake.proofs.seats.seat_lanes.Given as goal
@@ -14,7 +14,7 @@ invariant-loop-place g l = record {
   all : length l.lanes.items + length l.places.items ≡ MOST_LANES;
   places : All IsPlace l.places.items;
   joined : AreJoined l.rings.items l.lanes.items;
-  lanes : EachOf (IsNewLane l.shared.turn (registrar_view l.fn.registrar).opened) l.lanes.items;
+  lanes : EachOf (IsNewLiveLane l.shared.turn (registrar_view l.fn.registrar).opened) l.lanes.items;
   rings_spare : MOST_LANES ≤ vec_capacity l.rings;
   spare : MOST_LANES ≤ vec_capacity l.lanes;
 }
