@@ -1,4 +1,5 @@
-use Rattle.std.proofs.Common.{rules, ◌≡◌, ◌∙◌, ◌≤◌, List, ◌++◌, All, length, map, reverse, refl, take, drop, sym, ap, subst}
+use Rattle.std.proofs.Common.{rules, ◌≡◌, ◌∙◌, ◌≤◌, List, ◌++◌, All, length, map, reverse, refl, take, drop, sym, ap, subst, vec_capacity}
+use Rattle.std.proofs.lemmas.List.{length-map, length-reverse}
 use Rattle.lane_runner.specs.claim_history.specs.declared.call.PoolEntry.{PoolEntry}
 use Rattle.turn_lock.specs.declared.turn.Seat.{Seat}
 use Rattle.turn_lock.specs.Turns.{EachOf}
@@ -19,6 +20,30 @@ serve_segments-stop-requires-clause-ready g c κs within =
     let L : Type 0 = LiveLane g.row.D.Denot in
     let turn = c.args.shared.turn in
     subst (λ (r : List Ring). AreReady turn r c.as_mut_slice.result.now) (sym c.as_mut_slice-2.ensures.value) (subst (λ (l : List L). AreReady turn c.seat_lanes.new.rings.items l) (sym c.as_mut_slice.ensures.value) c.seat_lanes.ensures.ready)
+
+pub unseat-requires-clause-spare : goal.unseat-requires-clause-spare
+unseat-requires-clause-spare g c =
+    let L : Type 0 = LiveLane g.row.D.Denot in
+    let items = c.seat_lanes.new.lanes.items in
+    let lasts = c.serve_segments-stop.new.lanes in
+    let told = c.serve_segments-stop.ensures.served in
+    let long : length lasts ≡ length items = told.served.all ∙ ap (λ (l : List L). length l) c.as_mut_slice.ensures.value in
+    let len : length items ≤ c.seat_lanes.new.lanes.len = search rules in
+    let same : take c.seat_lanes.new.lanes.len (lasts ++ drop (length lasts) items) ≡ lasts = left_whole c.seat_lanes.new.lanes.len items lasts long len in
+    subst (λ n. n ≤ vec_capacity c.args.room.seats) (sym (ap (λ (l : List L). length l) same ∙ told.ready.many)) c.requires.room.seats
+
+pub finish-desk-requires-clause-all : goal.finish-desk-requires-clause-all
+finish-desk-requires-clause-all g c =
+    let L : Type 0 = LiveLane g.row.D.Denot in
+    let S : Type 0 = Seat (DeskView g.row.D.Denot) PoolEntry (DeskBase g.row.D.Denot) in
+    let items = c.seat_lanes.new.lanes.items in
+    let lasts = c.serve_segments-stop.new.lanes in
+    let told = c.serve_segments-stop.ensures.served in
+    let long : length lasts ≡ length items = told.served.all ∙ ap (λ (l : List L). length l) c.as_mut_slice.ensures.value in
+    let len : length items ≤ c.seat_lanes.new.lanes.len = search rules in
+    let same : take c.seat_lanes.new.lanes.len (lasts ++ drop (length lasts) items) ≡ lasts = left_whole c.seat_lanes.new.lanes.len items lasts long len in
+    let seats : c.unseat.new.seats.items ≡ reverse (map (λ (l : L). l.seat) lasts) = c.unseat.ensures ∙ ap (λ (l : List L). reverse (map (λ (x : L). x.seat) l)) same in
+    ap (λ (l : List S). length l) seats ∙ length-reverse (map (λ (l : L). l.seat) lasts) ∙ length-map lasts (λ (l : L). l.seat) ∙ told.ready.many ∙ sym c.seat_lanes.ensures.registrar.made_is
 
 pub finish-desk-requires-clause-ready : goal.finish-desk-requires-clause-ready
 finish-desk-requires-clause-ready g c =
