@@ -1,9 +1,9 @@
 #!/usr/bin/env bash
 # Shows what a load leaves, by real processes: shows/loads.sh [PROGRAM [LOAD]]
-# The same lines by `run` on one lane and by `load` give the same output and the same journal, from none, behind rounds that were left open,
-# and on a journal with the old header. A CLOSE and a word are refused and leave no file; beside an open `live` a load ends with status 5 at
-# once; 10,000 lines are three groups, which take six syncs more than none. PROGRAM stands in for ./bureau, LOAD for
-# ./bureau load. Status 1: something is otherwise.
+# The same lines by `run` on one lane and by `load` give the same output and the same journal, from none, behind rounds that were left
+# open, on a journal with the old header, and where the entries reach their limit. A CLOSE and a word are refused and leave no file;
+# beside an open `live` a load ends with status 5 at once; 10,000 lines are three groups, which take six syncs more than none. PROGRAM
+# stands in for ./bureau, LOAD for ./bureau load. Status 1: something is otherwise.
 set -u
 
 home=$(cd "$(dirname "$0")/.." && pwd)
@@ -39,6 +39,9 @@ say "$(cat audit.text)" 'yes acts 2 rounds 0' 'a journal with two open rounds'
 alike lines open.journal 'a register behind two open rounds'
 printf 'BUREAUJ1\1\0\0\0\7\0\0\0\1\1\1A\0' >old.journal
 alike lines old.journal 'a register on a journal with the old header'
+{ echo '1 FIRM A'; yes '1 FIRM A' | head -1048580; } >beyond
+alike beyond '' 'lines beyond the limit of entries'
+say "$(grep -c ' = ' load.text) $(grep -c '^!' load.text)" '1048576 5' 'entries, and lines that are full'
 
 mkdir refused && cd refused
 "$load" <../closes >text
