@@ -14,6 +14,10 @@ StandsForCalls bytes calls = StandsFor bytes (bodies_of_calls calls)
 abbrev pub StandsForWhole : List Call → List Call → List ℕ → Type 0
 StandsForWhole calls group bytes = StandsForCalls bytes calls ⊎ StandsForCalls bytes (calls ++ group)
 
+-- they stand for a list that begins with these calls
+abbrev pub StandsForFirst : List Call → List ℕ → Type 0
+StandsForFirst calls bytes = (more : List Call) × StandsForCalls bytes (calls ++ more)
+
 -- all calls of groups, in order
 abbrev pub joined : List (List Call) → List Call
 joined groups = flat_map (λ g. g) groups

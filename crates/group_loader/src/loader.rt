@@ -191,6 +191,13 @@ impl<D: Disk> Loader<D> {
         books
     }
 
+    /// The disk. It takes no memory.
+    pub fn disk(&self) -> &D
+        ensures { result.now ≡ self.now.journal.disk }
+    {
+        self.journal.disk()
+    }
+
     /// Gives the disk back. It takes no memory, and calls the disk no more.
     pub fn close(self) -> D
         ensures { result ≡ self.journal.disk }
