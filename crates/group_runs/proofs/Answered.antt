@@ -15,8 +15,8 @@ use Rattle.printed_text.specs.served_lines.specs.declared.line_end.LineEnd.{Line
 use Rattle.printed_text.specs.served_lines.specs.Served.{Line}
 use Rattle.printed_text.specs.Printing.{printed_of}
 use Rattle.group_loader.specs.Loading.{HasKept, HasStopped, LoadView, kept_calls, pending_calls}
-use Rattle.group_runs.specs.Lines.{CanBeLoaded, IsEndDue, answers_of_lines, end_adds, lines_add}
-use Rattle.group_runs.specs.Runs.{HasAnswered, HasTaken, IsAllKept, IsAnswered, KeepsHistory, group_text}
+use Rattle.group_runs.specs.Lines.{CanBeLoaded, IsEndDue, answers_of_lines, end_adds, group_text, lines_add}
+use Rattle.group_runs.specs.Runs.{HasAnswered, HasTaken, IsAllKept, IsAnswered, KeepsHistory}
 use Rattle.group_runs.proofs.Lines.{due_more, lines_more, no_cuts}
 
 -- one line more

@@ -1,4 +1,5 @@
 pub mod Lines
 pub mod FirstClose
 pub mod Answered
+pub mod Order
 pub mod Served

@@ -11,6 +11,7 @@ use Rattle.bureau_edge.specs.Streams.{AppendsPart}
 use Rattle.bureau_edge.proofs.Known.{Appends-none, Appends-then, AppendsPart-after}
 use Rattle.disk_model.specs.Calls.{Seen}
 use Rattle.disk_model.proofs.Moments.{passes_on, passes_still, passes_wide}
+use Rattle.disk_witness.specs.Shown.{Shown}
 use Rattle.claim_history.specs.declared.call.Call.{Call}
 use Rattle.claim_history.specs.declared.call.PoolEntry.{PoolEntry}
 use Rattle.claim_history.specs.Pools.{accepted_calls}
@@ -18,15 +19,17 @@ use Rattle.request_text.specs.declared.request.Request.{Request}
 use Rattle.printed_text.specs.served_lines.specs.declared.line_end.LineEnd.{LineEnd}
 use Rattle.printed_text.specs.served_lines.specs.Ends.{has_line_end, is_full_end, is_memory_end}
 use Rattle.printed_text.specs.served_lines.specs.Served.{Line}
-use Rattle.group_loader.specs.Groups.{HasGroupMoments, StandsForWhole, joined}
+use Rattle.group_loader.specs.Groups.{HasGroupMoments, StandsForFirst, StandsForWhole, joined}
 use Rattle.group_loader.specs.Loading.{HasKept, HasStopped, LoadView}
 use Rattle.group_runs.specs.declared.limits.TheConstants.{GROUP_LINES}
 use Rattle.group_runs.specs.declared.load_break.LoadBreak.{LoadBreak}
 use Rattle.group_runs.specs.declared.load_break.LoadBreak.TheVariants as breaks
 use Rattle.group_runs.specs.declared.tally.Tally.{Tally}
 use Rattle.group_runs.specs.Lines.{GroupsAreDue, answers_of_lines, group_calls, groups_add, groups_text, lines_add, requests_of_lines}
+use Rattle.group_runs.specs.Order.{WereShown}
 use Rattle.group_runs.specs.Runs.{HasBrokenAt, HasServed, HaveBroken, HaveServed, IsAllKept, IsKeptBy, KeepsHistory, calls_of_group, cut_batch, groups_of, some_end}
 use Rattle.group_runs.proofs.Lines.{calls_after_groups, calls_more, groups_due, groups_more, text_more}
+use Rattle.group_runs.proofs.Order.{fewer_first, shown_none, shown_one, shown_then, whole_first}
 
 -- ---- how a batch is cut
 
@@ -74,21 +77,21 @@ module _ {D : Type 0} (seen : D → Seen) where
   none_kept : (d : D) (kept : List Call) → IsKeptBy seen d d kept [] []
   none_kept d kept = record {
     tells = refl;
-    goes = λ told. passes_still (seen d) (λ c. Unit {0});
+    goes = λ told. passes_still (seen d) (StandsForFirst kept);
     grows = λ told started base groups is has. subst (λ (gs : List (List Call)). HasGroupMoments (seen d) started base gs []) (sym (append-nil groups)) has;
   }
 
   one_kept : (old new : D) (kept pending : List Call) → HasKept seen old new kept pending → IsKeptBy seen old new kept (pending ∷ []) []
   one_kept old new kept pending has = record {
     tells = has.tells;
-    goes = λ told. passes_wide (seen old) (seen new) (StandsForWhole kept pending) (λ c. Unit {0}) (has.during told) (λ c one. tt);
+    goes = λ told. passes_wide (seen old) (seen new) (StandsForWhole kept pending) (StandsForFirst kept) (has.during told) (whole_first kept pending);
     grows = has.grows;
   }
 
   one_stopped : (old new : D) (kept pending : List Call) → HasStopped seen old new kept pending → IsKeptBy seen old new kept [] pending
   one_stopped old new kept pending has = record {
     tells = has.tells;
-    goes = λ told. passes_wide (seen old) (seen new) (StandsForWhole kept pending) (λ c. Unit {0}) (has.during told) (λ c one. tt);
+    goes = λ told. passes_wide (seen old) (seen new) (StandsForWhole kept pending) (StandsForFirst kept) (has.during told) (whole_first kept pending);
     grows = λ told started base groups is was.
         subst (λ (gs : List (List Call)). HasGroupMoments (seen new) started base gs pending) (sym (append-nil groups)) (has.tried told started base groups is was);
   }
@@ -99,7 +102,8 @@ module _ {D : Type 0} (seen : D → Seen) where
       let told_at : IsTrue (seen a).tells → IsTrue (seen b).tells = λ told. subst (λ (x : Bool). IsTrue x) (sym p.tells) told in
       record {
         tells = q.tells ∙ p.tells;
-        goes = λ told. passes_on (seen a) (seen b) (seen c) (λ x. Unit {0}) (p.goes told) (q.goes (told_at told));
+        goes = λ told. passes_on (seen a) (seen b) (seen c) (StandsForFirst kept) (p.goes told)
+            (passes_wide (seen b) (seen c) (StandsForFirst (kept ++ joined gs)) (StandsForFirst kept) (q.goes (told_at told)) (fewer_first kept (joined gs)));
         grows = λ told started base groups is was.
             let now : kept ++ joined gs ≡ base ++ joined (groups ++ gs) =
             ap (λ (l : List Call). l ++ joined gs) is ∙ append_assoc base (joined groups) (joined gs)
@@ -130,8 +134,8 @@ module _ {D : Type 0} (seen : D → Seen) where
 
   -- ---- groups in turn
 
-  pub served_none : (v : LoadView D) (tally : Tally) (x : Option (List ℕ)) → IsAllKept v → HaveServed seen v v [] tally tally x x
-  served_none v tally x all = record {
+  pub served_none : (v : LoadView D) (tally : Tally) (x : Option (List ℕ)) (w : List (Shown D)) → IsAllKept v → HaveServed seen v v [] tally tally x x w w
+  served_none v tally x w all = record {
     groups = [];
     requests_are = refl;
     due = tt;
@@ -141,12 +145,13 @@ module _ {D : Type 0} (seen : D → Seen) where
     later = omega arith;
     memory = sym (or_false tally.memory);
     full = sym (or_false tally.full);
+    shown = shown_none seen v.journal.disk x w v.books.members;
     written = Appends-none x;
   }
 
-  pub served_one : (old new : LoadView D) (requests : List Request) (before after : Tally) (x y : Option (List ℕ))
-      → HasServed seen old new requests before after x y → HaveServed seen old new (requests ∷ []) before after x y
-  served_one old new requests before after x y s =
+  pub served_one : (old new : LoadView D) (requests : List Request) (before after : Tally) (x y : Option (List ℕ)) (v w : List (Shown D))
+      → HasServed seen old new requests before after x y v w → HaveServed seen old new (requests ∷ []) before after x y v w
+  served_one old new requests before after x y v w s =
       let added = lines_add old.books.members s.lines in
       let ends : LineEnd → Bool → Bool = λ e b. b in
       record {
@@ -159,10 +164,11 @@ module _ {D : Type 0} (seen : D → Seen) where
         later = s.kept.later;
         memory = s.memory ∙ ap (λ (c : Bool). before.memory || c) (sym (or_false (has_line_end is_memory_end (answers_of_lines s.lines))));
         full = s.full ∙ ap (λ (c : Bool). before.full || c) (sym (or_false (has_line_end is_full_end (answers_of_lines s.lines))));
+        shown = shown_one seen new.journal.disk x v w old.books.members s.lines s.shown (λ told. s.kept.stands (sym s.kept.tells ∙ told));
         written = subst (Appends x y) (sym (append-nil _)) s.written;
       }
 
-  module _ (a b : LoadView D) (rs : List (List Request)) (t0 t1 : Tally) (x y : Option (List ℕ)) (p : HaveServed seen a b rs t0 t1 x y) where
+  module _ (a b : LoadView D) (rs : List (List Request)) (t0 t1 : Tally) (x y : Option (List ℕ)) (u v : List (Shown D)) (p : HaveServed seen a b rs t0 t1 x y u v) where
     abbrev first : List PoolEntry
     first = a.books.members
 
@@ -190,8 +196,13 @@ module _ {D : Type 0} (seen : D → Seen) where
         subst (λ (gs : List (List Call)). IsKeptBy seen a.journal.disk c (accepted_calls first) gs tried) (calls_are hs)
         (groups_then a.journal.disk b.journal.disk c first b.books.members p.groups (group_calls b.books.members hs) tried p.members p.kept q)
 
-    pub served_then : (c : LoadView D) (qs : List (List Request)) (t2 : Tally) (z : Option (List ℕ)) → HaveServed seen b c qs t1 t2 y z → HaveServed seen a c (rs ++ qs) t0 t2 x z
-    served_then c qs t2 z q = record {
+    shown_on : (c : D) (hs : List (List Line)) (calls : List (List Call)) (tried : List Call) (w : List (Shown D)) → IsKeptBy seen b.journal.disk c (accepted_calls b.books.members) calls tried
+        → WereShown seen c y v w b.books.members hs → WereShown seen c x u w first (p.groups ++ hs)
+    shown_on c hs calls tried w q shown =
+        shown_then seen b.journal.disk c x y u v w first b.books.members p.groups hs p.members q.tells q.goes p.written p.shown shown
+
+    pub served_then : (c : LoadView D) (qs : List (List Request)) (t2 : Tally) (z : Option (List ℕ)) (w : List (Shown D)) → HaveServed seen b c qs t1 t2 y z v w → HaveServed seen a c (rs ++ qs) t0 t2 x z u w
+    served_then c qs t2 z w q = record {
       groups = p.groups ++ q.groups;
       requests_are = requests_of q.groups qs q.requests_are;
       due = due_are q.groups q.due;
@@ -201,12 +212,13 @@ module _ {D : Type 0} (seen : D → Seen) where
       later = omega (arith, p.later, q.later);
       memory = end_then is_memory_end t0.memory t1.memory t2.memory p.groups q.groups p.memory q.memory;
       full = end_then is_full_end t0.full t1.full t2.full p.groups q.groups p.full q.full;
+      shown = shown_on c.journal.disk q.groups (group_calls b.books.members q.groups) [] w q.kept q.shown;
       written = subst (Appends x z) (text_is q.groups) (Appends-then x y z (groups_text first p.groups) (groups_text b.books.members q.groups) p.written q.written);
     }
 
     -- it ends at a later group
-    pub broken_then : (qs : List (List Request)) (z : Option (List ℕ)) (e : LoadBreak D) → HaveBroken seen b qs y z e → HaveBroken seen a (rs ++ qs) x z e
-    broken_then qs z (breaks.Sink disk) q =
+    pub broken_then : (qs : List (List Request)) (z : Option (List ℕ)) (w : List (Shown D)) (e : LoadBreak D) → HaveBroken seen b qs y z v w e → HaveBroken seen a (rs ++ qs) x z u w e
+    broken_then qs z w (breaks.Sink disk) q =
         let whole : (p.groups ++ q.groups) ++ q.last ∷ [] ≡ p.groups ++ (q.groups ++ q.last ∷ []) = append_assoc p.groups q.groups (q.last ∷ []) in
         let all = q.groups ++ q.last ∷ [] in
         record {
@@ -216,13 +228,14 @@ module _ {D : Type 0} (seen : D → Seen) where
           due = subst (GroupsAreDue first) (sym whole) (due_are all q.due);
           keeps = subst (λ (gs : List (List Line)). KeepsHistory (first ++ groups_add first gs)) (sym whole) (subst KeepsHistory (members_are all) q.keeps);
           kept = subst (λ (gs : List (List Line)). IsKeptBy seen a.journal.disk disk (accepted_calls first) (group_calls first gs) []) (sym whole) (kept_on disk all [] q.kept);
+          shown = subst (WereShown seen disk x u w first) (sym whole) (shown_on disk all (group_calls b.books.members all) [] w q.kept q.shown);
           part = subst (λ (gs : List (List Line)). AppendsPart x z (groups_text first gs)) (sym whole)
               (subst (AppendsPart x z) (text_is all) (AppendsPart-after x y z (groups_text first p.groups) (groups_text b.books.members all) p.written q.part));
           more = q.more;
           told = subst (Appends x z) (sym (append_assoc (groups_text first p.groups) (groups_text b.books.members q.groups) q.more) ∙ ap (λ (t : List ℕ). t ++ q.more) (text_is q.groups))
               (Appends-then x y z (groups_text first p.groups) (groups_text b.books.members q.groups ++ q.more) p.written q.told);
         }
-    broken_then qs z (breaks.Disk stopped) q =
+    broken_then qs z w (breaks.Disk stopped) q =
         let whole : (p.groups ++ q.groups) ++ q.last ∷ [] ≡ p.groups ++ (q.groups ++ q.last ∷ []) = append_assoc p.groups q.groups (q.last ∷ []) in
         let all = q.groups ++ q.last ∷ [] in
         record {
@@ -233,6 +246,7 @@ module _ {D : Type 0} (seen : D → Seen) where
           keeps = subst (λ (gs : List (List Line)). KeepsHistory (first ++ groups_add first gs)) (sym whole) (subst KeepsHistory (members_are all) q.keeps);
           kept = subst (λ (h : List PoolEntry). IsKeptBy seen a.journal.disk stopped.disk (accepted_calls first) (group_calls first (p.groups ++ q.groups)) (calls_of_group h q.last))
               (members_are q.groups) (kept_on stopped.disk q.groups (calls_of_group (b.books.members ++ groups_add b.books.members q.groups) q.last) q.kept);
+          shown = shown_on stopped.disk q.groups (group_calls b.books.members q.groups) (calls_of_group (b.books.members ++ groups_add b.books.members q.groups) q.last) w q.kept q.shown;
           written = subst (Appends x z) (text_is q.groups) (Appends-then x y z (groups_text first p.groups) (groups_text b.books.members q.groups) p.written q.written);
           low = omega (arith, p.later, q.low);
           now = q.now;
@@ -240,8 +254,9 @@ module _ {D : Type 0} (seen : D → Seen) where
         }
 
   -- the first group
-  pub broken_one : (old : LoadView D) (requests : List Request) (x y : Option (List ℕ)) (e : LoadBreak D) → HasBrokenAt seen old requests x y e → HaveBroken seen old (requests ∷ []) x y e
-  broken_one old requests x y (breaks.Sink disk) s =
+  pub broken_one : (old : LoadView D) (requests : List Request) (x y : Option (List ℕ)) (v w : List (Shown D)) (e : LoadBreak D) → HasBrokenAt seen old requests x y v w e
+      → HaveBroken seen old (requests ∷ []) x y v w e
+  broken_one old requests x y v w (breaks.Sink disk) s =
       let before = old.books.members in
       let added = lines_add before s.lines in
       record {
@@ -251,11 +266,12 @@ module _ {D : Type 0} (seen : D → Seen) where
         due = (s.is.due, tt);
         keeps = subst (λ (l : List PoolEntry). KeepsHistory (before ++ l)) (sym (append-nil added)) s.is.keeps;
         kept = one_kept old.journal.disk disk (accepted_calls before) (accepted_calls added) s.kept;
+        shown = shown_one seen disk x v w before s.lines s.shown (λ told. s.kept.stands (sym s.kept.tells ∙ told));
         part = subst (AppendsPart x y) (sym (append-nil _)) s.part;
         more = s.part.0;
         told = s.part.3;
       }
-  broken_one old requests x y (breaks.Disk stopped) s =
+  broken_one old requests x y v w (breaks.Disk stopped) s =
       let before = old.books.members in
       let added = lines_add before s.lines in
       record {
@@ -266,6 +282,7 @@ module _ {D : Type 0} (seen : D → Seen) where
         keeps = subst (λ (l : List PoolEntry). KeepsHistory (before ++ l)) (sym (append-nil added)) s.is.keeps;
         kept = subst (λ (h : List PoolEntry). IsKeptBy seen old.journal.disk stopped.disk (accepted_calls before) [] (calls_of_group h s.lines)) (sym (append-nil before))
             (one_stopped old.journal.disk stopped.disk (accepted_calls before) (accepted_calls added) s.stops);
+        shown = subst (λ (l : List (Shown D)). WereShown seen stopped.disk x v l before []) (sym s.unshown) (shown_none seen stopped.disk x v before);
         written = s.untold;
         low = omega (arith, s.fault.before);
         now = s.fault.after;

@@ -76,8 +76,11 @@ abbrev pub group_calls : List PoolEntry → List (List Line) → List (List Call
 group_calls before [] = []
 group_calls before (group ∷ groups) = accepted_calls (lines_add before group) ∷ group_calls (before ++ lines_add before group) groups
 
--- their texts: the entries of a group in order, and then a line for each of its lines that was not replied to
+-- the text of a group: its entries in order, and then a line for each of its lines that was not replied to
+abbrev pub group_text : List PoolEntry → List Line → List ℕ
+group_text before lines = printed_of before (lines_add before lines) (answers_of_lines lines)
+
+-- their texts
 abbrev pub groups_text : List PoolEntry → List (List Line) → List ℕ
 groups_text before [] = []
-groups_text before (group ∷ groups) = printed_of before (lines_add before group) (answers_of_lines group)
-    ++ groups_text (before ++ lines_add before group) groups
+groups_text before (group ∷ groups) = group_text before group ++ groups_text (before ++ lines_add before group) groups

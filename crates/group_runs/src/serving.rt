@@ -12,17 +12,20 @@ use crate::load_break::LoadBreak;
 use crate::tally::Tally;
 use bureau_edge::Sink;
 use disk_model::Disk;
+use disk_witness::Witness;
 use group_loader::Loader;
 use printed_text::{Answer, ExitStatus, print_batch};
 use request_text::{Batch, Request};
 
-// Answers the lines of a group, keeps the accepted calls, counts in what came of the lines, and prints it.
-fn serve_group<K: Sink, D: Disk>(
+// Answers the lines of a group, keeps the accepted calls, counts in what came of the lines, shows a witness the sink and the disk, and
+// then prints it.
+fn serve_group<K: Sink, W: Witness<K, D>, D: Disk>(
     loader: Loader<D>,
     requests: &[Request],
     answers: &mut Vec<Answer>,
     tally: &mut Tally,
     sink: &mut K,
+    witness: &mut W,
     buffer: &mut Vec<u8>,
 ) -> Result<Loader<D>, LoadBreak<D>>
     requires all { IsAllKept loader }
@@ -35,8 +38,10 @@ fn serve_group<K: Sink, D: Disk>(
     requires spare { OUTPUT_BYTES ≤ vec_capacity buffer.old }
 
     // What was kept and told.
-    ensures served { IfOk result (λ l. HasServed D.seen loader l requests.now tally.old tally.new (K.held sink.old) (K.held sink.new)) }
-    ensures broken { IfErr result (HasBrokenAt D.seen loader requests.now (K.held sink.old) (K.held sink.new)) }
+    ensures served { IfOk result (λ l. HasServed D.seen loader l requests.now tally.old tally.new (K.held sink.old) (K.held sink.new)
+        (W.shown witness.old) (W.shown witness.new)) }
+    ensures broken { IfErr result (HasBrokenAt D.seen loader requests.now (K.held sink.old) (K.held sink.new)
+        (W.shown witness.old) (W.shown witness.new)) }
     ensures counted { IfErr result (IsBreakCounted (K.faults sink.old) (K.faults sink.new)) }
     ensures quiet { OnOk result (K.faults sink.new ≡ K.faults sink.old) }
 
@@ -56,6 +61,7 @@ fn serve_group<K: Sink, D: Disk>(
         Err(stopped) => return Err(LoadBreak::Disk(stopped)),
     };
     tally.add(answers.as_slice());
+    witness.show(sink, loader.disk());
     if print_batch(sink, buffer, loader.books(), from, &[], answers.as_slice()).is_err() {
         return Err(LoadBreak::Sink {
             disk: loader.close(),
@@ -65,12 +71,13 @@ fn serve_group<K: Sink, D: Disk>(
 }
 
 // Serves the groups of a batch in turn.
-fn serve_batch<K: Sink, D: Disk>(
+fn serve_batch<K: Sink, W: Witness<K, D>, D: Disk>(
     loader: Loader<D>,
     requests: &[Request],
     answers: &mut Vec<Answer>,
     tally: &mut Tally,
     sink: &mut K,
+    witness: &mut W,
     buffer: &mut Vec<u8>,
 ) -> Result<Loader<D>, LoadBreak<D>>
     requires all { IsAllKept loader }
@@ -83,9 +90,9 @@ fn serve_batch<K: Sink, D: Disk>(
 
     // What was kept and told.
     ensures served { IfOk result (λ l. HaveServed D.seen loader l (cut_batch (length requests.now) requests.now) tally.old tally.new
-        (K.held sink.old) (K.held sink.new)) }
+        (K.held sink.old) (K.held sink.new) (W.shown witness.old) (W.shown witness.new)) }
     ensures broken { IfErr result (HasBroken D.seen loader (cut_batch (length requests.now) requests.now)
-        (K.held sink.old) (K.held sink.new)) }
+        (K.held sink.old) (K.held sink.new) (W.shown witness.old) (W.shown witness.new)) }
     ensures counted { IfErr result (IsBreakCounted (K.faults sink.old) (K.faults sink.new)) }
     ensures quiet { OnOk result (K.faults sink.new ≡ K.faults sink.old) }
 
@@ -99,7 +106,7 @@ fn serve_batch<K: Sink, D: Disk>(
     let mut rest = requests;
     while !rest.is_empty() {
         let (group, later) = rest.split_at(GROUP_LINES.min(rest.len()));
-        loader = match serve_group(loader, group, answers, tally, sink, buffer) {
+        loader = match serve_group(loader, group, answers, tally, sink, witness, buffer) {
             Ok(loader) => loader,
             Err(broken) => return Err(broken),
         };
@@ -109,15 +116,18 @@ fn serve_batch<K: Sink, D: Disk>(
 }
 
 /// Serves the groups of batches in turn, and gives the disk back with the status: `Memory` where there was none for a line, else
-/// `Limit` where a line was full, else `Done`. Each group is on the disk, whole, before its text is written.
+/// `Limit` where a line was full, else `Done`. Each group is on the disk, whole, before its text is written: behind the texts of the
+/// groups before it a witness is shown the sink and the disk, and each image of the disk from then on holds all calls that were accepted
+/// up to the end of the group.
 ///
 /// An Err is a failure of the sink, or of the disk, which ends the load. The list has room for `GROUP_LINES`; the buffer is empty and
 /// has room for `OUTPUT_BYTES` of `printed_text`. It takes no memory but that of entries and of a group's records.
-pub fn load_batches<K: Sink, D: Disk>(
+pub fn load_batches<K: Sink, W: Witness<K, D>, D: Disk>(
     loader: Loader<D>,
     batches: &[Batch],
     answers: &mut Vec<Answer>,
     sink: &mut K,
+    witness: &mut W,
     buffer: &mut Vec<u8>,
 ) -> Result<(ExitStatus, D), LoadBreak<D>>
     requires all { IsAllKept loader }
@@ -129,8 +139,10 @@ pub fn load_batches<K: Sink, D: Disk>(
     requires spare { OUTPUT_BYTES ≤ vec_capacity buffer.old }
 
     // What was kept and told.
-    ensures loaded { IfOk result (λ r. HasLoaded D.seen loader r.1 batches.now (K.held sink.old) (K.held sink.new) r.0) }
-    ensures broken { IfErr result (HasBroken D.seen loader (groups_of batches.now) (K.held sink.old) (K.held sink.new)) }
+    ensures loaded { IfOk result (λ r. HasLoaded D.seen loader r.1 batches.now (K.held sink.old) (K.held sink.new)
+        (W.shown witness.old) (W.shown witness.new) r.0) }
+    ensures broken { IfErr result (HasBroken D.seen loader (groups_of batches.now) (K.held sink.old) (K.held sink.new)
+        (W.shown witness.old) (W.shown witness.new)) }
 
     // A failure of the sink is counted, and nothing else is.
     ensures counted { IfErr result (IsBreakCounted (K.faults sink.old) (K.faults sink.new)) }
@@ -144,7 +156,7 @@ pub fn load_batches<K: Sink, D: Disk>(
     let mut tally = Tally::new();
     for batch in batches {
         let requests = batch.requests();
-        loader = match serve_batch(loader, requests, answers, &mut tally, sink, buffer) {
+        loader = match serve_batch(loader, requests, answers, &mut tally, sink, witness, buffer) {
             Ok(loader) => loader,
             Err(broken) => return Err(broken),
         };

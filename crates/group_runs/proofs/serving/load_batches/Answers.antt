@@ -4,13 +4,14 @@ use Rattle.claim_history.specs.Pools.{accepted_calls}
 use Rattle.request_text.specs.declared.request.Request.{Request}
 use Rattle.printed_text.specs.served_lines.specs.Ends.{is_full_end, is_memory_end}
 use Rattle.group_runs.specs.Lines.{group_calls}
+use Rattle.group_runs.specs.Order.{WereShown}
 use Rattle.group_runs.specs.Runs.{HasBroken, HaveServed, IsKeptBy, KeepsHistory, cut_batch, groups_of, load_status, some_end}
 use Rattle.group_runs.proofs.Served.{broken_then, groups_in_order, groups_push, served_none, served_then}
 use Rattle.group_runs.proofs.serving.load_batches.Goals as goal
 
 pub loop-batch-init : goal.loop-batch-init
 loop-batch-init g c = record {
-  so_far = (c.new-tally.result, c.new-tally.ensures, served_none g.D.Disk.seen c.args.loader c.new-tally.result (g.K.Sink.held c.args.sink.now) c.requires.all);
+  so_far = (c.new-tally.result, c.new-tally.ensures, served_none g.D.Disk.seen c.args.loader c.new-tally.result (g.K.Sink.held c.args.sink.now) (g.W.Witness.shown c.args.witness.now) c.requires.all);
   list = c.requires.list;
   empty = c.requires.empty;
   room = c.requires.spare;
@@ -26,14 +27,17 @@ returns-in-Err-clause-broken g c =
     let x = g.K.Sink.held c.args.sink.now in
     let y = g.K.Sink.held c.loop-batch.sink in
     let z = g.K.Sink.held c.serve_batch.new.sink in
+    let u = g.W.Witness.shown c.args.witness.now in
+    let v = g.W.Witness.shown c.loop-batch.witness in
+    let w = g.W.Witness.shown c.serve_batch.new.witness in
     let item : take (i + 1) bs ≡ take i bs ++ b ∷ [] = take_more bs i b c.loop-batch-test.true ∙ ap (λ (l : List Request). take i bs ++ l ∷ []) (sym c.batch-item.is) in
-    let inner : HasBroken g.D.Disk.seen c.loop-batch.loader (cut_batch (length b) b) y z c.in-Err.broken =
-    subst (λ (rs : List Request). HasBroken g.D.Disk.seen c.loop-batch.loader (cut_batch (length rs) rs) y z c.in-Err.broken) c.requests-requests.ensures.requests c.in-Err.ensures.broken in
+    let inner : HasBroken g.D.Disk.seen c.loop-batch.loader (cut_batch (length b) b) y z v w c.in-Err.broken =
+    subst (λ (rs : List Request). HasBroken g.D.Disk.seen c.loop-batch.loader (cut_batch (length rs) rs) y z v w c.in-Err.broken) c.requests-requests.ensures.requests c.in-Err.ensures.broken in
     record {
       requests = groups_of (take i bs) ++ inner.requests;
       rest = inner.rest ++ groups_of (drop (i + 1) bs);
       in_order = groups_in_order bs i b inner.requests inner.rest item inner.in_order;
-      breaks = broken_then g.D.Disk.seen c.args.loader c.loop-batch.loader (groups_of (take i bs)) so.0 c.loop-batch.tally x y so.2 inner.requests z c.in-Err.broken inner.breaks;
+      breaks = broken_then g.D.Disk.seen c.args.loader c.loop-batch.loader (groups_of (take i bs)) so.0 c.loop-batch.tally x y u v so.2 inner.requests z w c.in-Err.broken inner.breaks;
     }
 
 pub loop-batch-preserved : goal.loop-batch-preserved
@@ -45,15 +49,18 @@ loop-batch-preserved g c =
     let x = g.K.Sink.held c.args.sink.now in
     let y = g.K.Sink.held c.loop-batch.sink in
     let z = g.K.Sink.held c.serve_batch.new.sink in
+    let u = g.W.Witness.shown c.args.witness.now in
+    let v = g.W.Witness.shown c.loop-batch.witness in
+    let w = g.W.Witness.shown c.serve_batch.new.witness in
     let item : take (i + 1) bs ≡ take i bs ++ b ∷ [] = take_more bs i b c.loop-batch-test.true ∙ ap (λ (l : List Request). take i bs ++ l ∷ []) (sym c.batch-item.is) in
-    let served : HaveServed g.D.Disk.seen c.loop-batch.loader c.in-Ok.loader (cut_batch (length b) b) c.loop-batch.tally c.serve_batch.new.tally y z =
-    subst (λ (rs : List Request). HaveServed g.D.Disk.seen c.loop-batch.loader c.in-Ok.loader (cut_batch (length rs) rs) c.loop-batch.tally c.serve_batch.new.tally y z) c.requests-requests.ensures.requests c.in-Ok.ensures.served in
+    let served : HaveServed g.D.Disk.seen c.loop-batch.loader c.in-Ok.loader (cut_batch (length b) b) c.loop-batch.tally c.serve_batch.new.tally y z v w =
+    subst (λ (rs : List Request). HaveServed g.D.Disk.seen c.loop-batch.loader c.in-Ok.loader (cut_batch (length rs) rs) c.loop-batch.tally c.serve_batch.new.tally y z v w) c.requests-requests.ensures.requests c.in-Ok.ensures.served in
     record {
       so_far = (
         so.0,
         so.1,
-        subst (λ (l : List (List Request)). HaveServed g.D.Disk.seen c.args.loader c.in-Ok.loader l so.0 c.serve_batch.new.tally x z) (sym (ap groups_of item ∙ groups_push (take i bs) b))
-            (served_then g.D.Disk.seen c.args.loader c.loop-batch.loader (groups_of (take i bs)) so.0 c.loop-batch.tally x y so.2 c.in-Ok.loader (cut_batch (length b) b) c.serve_batch.new.tally z served),
+        subst (λ (l : List (List Request)). HaveServed g.D.Disk.seen c.args.loader c.in-Ok.loader l so.0 c.serve_batch.new.tally x z u w) (sym (ap groups_of item ∙ groups_push (take i bs) b))
+            (served_then g.D.Disk.seen c.args.loader c.loop-batch.loader (groups_of (take i bs)) so.0 c.loop-batch.tally x y u v so.2 c.in-Ok.loader (cut_batch (length b) b) c.serve_batch.new.tally z w served),
       );
       list = c.serve_batch.ensures.list;
       empty = c.in-Ok.ensures.emptied;
@@ -77,6 +84,7 @@ returns-clause-loaded g c =
       keeps = subst KeepsHistory s.members keeps;
       kept = subst (λ (d : g.row.D.Denot). IsKeptBy g.D.Disk.seen first.journal.disk d (accepted_calls first.books.members) (group_calls first.books.members s.groups) []) (sym c.close.ensures) s.kept;
       later = search rules;
+      shown = subst (λ (d : g.row.D.Denot). WereShown g.D.Disk.seen d (g.K.Sink.held c.args.sink.now) (g.W.Witness.shown c.args.witness.now) (g.W.Witness.shown c.loop-batch.witness) first.books.members s.groups) (sym c.close.ensures) s.shown;
       written = s.written;
       status_is = c.status.ensures ∙ ap₂ load_status memory full;
     }

@@ -8,7 +8,7 @@ use Rattle.group_runs.proofs.serving.load_batches.Given as goal
 abbrev pub invariant-loop-batch : goal.invariant-loop-batch
 invariant-loop-batch g l = record {
   so_far : (none : Tally) × IsTally none [] × HaveServed g.D.Disk.seen l.fn.loader l.loader (groups_of (take l.batch-index l.batches)) none l.tally
-      (g.K.Sink.held l.fn.sink) (g.K.Sink.held l.sink);
+      (g.K.Sink.held l.fn.sink) (g.K.Sink.held l.sink) (g.W.Witness.shown l.fn.witness) (g.W.Witness.shown l.witness);
   list : GROUP_LINES ≤ vec_capacity l.answers;
   empty : l.buffer.items ≡ [];
   room : OUTPUT_BYTES ≤ vec_capacity l.buffer;

@@ -9,7 +9,8 @@ use Rattle.group_runs.proofs.serving.serve_batch.Given as goal
 abbrev pub invariant-loop-rest : goal.invariant-loop-rest
 invariant-loop-rest g l = record {
   so_far : (times : ℕ) × (done : List (List Request)) × (length l.rest ≤ times) × (cut_batch (length l.fn.requests) l.fn.requests ≡ done ++ cut_batch times l.rest)
-      × HaveServed g.D.Disk.seen l.fn.loader l.loader done l.fn.tally l.tally (g.K.Sink.held l.fn.sink) (g.K.Sink.held l.sink);
+      × HaveServed g.D.Disk.seen l.fn.loader l.loader done l.fn.tally l.tally (g.K.Sink.held l.fn.sink) (g.K.Sink.held l.sink)
+      (g.W.Witness.shown l.fn.witness) (g.W.Witness.shown l.witness);
   can : All CanBeLoaded l.rest;
   list : GROUP_LINES ≤ vec_capacity l.answers;
   empty : l.buffer.items ≡ [];

@@ -1,5 +1,5 @@
 use Rattle.std.specs.Io.KnownBytes.{Appends}
-use Rattle.std.proofs.Common.{◌≡◌, ◌∙◌, ◌||◌, List, length, sym, ap, subst}
+use Rattle.std.proofs.Common.{◌≡◌, ◌∙◌, ◌||◌, List, [], ◌∷◌, ◌++◌, length, refl, sym, ap, subst}
 use Rattle.bureau_edge.specs.Streams.{AppendsPart}
 use Rattle.bureau_edge.proofs.Known.{Appends-none}
 use Rattle.printed_text.specs.claim_book.specs.Pools.{BooksView}
@@ -24,6 +24,7 @@ returns-in-Err-clause-broken g c =
       is = is_answered g.D.Disk.seen old now c.args.requests.now c.answer_lines.new.answers.items a c.requires.all keeps;
       stops = group_stopped g.D.Disk.seen old now c.args.requests.now c.answer_lines.new.answers.items a c.requires.all c.in-Err.stopped.disk c.in-Err.ensures.stopped;
       fault = subst (λ (j : JournalView g.row.D.Denot). IsFaultOf (g.D.Disk.seen j.disk) (g.D.Disk.seen c.in-Err.stopped.disk) c.in-Err.stopped.device) a.journal c.in-Err.ensures.cause;
+      unshown = refl;
       untold = Appends-none (g.K.Sink.held c.args.sink.now);
     }
 
@@ -52,6 +53,7 @@ returns-then-is_err-clause-broken g c =
       is = is_answered g.D.Disk.seen old now c.args.requests.now c.answer_lines.new.answers.items a c.requires.all keeps;
       kept = subst (λ (d : g.row.D.Denot). HasKept g.D.Disk.seen old.journal.disk d (accepted_calls old.books.members) (calls_of_group old.books.members a.lines)) (sym c.close.ensures)
           (group_kept g.D.Disk.seen old now c.args.requests.now c.answer_lines.new.answers.items a c.requires.all c.in-Ok.loader.journal.disk c.in-Ok.ensures.kept);
+      shown = c.show.ensures ∙ ap (λ (d : g.row.D.Denot). g.W.Witness.shown c.args.witness.now ++ (record { held = x; disk = d }) ∷ []) (c.disk.ensures ∙ sym c.close.ensures);
       part = subst (AppendsPart x z) text (at_err c.print_batch.result _ (sym c.is_err.ensures.value ∙ c.if-is_err.true) c.print_batch.ensures.part);
     }
 
@@ -77,5 +79,6 @@ returns-clause-served g c =
       all = record { all = c.in-Ok.ensures.all.0 ∙ ap length (sym same); empty = c.in-Ok.ensures.all.1 };
       memory = c.add.ensures.memory ∙ ap (λ (list : List Answer). c.args.tally.now.memory || has_line_end is_memory_end list) told;
       full = c.add.ensures.full ∙ ap (λ (list : List Answer). c.args.tally.now.full || has_line_end is_full_end list) told;
+      shown = c.show.ensures ∙ ap (λ (d : g.row.D.Denot). g.W.Witness.shown c.args.witness.now ++ (record { held = x; disk = d }) ∷ []) c.disk.ensures;
       written = subst (Appends x z) text (at_ok c.print_batch.result _ (sym c.is_err.ensures.value ∙ c.if-is_err.false) c.print_batch.ensures.ok);
     }
