@@ -17,8 +17,8 @@ use Rattle.journal_texts.specs.printed_text.specs.declared.exit_status.ExitStatu
 use Rattle.journal_texts.specs.printed_text.specs.Statuses.{IsOneOf}
 use Rattle.journal_texts.specs.DiskTexts.{opening_status}
 use Rattle.journal_texts.proofs.Written.{told_status}
-use Rattle.load_command.specs.Headline.{IsLoadHeadline}
-use Rattle.load_command.specs.Due.{HasTakenFirst, IsLoadDue, loaded, no_output_memory, not_opened}
+use Rattle.load_command.specs.Headline.{HasTakenFirst, IsLoadHeadline, Taking}
+use Rattle.load_command.specs.Due.{IsLoadDue, loaded, no_output_memory, not_opened}
 use Rattle.load_command.specs.Inputs.{IsDue, IsInputDue, IsReadDue, Ran, asked, bad_line, bad_words, batches_read, input_read, no_input_memory, no_line_memory, no_request_memory, not_read, read_fault, too_long}
 use Rattle.load_command.specs.Causes.{ComesOnly, HasCause, HoldsUnsound, asked_for, disk_failed, done, full_line, no_memory, not_opened as unopened, out_of_form, sink_failed, some_words, source_failed, too_long as longer}
 use Rattle.load_command.proofs.ComesWhere.{told_one}
@@ -31,7 +31,7 @@ unsound_fault disk cause told fault =
     let law = fault_law disk.reads cause fault in
     record { tells = told; long = law.0; none = λ records found sound. law.1 records (subst (λ (b : Bool). AreFound b disk.reads records) told found) sound }
 
-module _ {D : Type 0} (seen : D → Seen) (Taken : List ℕ → Type 0) (left : Option (List ℕ)) (old new : D) where
+module _ {D : Type 0} (seen : D → Seen) (Taken : Taking) (left : Option (List ℕ)) (old new : D) where
   abbrev Why : ExitStatus → Type 0
   Why status = HasCause seen Taken left old new status
 

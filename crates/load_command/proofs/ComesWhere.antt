@@ -13,7 +13,8 @@ use Rattle.journal_texts.specs.printed_text.specs.Statuses.{IsOneOf}
 use Rattle.journal_texts.specs.printed_text.proofs.Statuses.{behind, in_front}
 use Rattle.journal_texts.specs.DiskTexts.{opening_status}
 use Rattle.journal_texts.proofs.Written.{told_status}
-use Rattle.load_command.specs.Due.{HasTakenFirst, IsLoadDue, loaded, no_output_memory, not_opened}
+use Rattle.load_command.specs.Headline.{HasTakenFirst, Taking}
+use Rattle.load_command.specs.Due.{IsLoadDue, loaded, no_output_memory, not_opened}
 use Rattle.load_command.specs.Inputs.{IsDue, IsInputDue, IsReadDue, Ran, asked, bad_line, bad_words, batches_read, input_read, no_input_memory, no_line_memory, no_request_memory, not_read, read_fault, too_long}
 use Rattle.load_command.specs.Causes.{ComesWhere, HoldsUnsound, IsInForm, IsTooLong, IsWholeInput}
 use Rattle.load_command.proofs.Reading.{all_taken, taken_long}
@@ -36,7 +37,7 @@ with_source : (one : ExitStatus) (dues : List ExitStatus) (status : ExitStatus) 
 with_source one dues status (inl is) = inl is
 with_source one dues status (inr rest) = inr (inr rest)
 
-module _ {D : Type 0} (seen : D → Seen) (Taken : List ℕ → Type 0) (old new : D) where
+module _ {D : Type 0} (seen : D → Seen) (Taken : Taking) (old new : D) where
   -- ---- an input
 
   unspelled : (input : List ℕ) → IsNoLoadText input → (status : ExitStatus) (text : List ℕ) → IsInputDue seen Taken old new input status text → IsOneOf (statuses.Form ∷ statuses.Memory ∷ []) status
@@ -83,7 +84,7 @@ module _ {D : Type 0} (seen : D → Seen) (Taken : List ℕ → Type 0) (old new
 
 -- ---- the words
 
-module _ {S D : Type 0} (left : S → Option (List ℕ)) (seen : D → Seen) (Taken : List ℕ → Type 0) (words : List (List ℕ)) (source source' : S) (old new : D) where
+module _ {S D : Type 0} (left : S → Option (List ℕ)) (seen : D → Seen) (Taken : Taking) (words : List (List ℕ)) (source source' : S) (old new : D) where
   words_one : words ≢ [] → (status : ExitStatus) (text : List ℕ) → IsDue left seen Taken words source source' old new status text → IsOneOf (statuses.Words ∷ []) status
   words_one some status text (bad_words is same still) = inl refl
   words_one some status text (asked none s t due) = absurd (some none)

@@ -21,8 +21,8 @@ use Rattle.journal_texts.specs.printed_text.specs.Writing.{IsWritten, broken, wh
 use Rattle.journal_texts.specs.DiskTexts.{opening_status}
 use Rattle.journal_texts.specs.Journals.{HasRoomForAll, HoldsSound}
 use Rattle.group_runs.specs.Runs.{load_status, some_end}
-use Rattle.load_command.specs.Headline.{IsLoadHeadline, LoadEnd, all_kept, disk_failed, requests_of, sink_failed}
-use Rattle.load_command.specs.Due.{HasTakenFirst, IsLoadDue, loaded, no_output_memory, not_opened}
+use Rattle.load_command.specs.Headline.{HasTakenFirst, IsLoadHeadline, LoadEnd, Taking, all_kept, disk_failed, requests_of, sink_failed}
+use Rattle.load_command.specs.Due.{IsLoadDue, loaded, no_output_memory, not_opened}
 use Rattle.load_command.specs.Inputs.{IsInputDue, IsReadDue, Ran, bad_line, batches_read, input_read, no_input_memory, no_line_memory, no_request_memory, not_read, read_fault, too_long}
 use Rattle.load_command.specs.Causes.{IsWholeInput}
 use Rattle.load_command.specs.Completeness.{Completes, IsAllLoaded, IsComplete, all_written, no_memory}
@@ -64,7 +64,7 @@ ended_so low high requests groups tried status told (all_kept is none) = kept_so
 ended_so low high requests groups tried status told (sink_failed rest is none) = inl (inr (inl refl))
 ended_so low high requests groups tried status told (disk_failed rest before after is from to rose) = inl (inr (inr refl))
 
-module _ {D : Type 0} (seen : D → Seen) (Taken : List ℕ → Type 0) (old new : D) (batches : List (List Request)) where
+module _ {D : Type 0} (seen : D → Seen) (Taken : Taking) (old new : D) (batches : List (List Request)) where
   abbrev All : ExitStatus → List ℕ → Type 0
   All status text = IsAllLoaded seen Taken old new batches status text
 
@@ -115,7 +115,7 @@ ended_full low high requests groups tried status told (all_kept is none) limit =
 ended_full low high requests groups tried status told (sink_failed rest is none) limit = cc
 ended_full low high requests groups tried status told (disk_failed rest before after is from to rose) limit = cc
 
-none_full_by : {D : Type 0} → OneRecords → (seen : D → Seen) (Taken : List ℕ → Type 0) (old new : D) (batches : List (List Request)) (has : HoldsSound (seen old)) (text : List ℕ) → HasRoomForAll has.records (requests_of batches)
+none_full_by : {D : Type 0} → OneRecords → (seen : D → Seen) (Taken : Taking) (old new : D) (batches : List (List Request)) (has : HoldsSound (seen old)) (text : List ℕ) → HasRoomForAll has.records (requests_of batches)
     → IsLoadHeadline seen Taken old new batches statuses.Limit text → ⊥
 none_full_by one seen Taken old new batches has text room h =
     let same : has.records ≡ h.is_history.records =
@@ -128,7 +128,7 @@ no_failure status (inr (inl e)) limit = cc (e, limit)
 no_failure status (inr (inr e)) limit = cc (e, limit)
 
 -- full lines are told by a headline alone
-limit_told : {D : Type 0} (seen : D → Seen) (Taken : List ℕ → Type 0) (old new : D) (batches : List (List Request)) (x y : Option (List ℕ)) (due : ExitStatus) (text : List ℕ) (status : ExitStatus) → IsWritten x y due text status
+limit_told : {D : Type 0} (seen : D → Seen) (Taken : Taking) (old new : D) (batches : List (List Request)) (x y : Option (List ℕ)) (due : ExitStatus) (text : List ℕ) (status : ExitStatus) → IsWritten x y due text status
     → Ends (IsAllLoaded seen Taken old new batches) due text → status ≡ statuses.Limit → IsLoadHeadline seen Taken old new batches statuses.Limit text
 limit_told seen Taken old new batches x y due text status (whole taken) (inl failed) limit = absurd (no_failure due failed limit)
 limit_told seen Taken old new batches x y due text status (whole taken) (inr (inl e)) limit = absurd (cc (e, limit))

@@ -10,4 +10,5 @@ mod Parts
 mod Reading
 mod Silent
 mod Statuses
+mod Weaker
 mod Words

@@ -13,6 +13,7 @@ use Rattle.journal_texts.specs.printed_text.specs.declared.exit_status.ExitStatu
 use Rattle.journal_texts.specs.printed_text.specs.Texts.{memory_text, read_text, too_long_text}
 use Rattle.journal_texts.specs.printed_text.specs.Writing.{Wrote}
 use Rattle.journal_texts.proofs.Written.{no_other, wrote_for, wrote_line}
+use Rattle.load_command.specs.Headline.{Taking}
 use Rattle.load_command.specs.Causes.{IsTooLong}
 use Rattle.load_command.specs.Inputs.{IsInputDue, IsReadDue, IsToldUnread, input_read, no_input_memory, read_fault, too_long}
 
@@ -35,7 +36,7 @@ taken_long input taken left_new h many =
 
 -- ---- what was due, and was written
 
-module _ {D : Type 0} (seen : D → Seen) (Taken : List ℕ → Type 0) (left left' x y : Option (List ℕ)) where
+module _ {D : Type 0} (seen : D → Seen) (Taken : Taking) (left left' x y : Option (List ℕ)) where
   -- an input was not read, and why was told
   pub wrote_unread : (disk : D) (end : ReadEnd) (status : ExitStatus) → EndsReading MOST_INPUT_BYTES left left' end → IsToldUnread end x y status → Wrote (IsReadDue seen Taken left left' disk disk) x y status
   wrote_unread disk ends.Memory status ended told = wrote_line (IsReadDue seen Taken left left' disk disk) x y statuses.Memory memory_text status (no_input_memory refl) told

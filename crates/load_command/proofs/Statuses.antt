@@ -19,7 +19,7 @@ use Rattle.journal_texts.specs.DiskTexts.{opening_status}
 use Rattle.journal_texts.proofs.Openings.{opening_among}
 use Rattle.journal_texts.proofs.Written.{wrote_among}
 use Rattle.group_runs.specs.Runs.{load_status, some_end}
-use Rattle.load_command.specs.Headline.{IsLoadHeadline, LoadEnd, all_kept, disk_failed, sink_failed}
+use Rattle.load_command.specs.Headline.{IsLoadHeadline, LoadEnd, Taking, all_kept, disk_failed, sink_failed}
 use Rattle.load_command.specs.Due.{IsLoadDue, loaded, no_output_memory, not_opened}
 use Rattle.load_command.specs.Inputs.{IsInputDue, bad_line, batches_read, no_line_memory, no_request_memory, not_read}
 
@@ -47,7 +47,7 @@ module _ (low high : ℕ) (requests : List (List Request)) (groups : List (List 
   ended_rose status told (sink_failed rest is none) disk = cc
   ended_rose status told (disk_failed rest before after is from to rose) disk = risen_within low before after high from (omega (arith, to)) rose
 
-module _ {D : Type 0} (seen : D → Seen) (Taken : List ℕ → Type 0) (old new : D) where
+module _ {D : Type 0} (seen : D → Seen) (Taken : Taking) (old new : D) where
   pub headline_one : (batches : List (List Request)) (status : ExitStatus) (text : List ℕ) → IsLoadHeadline seen Taken old new batches status text → IsOneOf load_statuses status
   headline_one batches status text h = ended_one (seen old).count (seen new).count _ h.groups h.tried status h.told h.ended
 

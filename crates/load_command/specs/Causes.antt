@@ -10,7 +10,7 @@ use Rattle.journal_texts.specs.bureau_desk.specs.journal_replay.specs.Replays.{A
 use Rattle.journal_texts.specs.printed_text.specs.declared.exit_status.ExitStatus.{ExitStatus}
 use Rattle.journal_texts.specs.printed_text.specs.declared.exit_status.ExitStatus.TheVariants as statuses
 use Rattle.journal_texts.specs.printed_text.specs.Statuses.{IsOneOf}
-use Rattle.load_command.specs.Headline.{IsLoadHeadline}
+use Rattle.load_command.specs.Headline.{IsLoadHeadline, Taking}
 
 -- ---- causes
 
@@ -40,7 +40,7 @@ pub record HoldsUnsound (disk : Seen) : Type 0 where
   pub none : (records : List Record) → AreFound disk.tells disk.reads records → AreSound records → ⊥
 
 -- the batches of the input were loaded, and some line was full
-pub record HadFullLine {D : Type 0} (seen : D → Seen) (Taken : List ℕ → Type 0) (old new : D) (input : List ℕ) : Type 0 where
+pub record HadFullLine {D : Type 0} (seen : D → Seen) (Taken : Taking) (old new : D) (input : List ℕ) : Type 0 where
   pub batches : List (List Request)
   pub spelled : IsLoadText input batches
   pub text : List ℕ
@@ -63,7 +63,7 @@ pub record ComesWhere (words : List (List ℕ)) (left : Option (List ℕ)) (disk
 
 -- Why a load without words ends with a status, as far as the source and the disk tell their bytes. That the source, the disk or the
 -- sink failed, their counts tell.
-pub data HasCause {D : Type 0} (seen : D → Seen) (Taken : List ℕ → Type 0) (left : Option (List ℕ)) (old new : D) : ExitStatus
+pub data HasCause {D : Type 0} (seen : D → Seen) (Taken : Taking) (left : Option (List ℕ)) (old new : D) : ExitStatus
     → Type 0 where
   done : HasCause seen Taken left old new statuses.Done
   source_failed : HasCause seen Taken left old new statuses.Source
@@ -76,7 +76,7 @@ pub data HasCause {D : Type 0} (seen : D → Seen) (Taken : List ℕ → Type 0)
   no_memory : HasCause seen Taken left old new statuses.Memory
 
 -- Each status comes only where its cause is: there were words, which was told or the sink failed; or a load was asked for.
-pub data ComesOnly {D : Type 0} (seen : D → Seen) (Taken : List ℕ → Type 0) (words : List (List ℕ)) (left : Option (List ℕ))
+pub data ComesOnly {D : Type 0} (seen : D → Seen) (Taken : Taking) (words : List (List ℕ)) (left : Option (List ℕ))
     (old new : D) : ExitStatus → Type 0 where
   some_words : words ≢ [] → (status : ExitStatus) → IsOneOf (statuses.Words ∷ statuses.Sink ∷ []) status
       → ComesOnly seen Taken words left old new status

@@ -8,12 +8,11 @@ use Rattle.journal_texts.specs.bureau_desk.specs.fault_count.specs.Counts.{HasRi
 use Rattle.journal_texts.specs.printed_text.specs.declared.exit_status.ExitStatus.{ExitStatus}
 use Rattle.journal_texts.specs.printed_text.specs.declared.exit_status.ExitStatus.TheVariants as statuses
 use Rattle.journal_texts.specs.Journals.{HasRoomForAll, HoldsSound}
-use Rattle.load_command.specs.Headline.{IsLoadHeadline, requests_of}
+use Rattle.load_command.specs.Headline.{HasTakenFirst, IsLoadHeadline, Taking, requests_of}
 use Rattle.load_command.specs.Causes.{IsWholeInput}
-use Rattle.load_command.specs.Due.{HasTakenFirst}
 
 -- the batches were loaded: each line was replied to, or a line was full and none without memory
-abbrev pub IsAllLoaded : {D : Type 0} → (D → Seen) → (List ℕ → Type 0) → D → D → List (List Request) → ExitStatus → List ℕ → Type 0
+abbrev pub IsAllLoaded : {D : Type 0} → (D → Seen) → Taking → D → D → List (List Request) → ExitStatus → List ℕ → Type 0
 IsAllLoaded seen Taken old new batches status text = ((status ≡ statuses.Done) ⊎ (status ≡ statuses.Limit))
     × IsLoadHeadline seen Taken old new batches status text
 

@@ -1,5 +1,6 @@
 -- What a load of batches is.
-use Rattle.std.specs.Prelude.{◌≡◌, ◌≤◌, ℕ, Bool, false, List, [], ◌∷◌, ◌++◌, codes, drop, flat_map, length, map, take, ◌-◌, IsTrue}
+use Rattle.std.specs.Prelude.{◌≡◌, ◌≤◌, ℕ, Bool, false, List, [], ◌∷◌, ◌++◌, codes, drop, flat_map, length, map, take, ◌-◌, IsTrue, Option}
+use Rattle.std.specs.Io.KnownBytes.{Appends}
 use Rattle.journal_texts.specs.bureau_desk.specs.disk_model.specs.Calls.{Seen, GoesOn, IsPresent}
 use Rattle.journal_texts.specs.bureau_desk.specs.claim_history.specs.declared.call.Call.{Call}
 use Rattle.journal_texts.specs.bureau_desk.specs.claim_history.specs.declared.call.PoolEntry.{PoolEntry}
@@ -18,8 +19,10 @@ use Rattle.journal_texts.specs.printed_text.specs.declared.exit_status.ExitStatu
 use Rattle.journal_texts.specs.printed_text.specs.Printing.{added_text}
 use Rattle.journal_texts.specs.DiskTexts.{told_counts}
 use Rattle.journal_texts.specs.Journals.{HasRoomForAll, HoldsSound}
+use Rattle.group_runs.specs.disk_witness.specs.Shown.{Shown}
 use Rattle.group_runs.specs.group_loader.specs.Groups.{HasGroupMoments, StandsForWhole}
 use Rattle.group_runs.specs.Lines.{GroupsAreDue, group_calls, groups_add, groups_text, lines_add, requests_of_lines}
+use Rattle.group_runs.specs.Order.{AreInOrder, IsShownAt}
 use Rattle.group_runs.specs.Runs.{KeepsHistory, calls_of_group, groups_of, load_status, some_end}
 
 -- the requests of batches, in the order of the input
@@ -50,6 +53,33 @@ abbrev pub sure_load_text : List PoolEntry → List PoolEntry → List (List Lin
 sure_load_text opened begun [] = []
 sure_load_text opened begun (g ∷ groups) = load_text opened begun (but_last_group (g ∷ groups))
 
+-- what is told of a sink and a witness, by the entries of the records, those with the abandonments, and the groups that are kept
+abbrev pub Taking : Type 1
+Taking = List PoolEntry → List PoolEntry → List (List Line) → Type 0
+
+-- the sink took the text that it has whatever the status, and perhaps more
+abbrev pub HasTakenFirst : Option (List ℕ) → Option (List ℕ) → Taking
+HasTakenFirst held_old held_new opened begun groups =
+    (more : List ℕ) × Appends held_old held_new (sure_load_text opened begun groups ++ more)
+
+-- Before the lines of the abandonments, when it had taken nothing of this call, the sink and the disk were shown, and each image of the
+-- disk from then on holds all calls that were accepted up to the end of the opening. Behind these lines it goes on so before the text of
+-- each group: each image of the disk from then on holds all calls that were accepted up to the end of the group.
+abbrev pub IsInOrder : {D : Type 0} → (D → Seen) → D → Option (List ℕ) → List PoolEntry → List PoolEntry → List (List Line)
+    → List (Shown D) → Type 0
+IsInOrder seen new held opened begun groups [] = ⊥
+IsInOrder seen new held opened begun groups (s ∷ shown) =
+    IsShownAt seen new held [] (accepted_calls begun) s
+    × AreInOrder seen new held (added_text opened (drop (length opened) begun)) begun groups shown
+
+-- the same, and what the witness was shown since, in this order
+pub record HasTakenInOrder {D : Type 0} (seen : D → Seen) (new : D) (held_old held_new : Option (List ℕ))
+    (shown_old shown_new : List (Shown D)) (opened begun : List PoolEntry) (groups : List (List Line)) : Type 0 where
+  pub taken : HasTakenFirst held_old held_new opened begun groups
+  pub shown : List (Shown D)
+  pub were_shown : shown_new ≡ shown_old ++ shown
+  pub order : IsInOrder seen new held_old opened begun groups shown
+
 -- How it ended, between these counts of the disk, with the status and what is told behind the texts of the groups that are kept. All
 -- groups of the requests are; or the sink failed, at the text of the last of them or at the lines of the abandonments; or the disk failed
 -- at one more, which was tried.
@@ -76,12 +106,12 @@ pub record SurvivesGroups {D : Type 0} (seen : D → Seen) (old new : D) (begun 
   pub moments : HasGroupMoments (seen new) (seen opened).moment (accepted_calls begun) (group_calls begun groups) tried
   pub at_exit : (c : List ℕ) → IsPresent (seen new) c → StandsForWhole (accepted_calls history) tried c
 
--- A load of batches, and the status and the text that are due. Its parts: the history; how it ended; what is written, and what the
--- sink took of it at least; that each line has the one reply that is due, or was full as is told, or had no memory, and that within the
--- bound none is full; that the history is legal and within the limits, its acts are valid and its calls can be kept in a journal, also
--- with the group that was tried; what the disk reads at the end, which stands for the accepted calls, alone or with that whole group, and
--- so for sound records; and crashes.
-pub record IsLoadHeadline {D : Type 0} (seen : D → Seen) (Taken : List ℕ → Type 0) (old new : D) (batches : List (List Request))
+-- A load of batches, and the status and the text that are due. Its parts: the history; how it ended; what is written, and what is told of
+-- the sink, such as what it took of that at least; that each line has the one reply that is due, or was full as is told, or had no memory,
+-- and that within the bound none is full; that the history is legal and within the limits, its acts are valid and its calls can be kept in
+-- a journal, also with the group that was tried; what the disk reads at the end, which stands for the accepted calls, alone or with that
+-- whole group, and so for sound records; and crashes.
+pub record IsLoadHeadline {D : Type 0} (seen : D → Seen) (Taken : Taking) (old new : D) (batches : List (List Request))
     (status : ExitStatus) (text : List ℕ) : Type 0 where
   pub opened : List PoolEntry
   pub begun : List PoolEntry
@@ -92,7 +122,7 @@ pub record IsLoadHeadline {D : Type 0} (seen : D → Seen) (Taken : List ℕ →
   pub told : List ℕ
   pub ended : LoadEnd (seen old).count (seen new).count (groups_of batches) groups tried status told
   pub text_is : text ≡ load_text opened begun groups ++ told
-  pub taken : Taken (sure_load_text opened begun groups)
+  pub taken : Taken opened begun groups
   pub due : GroupsAreDue begun (groups ++ tried ∷ [])
   pub none_full : HasRoomForAll is_history.records (requests_of batches) → some_end is_full_end groups ≡ false
   pub keeps : KeepsHistory history

@@ -12,8 +12,10 @@ use Rattle.load_reading.specs.Reading.{IsFirstBadLoadLine, IsLoadText, IsNoLoadT
 use Rattle.journal_texts.specs.printed_text.specs.declared.exit_status.ExitStatus.{ExitStatus}
 use Rattle.journal_texts.specs.printed_text.specs.declared.exit_status.ExitStatus.TheVariants as statuses
 use Rattle.journal_texts.specs.printed_text.specs.Texts.{bad_line_text, memory_text, read_text, too_long_text, words_text}
-use Rattle.journal_texts.specs.printed_text.specs.Writing.{IsWritten}
-use Rattle.load_command.specs.Due.{IsLoadDue, WroteLoad}
+use Rattle.journal_texts.specs.printed_text.specs.Writing.{IsWritten, Wrote}
+use Rattle.group_runs.specs.disk_witness.specs.Shown.{Shown}
+use Rattle.load_command.specs.Headline.{HasTakenFirst, Taking}
+use Rattle.load_command.specs.Due.{IsLoadDue, WroteInOrder}
 
 -- ---- inputs
 
@@ -24,7 +26,7 @@ pub data IsBadLineDue (input : List ℕ) : ExitStatus → List ℕ → Type 0 wh
       → IsBadLineDue input statuses.Form (bad_line_text line cause)
 
 -- the status and the text that an input comes to
-pub data IsInputDue {D : Type 0} (seen : D → Seen) (Taken : List ℕ → Type 0) (old new : D) (input : List ℕ) : ExitStatus → List ℕ
+pub data IsInputDue {D : Type 0} (seen : D → Seen) (Taken : Taking) (old new : D) (input : List ℕ) : ExitStatus → List ℕ
     → Type 0 where
   no_request_memory : new ≡ old → IsInputDue seen Taken old new input statuses.Memory memory_text
   not_read : new ≡ old → (status : ExitStatus) (text : List ℕ) → IsBadLineDue input status text
@@ -34,7 +36,7 @@ pub data IsInputDue {D : Type 0} (seen : D → Seen) (Taken : List ℕ → Type 
 
 -- The status and the text that are due after the reading of an input: a fault of the reading, which leaves the disk, or what the
 -- input comes to.
-pub data IsReadDue {D : Type 0} (seen : D → Seen) (Taken : List ℕ → Type 0) (left_old left_new : Option (List ℕ)) (old new : D) : ExitStatus
+pub data IsReadDue {D : Type 0} (seen : D → Seen) (Taken : Taking) (left_old left_new : Option (List ℕ)) (old new : D) : ExitStatus
     → List ℕ → Type 0 where
   no_input_memory : new ≡ old → IsReadDue seen Taken left_old left_new old new statuses.Memory memory_text
   read_fault : new ≡ old → IsReadDue seen Taken left_old left_new old new statuses.Source read_text
@@ -52,7 +54,7 @@ IsToldUnread ends.TooLong held_old held_new status = IsWritten held_old held_new
 -- ---- words
 
 -- The status and the text that are due for the words, which are to be none: with any word nothing is read.
-pub data IsDue {S D : Type 0} (left : S → Option (List ℕ)) (seen : D → Seen) (Taken : List ℕ → Type 0) (words : List (List ℕ))
+pub data IsDue {S D : Type 0} (left : S → Option (List ℕ)) (seen : D → Seen) (Taken : Taking) (words : List (List ℕ))
     (source source' : S) (old new : D) : ExitStatus → List ℕ → Type 0 where
   bad_words : words ≢ [] → source' ≡ source → new ≡ old → IsDue left seen Taken words source source' old new statuses.Words words_text
   asked : words ≡ [] → (status : ExitStatus) (text : List ℕ) → IsReadDue seen Taken (left source) (left source') old new status text
@@ -66,4 +68,10 @@ pub data IsMemoryDue : ExitStatus → List ℕ → Type 0 where
 abbrev pub Ran : {S D : Type 0} → (S → Option (List ℕ)) → (D → Seen) → List (List ℕ) → S → S → D → D → Option (List ℕ)
     → Option (List ℕ) → ExitStatus → Type 0
 Ran left seen words source source' old new held_old held_new status =
-    WroteLoad (λ Taken. IsDue left seen Taken words source source' old new) held_old held_new status
+    Wrote (IsDue left seen (HasTakenFirst held_old held_new) words source source' old new) held_old held_new status
+
+-- the same before a witness, who was shown sink and disk in order
+abbrev pub RanInOrder : {S D : Type 0} → (S → Option (List ℕ)) → (D → Seen) → List (List ℕ) → S → S → D → D → Option (List ℕ)
+    → Option (List ℕ) → List (Shown D) → List (Shown D) → ExitStatus → Type 0
+RanInOrder left seen words source source' old new held_old held_new shown_old shown_new status =
+    WroteInOrder seen new (λ Taken. IsDue left seen Taken words source source' old new) held_old held_new shown_old shown_new status

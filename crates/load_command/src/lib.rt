@@ -2,7 +2,8 @@
 //! source, a sink and a disk.
 //!
 //! The input is read whole before the disk is called. The journal is opened as for a run, and the lines of the abandonments are printed.
-//! Then the batches are served by `load_batches`, each group of which is on the disk, whole, before its text is printed.
+//! Then the batches are served by `load_batches`, each group of which is on the disk, whole, before its text is printed: `load_in_order` is
+//! `load` with a `Witness`, which is shown the sink and the disk before each text.
 #![tactic(auto)]
 
 mod input;
@@ -12,6 +13,6 @@ mod serving;
 mod tests;
 mod top;
 
-pub use group_runs::ExitStatus;
+pub use group_runs::{ExitStatus, SilentWitness, Witness};
 pub use serving::load_requests;
-pub use top::{Ended, load, without_words};
+pub use top::{Ended, load, load_in_order, without_words};

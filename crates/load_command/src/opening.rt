@@ -4,12 +4,12 @@ ghost use Rattle.setoff_model.specs.declared.limits.TheConstants.{OUTPUT_BYTES};
 ghost use Rattle.journal_texts.specs.bureau_desk.specs.Opening.{IsDeskRefused};
 ghost use Rattle.journal_texts.specs.printed_text.specs.Statuses.{TellsSinkFault};
 ghost use Rattle.group_runs.specs.declared.limits.TheConstants.{GROUP_LINES};
-ghost use Rattle.load_command.specs.Due.{HasBegun, HasOpened, IsNotBegunDue, WroteLoad};
+ghost use Rattle.load_command.specs.Due.{HasBegun, HasOpened, IsNotBegunDue, WroteInOrder};
 
 use bureau_edge::Sink;
 use disk_model::Disk;
 use group_runs::{
-    Answer, ExitStatus, GROUP_LINES, Loader, output_buffer, print_batch, tell_no_memory,
+    Answer, ExitStatus, GROUP_LINES, Loader, Witness, output_buffer, print_batch, tell_no_memory,
 };
 use journal_texts::{Desk, DeskRefused, tell_refused};
 use std::alloc::{AllocError, Global};
@@ -75,21 +75,24 @@ fn open_loader<D: Disk>(alloc: Global, disk: D) -> Result<Opened<D>, DeskRefused
     })
 }
 
-/// Begins a load on the journal of a disk, and prints the abandonments of the rounds that it left open.
+/// Begins a load on the journal of a disk, shows a witness the sink and the disk, and then prints the abandonments of the rounds that
+/// the journal left open.
 ///
 /// An Err has told that there was no memory for the output, or why the journal was not opened; or the sink failed.
-pub(crate) fn begin<K: Sink, D: Disk>(
+pub(crate) fn begin<K: Sink, W: Witness<K, D>, D: Disk>(
     alloc: Global,
     sink: &mut K,
+    witness: &mut W,
     disk: D,
 ) -> Result<Begun<D>, NotBegun<D>>
-    ensures begun { IfOk result (λ b. HasBegun D.seen disk b.loader (K.held sink.old) (K.held sink.new)) }
+    ensures begun { IfOk result (λ b. HasBegun D.seen disk b.loader (K.held sink.old) (K.held sink.new)
+        (W.shown witness.old) (W.shown witness.new)) }
     ensures empty { IfOk result (λ b. b.room.buffer.items ≡ []) }
     ensures spare { IfOk result (λ b. OUTPUT_BYTES ≤ vec_capacity b.room.buffer) }
     ensures list { IfOk result (λ b. GROUP_LINES ≤ vec_capacity b.room.answers) }
     ensures kept { IfOk result (λ _. K.faults sink.new ≡ K.faults sink.old) }
-    ensures wrote { IfErr result (λ e. WroteLoad (λ taken. IsNotBegunDue D.seen taken disk e.disk) (K.held sink.old)
-        (K.held sink.new) e.status) }
+    ensures wrote { IfErr result (λ e. WroteInOrder D.seen e.disk (λ taken. IsNotBegunDue D.seen taken disk e.disk) (K.held sink.old)
+        (K.held sink.new) (W.shown witness.old) (W.shown witness.new) e.status) }
     ensures write_fault { IfErr result (λ e. TellsSinkFault (K.faults sink.old) (K.faults sink.new) e.status) }
 {
     let Ok(mut room) = output_room(alloc) else {
@@ -107,6 +110,7 @@ pub(crate) fn begin<K: Sink, D: Disk>(
             });
         }
     };
+    witness.show(sink, loader.disk());
     if print_batch(sink, &mut room.buffer, loader.books(), from, &[], &[]).is_err() {
         return Err(NotBegun {
             status: ExitStatus::Sink,

@@ -6,13 +6,16 @@ ghost use Rattle.journal_texts.specs.printed_text.specs.Statuses.{IsNumberOf, Te
 ghost use Rattle.journal_texts.specs.printed_text.specs.Writing.{Wrote};
 ghost use Rattle.load_command.specs.Causes.{ComesOnly, ComesWhere};
 ghost use Rattle.load_command.specs.Completeness.{Completes};
-ghost use Rattle.load_command.specs.Due.{HasTakenFirst, WroteLoad};
-ghost use Rattle.load_command.specs.Inputs.{IsMemoryDue, IsReadDue, IsToldUnread, Ran};
+ghost use Rattle.load_command.specs.Due.{WroteInOrder};
+ghost use Rattle.load_command.specs.Headline.{HasTakenFirst};
+ghost use Rattle.load_command.specs.Inputs.{IsMemoryDue, IsReadDue, IsToldUnread, Ran, RanInOrder};
 
 use crate::input::load_input;
 use bureau_edge::{ReadEnd, Sink, Source, read_whole};
 use disk_model::Disk;
-use group_runs::{ExitStatus, tell_no_memory, tell_read_fault, tell_too_long, tell_words};
+use group_runs::{
+    ExitStatus, SilentWitness, Witness, tell_no_memory, tell_read_fault, tell_too_long, tell_words,
+};
 use round_journal::bytes_hold_one_list;
 use setoff_model::limits::MOST_INPUT_BYTES;
 use std::alloc::Global;
@@ -41,39 +44,41 @@ fn tell_unread<K: Sink>(end: ReadEnd, sink: &mut K) -> ExitStatus
 
 // Loads the requests of a source into the journal of a disk.
 #[tactic(none)]
-fn load_source<S: Source, K: Sink, D: Disk>(
+fn load_source<S: Source, K: Sink, W: Witness<K, D>, D: Disk>(
     alloc: Global,
     source: &mut S,
     sink: &mut K,
+    witness: &mut W,
     disk: D,
 ) -> (ExitStatus, D)
-    ensures wrote { WroteLoad (λ taken. IsReadDue D.seen taken (S.left source.old) (S.left source.new) disk result.1) (K.held sink.old)
-        (K.held sink.new) result.0 }
+    ensures wrote { WroteInOrder D.seen result.1 (λ taken. IsReadDue D.seen taken (S.left source.old) (S.left source.new) disk result.1)
+        (K.held sink.old) (K.held sink.new) (W.shown witness.old) (W.shown witness.new) result.0 }
     ensures read_fault { result.0 ≡ statuses.Source → HasRisen (S.faults source.old) (S.faults source.new) }
     ensures write_fault { TellsSinkFault (K.faults sink.old) (K.faults sink.new) result.0 }
 {
     match read_whole(alloc, source, MOST_INPUT_BYTES) {
-        Ok(input) => load_input(alloc, input.as_slice(), sink, disk),
+        Ok(input) => load_input(alloc, input.as_slice(), sink, witness, disk),
         Err(end) => (tell_unread(end, sink), disk),
     }
 }
 
 // Answers the words.
 #[tactic(none)]
-fn answer_words<S: Source, K: Sink, D: Disk>(
+fn answer_words<S: Source, K: Sink, W: Witness<K, D>, D: Disk>(
     alloc: Global,
     words: &[String],
     source: &mut S,
     sink: &mut K,
+    witness: &mut W,
     disk: D,
 ) -> (ExitStatus, D)
-    ensures ran { Ran S.left D.seen (map (λ w. string_bytes w) words.now) source.old source.new disk result.1 (K.held sink.old)
-        (K.held sink.new) result.0 }
+    ensures ran { RanInOrder S.left D.seen (map (λ w. string_bytes w) words.now) source.old source.new disk result.1 (K.held sink.old)
+        (K.held sink.new) (W.shown witness.old) (W.shown witness.new) result.0 }
     ensures read_fault { result.0 ≡ statuses.Source → HasRisen (S.faults source.old) (S.faults source.new) }
     ensures write_fault { TellsSinkFault (K.faults sink.old) (K.faults sink.new) result.0 }
 {
     if words.is_empty() {
-        load_source(alloc, source, sink, disk)
+        load_source(alloc, source, sink, witness, disk)
     } else {
         (tell_words(sink), disk)
     }
@@ -101,12 +106,14 @@ fn answer_words<S: Source, K: Sink, D: Disk>(
 ///
 /// Where the cause of one of these is, 4 or 9 may come in its place, or the status of a step before it: the words, the reading of the
 /// source, the grammar, the opening of the journal, and then the groups in turn, at the end of which 9 comes before 7.
+///
+/// No entry is printed before a crash leaves its act: `load_in_order` tells it by what it shows a witness.
 #[tactic(none)]
 pub fn load<S: Source, K: Sink, D: Disk>(
     alloc: Global,
     words: Vec<String>,
-    mut source: S,
-    mut sink: K,
+    source: S,
+    sink: K,
     disk: D,
 ) -> Ended<S, K, D>
     ensures ran { IsNumberOf (Ran S.left D.seen (map (λ w. string_bytes w) words.items) source result.source disk result.disk
@@ -128,8 +135,50 @@ pub fn load<S: Source, K: Sink, D: Disk>(
         (K.held sink) (K.held result.sink) (HasRisen (S.faults source) (S.faults result.source))
         (HasRisen (K.faults sink) (K.faults result.sink))) result.status }
 {
+    let mut witness = SilentWitness::new();
+    load_in_order(alloc, words, source, sink, &mut witness, disk)
+}
+
+/// What `load` does, before a witness. It is shown the sink and the disk before the text of each group, and before the lines of the
+/// abandonments. Each image of the disk from that moment on holds all calls that were accepted up to the end of the group, or of the
+/// opening.
+#[tactic(none)]
+pub fn load_in_order<S: Source, K: Sink, W: Witness<K, D>, D: Disk>(
+    alloc: Global,
+    words: Vec<String>,
+    mut source: S,
+    mut sink: K,
+    witness: &mut W,
+    disk: D,
+) -> Ended<S, K, D>
+    ensures ran { IsNumberOf (RanInOrder S.left D.seen (map (λ w. string_bytes w) words.items) source result.source disk result.disk
+        (K.held sink) (K.held result.sink) (W.shown witness.old) (W.shown witness.new)) result.status }
+
+    // A fault of a device is told only where it was counted, and one of the sink wherever it was.
+    ensures read_fault { result.status ≡ number_of statuses.Source → HasRisen (S.faults source) (S.faults result.source) }
+    ensures write_fault { result.status ≡ number_of statuses.Sink → HasRisen (K.faults sink) (K.faults result.sink) }
+    ensures write_fault_told { K.faults sink < K.faults result.sink → result.status ≡ number_of statuses.Sink }
+    ensures disk_fault { result.status ≡ number_of statuses.Disk → HasRisen (D.seen disk).count (D.seen result.disk).count }
+
+    // Each status comes where its cause is, and only there.
+    ensures comes { IsNumberOf (ComesWhere (map (λ w. string_bytes w) words.items) (S.left source) (D.seen disk)) result.status }
+    ensures only { IsNumberOf (ComesOnly D.seen (HasTakenFirst (K.held sink) (K.held result.sink))
+        (map (λ w. string_bytes w) words.items) (S.left source) disk result.disk) result.status }
+
+    // Without a fault it is all done.
+    ensures complete { IsNumberOf (Completes D.seen (map (λ w. string_bytes w) words.items) (S.left source) disk result.disk
+        (K.held sink) (K.held result.sink) (HasRisen (S.faults source) (S.faults result.source))
+        (HasRisen (K.faults sink) (K.faults result.sink))) result.status }
+{
     bytes_hold_one_list();
-    let (status, disk) = answer_words(alloc, words.as_slice(), &mut source, &mut sink, disk);
+    let (status, disk) = answer_words(
+        alloc,
+        words.as_slice(),
+        &mut source,
+        &mut sink,
+        witness,
+        disk,
+    );
     Ended {
         status: status.number(),
         source,

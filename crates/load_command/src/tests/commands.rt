@@ -1,7 +1,7 @@
 //! Tests of whole loads: the requests of an input, a disk before and after, and what was printed.
 
 use crate::tests::made::{disk_of, held};
-use crate::{ExitStatus, load_requests};
+use crate::{ExitStatus, SilentWitness, load_requests};
 use bureau_edge::BytesSink;
 use disk_model::MemoryDisk;
 use group_runs::first_close;
@@ -25,7 +25,9 @@ fn left_by(rt: &(impl Abort + AllocGlobal), fails: &[u64]) -> Left {
     };
     let mut sink = BytesSink::new(rt.alloc(), Vec::new(rt.alloc()));
     let disk = disk_of(rt, b"", fails);
-    let (status, disk) = load_requests(rt.alloc(), batches.as_slice(), &mut sink, disk);
+    let mut witness = SilentWitness::new();
+    let batches = batches.as_slice();
+    let (status, disk) = load_requests(rt.alloc(), batches, &mut sink, &mut witness, disk);
     Left { status, sink, disk }
 }
 

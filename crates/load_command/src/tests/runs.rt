@@ -3,7 +3,9 @@
 use crate::tests::made::{begin, held};
 use bureau_edge::BytesSink;
 use disk_model::MemoryDisk;
-use group_runs::{ExitStatus, GROUP_LINES, LoadBreak, first_close, load_batches, output_buffer};
+use group_runs::{
+    ExitStatus, GROUP_LINES, LoadBreak, SilentWitness, first_close, load_batches, output_buffer,
+};
 use request_text::{Batch, read_requests};
 use std::process::Abort;
 
@@ -49,6 +51,7 @@ fn left_by(rt: &(impl Abort + AllocGlobal), on_disk: &[u64], on_sink: &[u64]) ->
         batches.as_slice(),
         &mut answers,
         &mut sink,
+        &mut SilentWitness::new(),
         &mut buffer,
     );
     let (status, disk) = match ended {

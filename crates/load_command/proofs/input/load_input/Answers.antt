@@ -7,7 +7,8 @@ use Rattle.journal_texts.specs.printed_text.specs.declared.exit_status.ExitStatu
 use Rattle.journal_texts.specs.printed_text.specs.Texts.{memory_text}
 use Rattle.journal_texts.proofs.Written.{wrote_for, wrote_line}
 use Rattle.group_runs.specs.Runs.{CanAllBeLoaded}
-use Rattle.load_command.specs.Due.{HasTakenFirst, IsLoadDue}
+use Rattle.load_command.specs.Headline.{HasTakenInOrder}
+use Rattle.load_command.specs.Due.{IsLoadDue}
 use Rattle.load_command.specs.Inputs.{IsBadLineDue, IsInputDue, batches_read, no_request_memory, not_read}
 use Rattle.load_command.proofs.Loadable.{all_loadable}
 use Rattle.load_command.proofs.input.load_input.Goals as goal
@@ -25,7 +26,7 @@ pub returns-in-Ok-clause-wrote : goal.returns-in-Ok-clause-wrote
 returns-in-Ok-clause-wrote g c =
     let batches = c.as_slice.result.now in
     let text : IsLoadText c.args.input.now batches = subst (λ (bs : List (List Request)). IsLoadText c.args.input.now bs) (sym c.as_slice.ensures.value) c.in-Ok.ensures.found in
-    let Taken = HasTakenFirst (g.K.Sink.held c.args.sink.now) (g.K.Sink.held c.load_requests.new.sink) in
+    let Taken = HasTakenInOrder g.D.Disk.seen c.load_requests.result.1 (g.K.Sink.held c.args.sink.now) (g.K.Sink.held c.load_requests.new.sink) (g.W.Witness.shown c.args.witness.now) (g.W.Witness.shown c.load_requests.new.witness) in
     wrote_for (IsLoadDue g.D.Disk.seen Taken c.args.disk c.load_requests.result.1 batches) (IsInputDue g.D.Disk.seen Taken c.args.disk c.load_requests.result.1 c.args.input.now)
     (g.K.Sink.held c.args.sink.now) (g.K.Sink.held c.load_requests.new.sink) c.load_requests.result.0 (batches_read batches text) c.load_requests.ensures.wrote
 
@@ -34,7 +35,7 @@ returns-in-Ok-clause-write_fault g c = c.load_requests.ensures.write_fault
 
 pub returns-in-Err-Memory-clause-wrote : goal.returns-in-Err-Memory-clause-wrote
 returns-in-Err-Memory-clause-wrote g c =
-    wrote_line (IsInputDue g.D.Disk.seen (HasTakenFirst (g.K.Sink.held c.args.sink.now) (g.K.Sink.held c.tell_no_memory.new.sink)) c.args.disk c.args.disk c.args.input.now)
+    wrote_line (IsInputDue g.D.Disk.seen (HasTakenInOrder g.D.Disk.seen c.args.disk (g.K.Sink.held c.args.sink.now) (g.K.Sink.held c.tell_no_memory.new.sink) (g.W.Witness.shown c.args.witness.now) (g.W.Witness.shown c.args.witness.now)) c.args.disk c.args.disk c.args.input.now)
     (g.K.Sink.held c.args.sink.now) (g.K.Sink.held c.tell_no_memory.new.sink) statuses.Memory memory_text c.tell_no_memory.result (no_request_memory refl) c.tell_no_memory.ensures.written
 
 pub returns-in-Err-Memory-clause-write_fault : goal.returns-in-Err-Memory-clause-write_fault
@@ -48,7 +49,7 @@ tell_bad_line-requires-clause-none g c = (subst (Bad c.args.input.now) c.in-Err-
 
 pub returns-in-Err-BadLine-clause-wrote : goal.returns-in-Err-BadLine-clause-wrote
 returns-in-Err-BadLine-clause-wrote g c =
-    wrote_for (IsBadLineDue c.args.input.now) (IsInputDue g.D.Disk.seen (HasTakenFirst (g.K.Sink.held c.args.sink.now) (g.K.Sink.held c.tell_bad_line.new.sink)) c.args.disk c.args.disk c.args.input.now)
+    wrote_for (IsBadLineDue c.args.input.now) (IsInputDue g.D.Disk.seen (HasTakenInOrder g.D.Disk.seen c.args.disk (g.K.Sink.held c.args.sink.now) (g.K.Sink.held c.tell_bad_line.new.sink) (g.W.Witness.shown c.args.witness.now) (g.W.Witness.shown c.args.witness.now)) c.args.disk c.args.disk c.args.input.now)
     (g.K.Sink.held c.args.sink.now) (g.K.Sink.held c.tell_bad_line.new.sink) c.tell_bad_line.result (not_read refl) c.tell_bad_line.ensures.wrote
 
 pub returns-in-Err-BadLine-clause-write_fault : goal.returns-in-Err-BadLine-clause-write_fault

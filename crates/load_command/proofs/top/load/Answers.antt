@@ -1,64 +1,28 @@
-use Rattle.std.proofs.Common.{◌∙◌, ℕ, List, ap, subst, sym}
-use Rattle.journal_texts.specs.printed_text.specs.declared.exit_status.ExitStatus.TheVariants as statuses
-use Rattle.journal_texts.specs.printed_text.specs.Statuses.{number_of}
-use Rattle.journal_texts.specs.printed_text.proofs.Statuses.{one_number}
-use Rattle.load_command.specs.Due.{HasTakenFirst}
-use Rattle.load_command.specs.Inputs.{Ran}
-use Rattle.load_command.specs.Causes.{ComesOnly, ComesWhere}
-use Rattle.load_command.proofs.ComesOnly.{comes_only, ran_rose}
-use Rattle.load_command.proofs.ComesWhere.{comes_where}
-use Rattle.load_command.proofs.Completeness.{completes}
-use Rattle.load_command.proofs.Words.{bytes_of, same_bytes}
+use Rattle.load_command.proofs.Weaker.{without_order}
 use Rattle.load_command.proofs.top.load.Goals as goal
 
 pub returns-clause-ran : goal.returns-clause-ran
-returns-clause-ran g c = record {
-  status = c.answer_words-status.result.0;
-  number_is = c.number.ensures;
-  holds = subst (λ (ws : List (List ℕ)). Ran g.S.Source.left g.D.Disk.seen ws c.args.source c.answer_words-status.new.source c.args.disk c.answer_words-status.result.1
-      (g.K.Sink.held c.args.sink) (g.K.Sink.held c.answer_words-status.new.sink) c.answer_words-status.result.0)
-      (same_bytes c.as_slice.result.now c.args.words.items c.as_slice.ensures.value) c.answer_words-status.ensures.ran;
-}
+returns-clause-ran g c =
+    let is = c.load_in_order.ensures.ran in
+    record { status = is.status; number_is = is.number_is; holds = without_order _ _ _ _ _ _ _ _ _ _ _ _ is.holds }
 
 pub returns-clause-read_fault : goal.returns-clause-read_fault
-returns-clause-read_fault g c = λ is. c.answer_words-status.ensures.read_fault (one_number c.answer_words-status.result.0 statuses.Source (sym c.number.ensures ∙ is))
+returns-clause-read_fault g c = c.load_in_order.ensures.read_fault
 
 pub returns-clause-write_fault : goal.returns-clause-write_fault
-returns-clause-write_fault g c = λ is. c.answer_words-status.ensures.write_fault.risen (one_number c.answer_words-status.result.0 statuses.Sink (sym c.number.ensures ∙ is))
+returns-clause-write_fault g c = c.load_in_order.ensures.write_fault
 
 pub returns-clause-write_fault_told : goal.returns-clause-write_fault_told
-returns-clause-write_fault_told g c = λ rose. c.number.ensures ∙ ap number_of (c.answer_words-status.ensures.write_fault.told rose)
+returns-clause-write_fault_told g c = c.load_in_order.ensures.write_fault_told
 
 pub returns-clause-disk_fault : goal.returns-clause-disk_fault
-returns-clause-disk_fault g c = λ is. ran_rose _ _ _ _ _ _ _ _ _ _ c.answer_words-status.ensures.ran (one_number c.answer_words-status.result.0 statuses.Disk (sym c.number.ensures ∙ is))
+returns-clause-disk_fault g c = c.load_in_order.ensures.disk_fault
 
 pub returns-clause-comes : goal.returns-clause-comes
-returns-clause-comes g c = record {
-  status = c.answer_words-status.result.0;
-  number_is = c.number.ensures;
-  holds = subst (λ (ws : List (List ℕ)). ComesWhere ws (g.S.Source.left c.args.source) (g.D.Disk.seen c.args.disk) c.answer_words-status.result.0)
-      (same_bytes c.as_slice.result.now c.args.words.items c.as_slice.ensures.value)
-      (comes_where g.S.Source.left g.D.Disk.seen (bytes_of c.as_slice.result.now) c.args.source c.answer_words-status.new.source c.args.disk c.answer_words-status.result.1 _ _ c.answer_words-status.result.0
-      c.answer_words-status.ensures.ran);
-}
+returns-clause-comes g c = c.load_in_order.ensures.comes
 
 pub returns-clause-only : goal.returns-clause-only
-returns-clause-only g c = record {
-  status = c.answer_words-status.result.0;
-  number_is = c.number.ensures;
-  holds = subst (λ (ws : List (List ℕ)). ComesOnly g.D.Disk.seen (HasTakenFirst (g.K.Sink.held c.args.sink) (g.K.Sink.held c.answer_words-status.new.sink)) ws (g.S.Source.left c.args.source) c.args.disk c.answer_words-status.result.1 c.answer_words-status.result.0)
-      (same_bytes c.as_slice.result.now c.args.words.items c.as_slice.ensures.value)
-      (comes_only g.S.Source.left g.D.Disk.seen (bytes_of c.as_slice.result.now) c.args.source c.answer_words-status.new.source c.args.disk c.answer_words-status.result.1 _ _ c.answer_words-status.result.0
-      c.answer_words-status.ensures.ran);
-}
+returns-clause-only g c = c.load_in_order.ensures.only
 
 pub returns-clause-complete : goal.returns-clause-complete
-returns-clause-complete g c = record {
-  status = c.answer_words-status.result.0;
-  number_is = c.number.ensures;
-  holds = completes c.bytes_hold_one_list.ensures.records g.S.Source.left g.D.Disk.seen (bytes_of c.args.words.items) c.args.source c.answer_words-status.new.source c.args.disk c.answer_words-status.result.1 _ _ _ _ c.answer_words-status.result.0
-      (subst (λ (ws : List (List ℕ)). Ran g.S.Source.left g.D.Disk.seen ws c.args.source c.answer_words-status.new.source c.args.disk c.answer_words-status.result.1
-      (g.K.Sink.held c.args.sink) (g.K.Sink.held c.answer_words-status.new.sink) c.answer_words-status.result.0)
-      (same_bytes c.as_slice.result.now c.args.words.items c.as_slice.ensures.value) c.answer_words-status.ensures.ran)
-      c.answer_words-status.ensures.read_fault c.answer_words-status.ensures.write_fault.risen;
-}
+returns-clause-complete g c = c.load_in_order.ensures.complete
