@@ -6,3 +6,4 @@ pub mod Counted
 pub mod Sealed
 pub mod Running
 mod Worked
+mod Named

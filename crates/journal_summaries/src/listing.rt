@@ -4,6 +4,7 @@ ghost use Rattle.printed_text.specs.claim_book.specs.Book.{ledger_of};
 ghost use Rattle.printed_text.specs.claim_history.specs.Facts.{party_place};
 ghost use Rattle.printed_text.specs.claim_history.specs.Touched.{is_of_firm, is_side_of};
 ghost use Rattle.journal_summaries.specs.Account.{is_listed, is_party_of};
+ghost use Rattle.journal_summaries.specs.Replay.{IsDebtorOf, IsNamed, NamesDebtor};
 
 use claim_history::{Act, Entry, Reply};
 use printed_text::Book;
@@ -22,15 +23,25 @@ fn is_side(book: &Book, firm: &Name, key: &Key) -> bool
     }
 }
 
-// Whether an act names a firm, or a claim of it.
+// The same of a claim whose debtor is known, which is not looked up.
+fn is_side_named(book: &Book, firm: &Name, key: &Key, debtor: &Name) -> bool
+    requires { IsDebtorOf (ledger_of book.now.history) key.now debtor.now }
+    ensures { result ≡ is_side_of (ledger_of book.now.history) firm.now key.now }
+{
+    let _ = book;
+    *firm == key.creditor || *firm == *debtor
+}
+
+// Whether an act names a firm, or a claim of it. The debtor that it names is the claim's.
 fn is_of_firm(book: &Book, firm: &Name, act: &Act) -> bool
+    requires { NamesDebtor (ledger_of book.now.history) act.now }
     ensures { result ≡ is_of_firm (ledger_of book.now.history) firm.now act.now }
 {
     match act {
         Act::Firm { firm: other } => *firm == *other,
-        Act::File { key, .. } => is_side(book, firm, key),
-        Act::Confirm { key, .. } => is_side(book, firm, key),
-        Act::Dispute { key, .. } => is_side(book, firm, key),
+        Act::File { key, debtor, .. } => is_side_named(book, firm, key, debtor),
+        Act::Confirm { key, debtor, .. } => is_side_named(book, firm, key, debtor),
+        Act::Dispute { key, debtor } => is_side_named(book, firm, key, debtor),
         Act::Withdraw { key } => is_side(book, firm, key),
         Act::Receive { key, .. } => is_side(book, firm, key),
         Act::Fund { firm: other, .. } => *firm == *other,
@@ -61,8 +72,10 @@ fn is_party(firm: &Name, cut: &Option<Cut>) -> bool
     }
 }
 
-/// Whether the register of a firm has an entry, by the book after it. Where it publishes a round, the round's cut is given.
+/// Whether the register of a firm has an entry, by the book after it. Where it publishes a round, the round's cut is given. Where it
+/// is accepted, the debtor that it names is the claim's.
 pub(crate) fn is_listed(book: &Book, firm: &Name, entry: &Entry, cut: &Option<Cut>) -> bool
+    requires { IsNamed (ledger_of book.now.history) entry.now.act entry.now.reply }
     ensures { result ≡ is_listed firm.now cut.now (ledger_of book.now.history) entry.now }
 {
     match entry.reply {
