@@ -6,18 +6,11 @@ ghost use Rattle.flow_solver.specs.residual_state.specs.Carries.{IsNoWorse};
 
 use flow_solver::{State, augment, carry_all, reprice, surplus_of};
 use simplex_engine::Advice;
+use simplex_engine::schedule::{
+    FEW_HALVES, LEVELS, LEVELS_ASKED, LEVELS_ASKED_SOON, LEVELS_FEW, LEVELS_GAIN, LEVELS_WEIGHTED,
+    SOME_HALVES,
+};
 use std::alloc::{AllocError, Global};
-
-// So many levels are tried at first, more where some units count more than one, and few where there are at most three halves of
-// arcs at a node.
-const MOST: usize = 32;
-
-pub(crate) const MOST_WEIGHTED: usize = 128;
-
-const FEW: usize = 4;
-
-// From so many levels on it is asked whether they get on, or from few where there are at most five halves at a node.
-const ASKED: usize = 16;
 
 // Goes from one level of prices to the next while they get on, up to a level or to the last that is tried at first. It is given
 // what was left before each level, and goes on after these.
@@ -33,10 +26,10 @@ pub(crate) fn first_levels(
 {
     let halves = advice.halves().len();
     let most = most_levels(state, halves).min(last);
-    let asked = if halves / 5 <= state.excess.len() {
-        FEW
+    let asked = if halves / SOME_HALVES <= state.excess.len() {
+        LEVELS_ASKED_SOON
     } else {
-        ASKED
+        LEVELS_ASKED
     };
     for _ in past.len()..most {
         let left = surplus_of(&state.excess);
@@ -51,25 +44,25 @@ pub(crate) fn first_levels(
 
 // How many levels are tried at first.
 fn most_levels(state: &State, halves: usize) -> usize {
-    if halves / 3 <= state.excess.len() {
-        return FEW;
+    if halves / FEW_HALVES <= state.excess.len() {
+        return LEVELS_FEW;
     }
     for edge in &state.edges {
         if 1 < edge.reward {
-            return MOST_WEIGHTED;
+            return LEVELS_WEIGHTED;
         }
     }
-    MOST
+    LEVELS
 }
 
-// Whether levels get on no longer: more than three quarters is left of what was left at half the level.
+// Whether levels get on no longer: too much is left of what was left at half the level.
 fn is_stalled(past: &[u128], left: u128, asked: usize) -> bool {
     let level = past.len();
     if level < asked || level == 0 {
         return false;
     }
     let before = past[level / 2];
-    before - before / 4 < left
+    before - before / LEVELS_GAIN < left
 }
 
 // Goes from one level of prices to the next, until no node has an excess above 0.

@@ -9,11 +9,9 @@ use flow_solver::{State, adopt, state_at_start, surplus_of};
 use net_presolve::{Inner, Parts, Series, Unused, Window, risen};
 use setoff_model::limits::{MOST_AMOUNT, MOST_CLAIMS, MOST_FIRMS, MOST_WEIGHT, MOST_WINDOW};
 use setoff_model::{Name, Party};
+use simplex_engine::schedule::DENSE_HALVES;
 use simplex_engine::{Edge, Halves, Solution, Start, seek_alone, seek_from};
 use std::alloc::{AllocError, Global};
-
-// Where there are more halves of arcs at a node, the net is hardly in parts.
-const DENSE: usize = 128;
 
 // Takes a whole solution that the shape of the net leads to, where it is not dense, any excess is left, and there are turns.
 pub(crate) fn take_parts(
@@ -26,7 +24,7 @@ pub(crate) fn take_parts(
     requires { IsState state.old }
     ensures { OnOk result (StaysOn state.old state.new) }
 {
-    if turns == 0 || halves.len() / DENSE > windows.len() || surplus_of(&state.excess) == 0 {
+    if turns == 0 || halves.len() / DENSE_HALVES > windows.len() || surplus_of(&state.excess) == 0 {
         return Ok(());
     }
     if let Some(Solution { flows, prices }) = found_in_parts(
@@ -37,7 +35,7 @@ pub(crate) fn take_parts(
     Ok(())
 }
 
-// A whole solution that is put together of those of the parts, where a tenth of the claims is between parts, or else of series, or one from
+// A whole solution that is put together of those of the parts, where many claims are between parts, or else of series, or one from
 // risen prices.
 fn found_in_parts(
     alloc: Global,

@@ -3,18 +3,12 @@ ghost use Rattle.std.specs.Prelude.{◌<◌, ℕ, OnOk, length, pos, ◌≤ℤ�
 ghost use Rattle.flow_solver.specs.residual_state.specs.Excesses.{excess_of};
 ghost use Rattle.flow_solver.specs.residual_state.specs.States.{IsState, StaysOn};
 
-use crate::levels::{MOST_WEIGHTED, all_levels, first_levels};
+use crate::levels::{all_levels, first_levels};
 use crate::parting::take_parts;
 use flow_solver::{State, adopt, surplus_of};
+use simplex_engine::schedule::{LEVELS_BEFORE_COLD, LEVELS_WEIGHTED, SPARSE_HALVES, TURNS};
 use simplex_engine::{Advice, Halves, Solution, Start, seek_cold, seek_solution};
 use std::alloc::{AllocError, Global};
-
-// After so many turns, each of twice as much work, the levels go on alone.
-const TURNS: u32 = 8;
-
-// After so many levels the whole is sought once from where nothing is set off, if there are at most six halves of arcs at a node.
-// Else it is sought before the first.
-const LEVELS_BEFORE_COLD: usize = 2;
 
 /// Moves excess until no node of the state has any above 0: one level of prices after another, and the rest at once where levels
 /// stall.
@@ -120,7 +114,7 @@ fn levels_with(
     ensures { OnOk result (StaysOn state.old state.new) }
 {
     let levels = levels_before_cold(advice.halves().len(), state.excess.len());
-    let mut past = Vec::with_capacity(alloc, MOST_WEIGHTED)?;
+    let mut past = Vec::with_capacity(alloc, LEVELS_WEIGHTED)?;
     first_levels(alloc, state, advice, &mut past, levels)?;
     take_cold(alloc, state, advice.halves(), windows, turns, levels != 0)?;
     first_levels(alloc, state, advice, &mut past, usize::MAX)?;
@@ -129,7 +123,7 @@ fn levels_with(
 
 // How many levels come before the whole is sought from where nothing is set off.
 fn levels_before_cold(halves: usize, nodes: usize) -> usize {
-    if halves / 6 <= nodes {
+    if halves / SPARSE_HALVES <= nodes {
         LEVELS_BEFORE_COLD
     } else {
         0

@@ -2,6 +2,7 @@
 use crate::search::{NONE, Search};
 use crate::unused::Unused;
 use level_engine::Edge;
+use level_engine::schedule::CLAIMS_APART;
 use loose_places::at;
 use std::alloc::{AllocError, Global};
 
@@ -31,7 +32,7 @@ impl Parts {
         })
     }
 
-    /// Whether at least a tenth of the claims is between two parts.
+    /// Whether many of the claims are between two parts.
     pub fn are_apart(&self, net: &Unused) -> bool {
         let mut between = 0usize;
         for edge in net.edges.iter().take(net.claims()) {
@@ -39,7 +40,7 @@ impl Parts {
                 between = between.wrapping_add(1);
             }
         }
-        net.claims() / 10 < between
+        net.claims() / CLAIMS_APART < between
     }
 
     // How many there are.

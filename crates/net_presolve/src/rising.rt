@@ -2,13 +2,11 @@
 use crate::parts::Parts;
 use crate::search::NONE;
 use crate::unused::{Unused, edge_at};
+use level_engine::schedule::{CENTS_BACK, NODES_FOR_PRICE};
 use loose_places::{at, put, short};
 use std::alloc::{AllocError, Global};
 
-// Without windows prices rise to at most so many in one, where there are so many nodes for each.
-const FEW_PRICES: usize = 64;
-
-/// A price for each node at which no claim gains but those that lead back, where these have less than a twentieth of all cents, and the
+/// A price for each node at which no claim gains but those that lead back, where these have few of all cents, and the
 /// prices rise to few where there are no windows.
 ///
 /// Nodes stand in the order of a search into the depth, and a claim leads back to one that stands before. So a simplex that begins here,
@@ -43,14 +41,14 @@ fn risen_over(alloc: Global, net: &Unused, left: &[u32]) -> Result<Option<Vec<i3
     }
     let most = highest(&prices);
     let open = !net.halves.around(net.ground()).is_empty();
-    if !open && left.len() / FEW_PRICES < most.unsigned_abs() as usize {
+    if !open && left.len() / NODES_FOR_PRICE < most.unsigned_abs() as usize {
         return Ok(None);
     }
     place_ground(&mut prices, if open { most / 2 } else { 0 });
     Ok(Some(prices))
 }
 
-// Whether less than a twentieth of all cents leads to nodes that were left later.
+// Whether few of all cents lead to nodes that were left later.
 fn few_lead_back(net: &Unused, turns: &[u32]) -> bool {
     let (mut back, mut all) = (0u64, 0u64);
     for edge in net.edges.iter().take(net.claims()) {
@@ -60,7 +58,7 @@ fn few_lead_back(net: &Unused, turns: &[u32]) -> bool {
             back = back.saturating_add(cents);
         }
     }
-    back < all / 20
+    back < all / CENTS_BACK
 }
 
 // Raises the prices of the creditors of a node that were left before it, so far that its claims do not gain.

@@ -3,6 +3,7 @@ use crate::inner::{Inner, Window};
 use crate::search::NONE;
 use crate::unused::edge_at;
 use level_engine::Edge;
+use level_engine::schedule::PARTIES_IN_SERIES;
 use loose_places::{at, put, short};
 use std::alloc::{AllocError, Global};
 
@@ -25,8 +26,8 @@ pub struct Series {
 }
 
 impl Series {
-    /// The net of the series of a net. None where at most a quarter of its parties are inside series. The only error is running out
-    /// of memory, here and below.
+    /// The net of the series of a net. None where too few of its parties are inside series. The only error is running out of
+    /// memory, here and below.
     pub fn of(alloc: Global, net: &Inner) -> Result<Option<Series>, AllocError> {
         let parties = net.windows.len();
         let mut series = Series {
@@ -40,7 +41,7 @@ impl Series {
         };
         note_all(&mut series.outs, &mut series.ins, &net.claims);
         let inside = keep_inside(&mut series.outs, &mut series.ins, &net.windows);
-        if inside <= parties / 4 {
+        if inside <= parties / PARTIES_IN_SERIES {
             return Ok(None);
         }
         let mut numbers = vec![in alloc; NONE; parties]?;

@@ -1,4 +1,5 @@
 //! A net where nothing is set off.
+use level_engine::schedule::CLAIMS_IN_SERIES;
 use level_engine::{Edge, Half, Halves};
 use loose_places::at;
 
@@ -21,9 +22,9 @@ pub struct Unused<'a> {
 }
 
 impl Unused<'_> {
-    /// Whether a party has at most two claims on average, as where series may be.
+    /// Whether a party has few claims on average, as where series may be.
     pub fn is_sparse(&self) -> bool {
-        self.claims() / 2 <= self.ground()
+        self.claims() / CLAIMS_IN_SERIES <= self.ground()
     }
 
     // How many arcs of claims there are.

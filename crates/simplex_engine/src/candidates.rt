@@ -1,14 +1,11 @@
 //! Which arc enters the tree.
 use loose_places::{at, put};
+use spanning_tree::schedule::{AROUND, BLOCK, LOOKS, RUN};
 use spanning_tree::{Arc, Halves, NO_ARC, NOBODY, Part, Tree};
 use std::alloc::{AllocError, Global};
 
-// The arcs of a run stand together in the list of arcs, at first so many. Runs are looked at in an order that spreads over the net.
-const RUN: usize = 16;
-
-// A change of potentials is followed by a look at the arcs around it where they are at most so many halves.
-const AROUND: u64 = 1_024;
-
+// Runs are looked at in an order that spreads over the net.
+//
 // Bad arcs that wait, how long a run is, how many runs there are and are in a block, how far the round over all of them is, and how
 // many arcs were priced in it and looked at besides.
 #[derive(Drop)]
@@ -46,7 +43,7 @@ impl Candidates {
             run: 0,
             runs: 0,
             stride: 1,
-            block: (root_of(arcs) / 8 / RUN).max(1),
+            block: (root_of(arcs) / BLOCK / RUN).max(1),
             idle: 0,
             priced: 0,
             looked: 0,
@@ -167,9 +164,9 @@ impl Candidates {
         self.begin_round(arcs);
     }
 
-    // At how many halves a look is taken at most: none where it was looked at more than twice what was priced.
+    // At how many halves a look is taken at most: none where too many were looked at for what was priced.
     pub(crate) fn most_around(&self) -> u64 {
-        if self.looks && self.looked / 2 <= self.priced {
+        if self.looks && self.looked / LOOKS <= self.priced {
             AROUND
         } else {
             0

@@ -17,5 +17,5 @@ mod draining;
 mod simplex;
 mod turns;
 
-pub use spanning_tree::{Advice, Edge, Halves};
+pub use spanning_tree::{Advice, Edge, Halves, schedule};
 pub use turns::{Solution, Start, seek_alone, seek_cold, seek_from, seek_solution};

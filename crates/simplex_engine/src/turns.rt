@@ -2,6 +2,11 @@
 use crate::draining::Drain;
 use crate::simplex::Simplex;
 use loose_places::narrow;
+use spanning_tree::schedule::{
+    ALONE, DRAIN, DRAIN_BRIEF, FAR_OF, FAR_PARTS, FEW_HALVES, FULL_TRIAL, SLICE, SLICE_MORE,
+    SLICE_MOST, SLICES, SPARSE_HALVES, SPARSE_TRIAL, TURN, TURN_SQUARES, Trial, WARM, WHOLE,
+    WHOLE_SQUARES,
+};
 use spanning_tree::{Edge, Halves};
 use std::alloc::{AllocError, Global};
 
@@ -29,75 +34,29 @@ pub struct Start<'a> {
     pub windows: &'a [u64],
 }
 
-// The work for each half that a drain has at first, and where the whole was sought in vain.
-const BRIEF: u64 = 32;
-
-const DRAIN: u64 = 400;
-
-// The work for each half that the undrained simplex has at first, where there are few.
-const SPARSE: u64 = 700;
-
-// How a simplex is tried: its work for each half at first, and what it has in all where that was at most so much for each arc that
-// entered.
-#[derive(Clone, Copy)]
-struct Trial {
-    first: u64,
-    light: u64,
-    all: u64,
-}
-
-const FEW_HALVES: Trial = Trial {
-    first: 4,
-    light: 48,
-    all: 128,
-};
-
-const MANY_HALVES: Trial = Trial {
-    first: 16,
-    light: 200,
-    all: 128,
-};
-
-// In how many slices a simplex is tried that begins at risen prices. The work that a slice has for each arc that enters, where there are
-// as many halves as nodes: so much, so much more for each time that it could look at all halves, and so much at most.
-const SLICES: usize = 17;
-
-const SLICE: u64 = 200;
-
-const SLICE_MORE: u64 = 36;
-
-const SLICE_MOST: u64 = 2_000;
-
-// The work for each half that the cold simplex has where a drain takes long, besides a quarter of the square of the nodes.
-const COLD: u64 = 400;
-
-// The work for each half that it has where it alone is asked, besides the square of the nodes.
-const ALONE: u64 = 500;
-
 /// A solution from where nothing is set off, if one is found with little work for each arc that enters.
 ///
-/// It is sought where there are more than three halves of arcs at a node and at most six, or where more than three fifths of what is
-/// set off are in excess. Nothing is proved of it. The only error is running out of memory.
+/// It is sought where there are some halves of arcs at a node and not many, or where most of what is set off is in excess. Nothing is proved of it. The only error is running out of memory.
 pub fn seek_cold(
     alloc: Global,
     start: &Start,
     halves: &Halves,
 ) -> Result<Option<Solution>, AllocError> {
-    let (many, nodes) = (halves.len() as u64, start.excess.len() as u64);
-    if many / 3 <= nodes {
+    let (many, nodes) = (halves.len(), start.excess.len());
+    if many / FEW_HALVES <= nodes {
         return Ok(None);
     }
-    if many / 6 <= nodes {
-        return tried_cold(alloc, start, halves, FEW_HALVES);
+    if many / SPARSE_HALVES <= nodes {
+        return tried_cold(alloc, start, halves, SPARSE_TRIAL);
     }
     if is_far(start) {
-        tried_cold(alloc, start, halves, MANY_HALVES)
+        tried_cold(alloc, start, halves, FULL_TRIAL)
     } else {
         Ok(None)
     }
 }
 
-// Whether more than three fifths of what is set off are in excess, and so have to go back.
+// Whether most of what is set off is in excess, and so has to go back.
 fn is_far(start: &Start) -> bool {
     let mut left = 0u128;
     for &amount in start.excess {
@@ -110,7 +69,7 @@ fn is_far(start: &Start) -> bool {
     for &flow in start.flows.iter().take(claims) {
         set_off = set_off.saturating_add(u128::from(flow));
     }
-    set_off / 5 * 3 < left
+    set_off / FAR_OF * FAR_PARTS < left
 }
 
 // A solution from where nothing is set off, if the trial comes to its end.
@@ -252,7 +211,7 @@ fn seek_warm(
     if warm.run(start.edges, halves, work_where_sparse(start, halves))? {
         return answer(alloc, start.edges, warm);
     }
-    let drain = drain_for(alloc, start, halves, BRIEF)?;
+    let drain = drain_for(alloc, start, halves, DRAIN_BRIEF)?;
     if drain.is_over() {
         seek_drained(alloc, start, halves, drain, warm, prices, turns)
     } else {
@@ -299,8 +258,8 @@ fn whole_at_once(
     halves: &Halves,
 ) -> Result<Option<Solution>, AllocError> {
     let nodes = start.excess.len() as u64;
-    let work = (nodes.saturating_mul(nodes) / 4).saturating_add(
-        (halves.len() as u64).saturating_mul(COLD),
+    let work = (nodes.saturating_mul(nodes) / WHOLE_SQUARES).saturating_add(
+        (halves.len() as u64).saturating_mul(WHOLE),
     );
     whole_within(alloc, start, halves, work)
 }
@@ -321,11 +280,10 @@ fn whole_within(
     }
 }
 
-// The work that the undrained simplex has first: none where there are more than three halves at a node.
+// The work that the undrained simplex has first: none where there are not few halves.
 fn work_where_sparse(start: &Start, halves: &Halves) -> u64 {
-    let many = halves.len() as u64;
-    if many / 3 <= start.excess.len() as u64 {
-        many.saturating_mul(SPARSE)
+    if halves.len() / FEW_HALVES <= start.excess.len() {
+        (halves.len() as u64).saturating_mul(WARM)
     } else {
         0
     }
@@ -341,8 +299,8 @@ fn by_turns(
     turns: u32,
 ) -> Result<Option<Solution>, AllocError> {
     let nodes = start.excess.len() as u64;
-    let mut work = nodes.saturating_mul(nodes).saturating_mul(6);
-    work = work.saturating_add((halves.len() as u64).saturating_mul(500));
+    let mut work = nodes.saturating_mul(nodes).saturating_mul(TURN_SQUARES);
+    work = work.saturating_add((halves.len() as u64).saturating_mul(TURN));
     for _ in 0..turns {
         if drained.run(start.edges, halves, work)? {
             return answer(alloc, start.edges, drained);

@@ -12,6 +12,6 @@ mod tree;
 
 pub use arcs::{Arc, NO_ARC, arcs_of};
 pub use forest::{MUCH, Start, own_code, plant};
-pub use level_engine::{Advice, Edge, Half, Halves};
+pub use level_engine::{Advice, Edge, Half, Halves, schedule};
 pub use order::Part;
 pub use tree::{Branch, Circle, NOBODY, Node, Tree};

@@ -1,0 +1,141 @@
+//! The schedule of the solver: what is tried on which nets, in which order and for how long.
+//!
+//! No number here changes what is found, since each answer is tested. It changes only how soon it is found. Halves are those of arcs, two
+//! for each. Work is a count of looks and moves, so that the answer is the same on each machine; it is meant for each half of the net where
+//! nothing else is said.
+
+/// A net has few arcs where it has at most so many halves for each node.
+pub const FEW_HALVES: usize = 3;
+
+/// With at most so many halves for each node it is asked sooner whether levels get on.
+pub const SOME_HALVES: usize = 5;
+
+/// With at most so many halves for each node the whole is sought from where nothing is set off after some levels, and else before them.
+pub const SPARSE_HALVES: usize = 6;
+
+/// With more halves than so many for each node the net is hardly in parts, and none are looked for.
+pub const DENSE_HALVES: usize = 128;
+
+/// The parts of a net are solved apart where more than one claim in so many is between two of them.
+pub const CLAIMS_APART: usize = 10;
+
+/// Series may be where there are at most so many claims for each party.
+pub const CLAIMS_IN_SERIES: usize = 2;
+
+/// Series are taken as one arc each where more than one party in so many is inside one.
+pub const PARTIES_IN_SERIES: usize = 4;
+
+/// A simplex starts at risen prices where less than one cent in so many is of claims that lead back.
+pub const CENTS_BACK: u64 = 20;
+
+/// Without windows prices rise to at most one for so many nodes.
+pub const NODES_FOR_PRICE: usize = 64;
+
+/// So many levels are tried at first.
+pub const LEVELS: usize = 32;
+
+/// So many where some units count more than one.
+pub const LEVELS_WEIGHTED: usize = 128;
+
+/// So many where there are few arcs.
+pub const LEVELS_FEW: usize = 4;
+
+/// From so many levels on it is asked whether they get on.
+pub const LEVELS_ASKED: usize = 16;
+
+/// From so many on where it is asked sooner.
+pub const LEVELS_ASKED_SOON: usize = 4;
+
+/// Levels get on no longer where less than one cent in so many of the excess has gone since half the level.
+pub const LEVELS_GAIN: u128 = 4;
+
+/// The next level goes from the other side where less than one cent in so many of the excess went in the last.
+pub const LEVEL_GAIN: i64 = 4;
+
+/// The part of the halves with gain 0, one in so many, that pushes at a level may look at after each search for layers.
+pub const LEVEL_FUEL: usize = 4;
+
+/// After so many levels the whole is sought from where nothing is set off, in a net with at most `SPARSE_HALVES`.
+pub const LEVELS_BEFORE_COLD: usize = 2;
+
+/// In other nets it is sought where more than `FAR_PARTS` of `FAR_OF` parts of what is set off are in excess, and so have to go back.
+pub const FAR_PARTS: u128 = 3;
+
+/// See `FAR_PARTS`.
+pub const FAR_OF: u128 = 5;
+
+/// How a simplex is tried from where nothing is set off.
+#[derive(Clone, Copy)]
+pub struct Trial {
+    /// Its work at first.
+    pub first: u64,
+    /// It goes on where that was at most so much for each arc that entered.
+    pub light: u64,
+    /// Its work in all then.
+    pub all: u64,
+}
+
+/// The trial in a net with at most `SPARSE_HALVES`.
+pub const SPARSE_TRIAL: Trial = Trial {
+    first: 4,
+    light: 48,
+    all: 128,
+};
+
+/// The trial in other nets.
+pub const FULL_TRIAL: Trial = Trial {
+    first: 16,
+    light: 200,
+    all: 128,
+};
+
+/// In so many slices a simplex is tried that starts at risen prices, each of half as much work more than the one before.
+pub const SLICES: usize = 17;
+
+/// A slice may have so much work for each arc that enters, where there are as many halves as nodes.
+pub const SLICE: u64 = 200;
+
+/// So much more for each time that the slice could look at all halves.
+pub const SLICE_MORE: u64 = 36;
+
+/// And so much at most.
+pub const SLICE_MOST: u64 = 2_000;
+
+/// The work of a simplex that alone is asked, as over series, besides the square of the nodes.
+pub const ALONE: u64 = 500;
+
+/// The work of the simplex that starts where the levels stand, before the rest is drained, where there are few arcs.
+pub const WARM: u64 = 700;
+
+/// The work of a drain at first.
+pub const DRAIN_BRIEF: u64 = 32;
+
+/// The work of a drain where that was too little, and the whole was sought in vain from where nothing is set off.
+pub const DRAIN: u64 = 400;
+
+/// The work of the search for the whole between those drains, besides one for each `WHOLE_SQUARES` of the square of the nodes.
+pub const WHOLE: u64 = 400;
+
+/// See `WHOLE`.
+pub const WHOLE_SQUARES: u64 = 4;
+
+/// After so many turns, each of twice as much work as the one before, the levels go on alone.
+pub const TURNS: u32 = 8;
+
+/// The work of the first turn, besides `TURN_SQUARES` times the square of the nodes.
+pub const TURN: u64 = 500;
+
+/// See `TURN`.
+pub const TURN_SQUARES: u64 = 6;
+
+/// Arcs are priced in runs that stand together in the list of arcs, at first of so many.
+pub const RUN: usize = 16;
+
+/// A block of runs, of which the worst arc enters, has the root of the number of arcs, divided by this.
+pub const BLOCK: usize = 8;
+
+/// A change of potentials is followed by a look at the arcs around it where they have at most so many halves.
+pub const AROUND: u64 = 1_024;
+
+/// And where no more than so many halves were looked at so for each arc that was priced.
+pub const LOOKS: u64 = 2;
