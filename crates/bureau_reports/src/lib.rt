@@ -21,5 +21,5 @@ mod statement;
 
 pub use input::report_input;
 pub use journal::report_journal;
-pub use journal_texts::tell_refused;
+pub use journal_texts::{Ended, tell_refused, tell_unread};
 pub use weighed_round::ExitStatus;

@@ -1,3 +1,5 @@
+pub mod Inputs
 pub mod Openings
 pub mod Room
+pub mod Silent
 pub mod Written

@@ -1,12 +1,13 @@
 -- What was due, from what a step wrote.
 use Rattle.std.specs.Prelude.{Option}
-use Rattle.std.proofs.Common.{◌≡◌, ◌⊎◌, ⊎_elim, inl, inr, ℕ, List, ◌∷◌, ◌++◌, refl, sym, subst}
+use Rattle.std.proofs.Common.{◌≡◌, ◌⊎◌, ⊎_elim, inl, inr, ℕ, List, [], ◌∷◌, ◌++◌, refl, sym, subst}
 use Rattle.std.specs.Io.KnownBytes.{Appends}
 use Rattle.bureau_edge.proofs.Known.{Appends-then, AppendsPart-after}
 use Rattle.printed_text.specs.declared.exit_status.ExitStatus.{ExitStatus}
 use Rattle.printed_text.specs.declared.exit_status.ExitStatus.TheVariants as statuses
 use Rattle.printed_text.specs.Statuses.{IsOneOf}
 use Rattle.printed_text.specs.Writing.{IsWritten, Wrote, whole, broken}
+use Rattle.printed_text.proofs.Statuses.{behind, in_front}
 
 -- what was due for one reason was due for another
 pub wrote_for : (P Q : ExitStatus → List ℕ → Type 0) (x y : Option (List ℕ)) (status : ExitStatus) → ((due : ExitStatus) (text : List ℕ) → P due text → Q due text) → Wrote P x y status → Wrote Q x y status
@@ -41,3 +42,8 @@ wrote_among P dues x y status each w = ⊎_elim (λ is. inr (subst (IsOneOf dues
 pub no_other : (n : ExitStatus) (x y : Option (List ℕ)) (due : ExitStatus) (text : List ℕ) (status : ExitStatus) → (due ≡ n → ⊥) → (statuses.Sink ≡ n → ⊥) → IsWritten x y due text status → status ≡ n → ⊥
 no_other n x y due text status one two (whole taken) is = one is
 no_other n x y due text status one two (broken part) is = two is
+
+-- so it is one of those that may be due, or tells of the sink
+pub told_one : (dues : List ExitStatus) (due status : ExitStatus) → IsOneOf dues due → (status ≡ due) ⊎ (status ≡ statuses.Sink) → IsOneOf (dues ++ statuses.Sink ∷ []) status
+told_one dues due status one (inl is) = in_front dues (statuses.Sink ∷ []) status (subst (IsOneOf dues) (sym is) one)
+told_one dues due status one (inr sink) = behind dues (statuses.Sink ∷ []) status (inl sink)

@@ -1,5 +1,5 @@
 -- What a journal holds, and the room behind it.
-use Rattle.std.specs.Prelude.{◌≡◌, ℕ, ◌+◌, ◌*◌, ◌≤◌, List, length, count_by, IsTrue}
+use Rattle.std.specs.Prelude.{◌≡◌, ℕ, ◌+◌, ◌*◌, ◌<◌, ◌≤◌, List, length, count_by, IsTrue}
 use Rattle.std.specs.List.{sum_by}
 use Rattle.setoff_model.specs.declared.limits.TheConstants.{MOST_ENTRIES, MOST_JOURNAL_BYTES}
 use Rattle.bureau_desk.specs.disk_model.specs.Calls.{Seen}
@@ -22,6 +22,12 @@ pub record HoldsSound (disk : Seen) : Type 0 where
   pub records : List Record
   pub found : AreFound disk.tells disk.reads records
   pub sound : AreSound records
+
+-- the disk tells its bytes, which are more than nine and stand for no sound records
+pub record HoldsUnsound (disk : Seen) : Type 0 where
+  pub tells : IsTrue disk.tells
+  pub long : 9 < length disk.reads
+  pub none : (records : List Record) → AreFound disk.tells disk.reads records → AreSound records → ⊥
 
 -- the bytes have a fault that an audit tells with this status: `No` where an act is refused or full, else `Unsound`
 pub record HasAuditFault (bytes : List ℕ) (status : ExitStatus) : Type 0 where

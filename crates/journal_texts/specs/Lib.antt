@@ -1,3 +1,4 @@
+pub mod Calls
 pub mod DiskTexts
 pub mod Journals
 pub use Rattle.bureau_desk as bureau_desk
