@@ -1,35 +1,27 @@
 -- Each status comes only where its cause is.
-use Rattle.std.specs.Prelude.{IsTrue, Option, Some}
+use Rattle.std.specs.Prelude.{Option, Some}
 use Rattle.std.specs.Io.KnownBytes.{Consumes}
 use Rattle.std.proofs.Common.{◌≡◌, ◌∙◌, ◌⊎◌, ⊎_elim, inl, inr, ℕ, Bool, List, [], ◌∷◌, refl, subst, sym}
 use Rattle.disk_model.specs.Calls.{Seen}
 use Rattle.request_text.specs.declared.request.Request.{Request}
 use Rattle.load_reading.specs.Reading.{IsLoadText, IsNoLoadText}
 use Rattle.journal_texts.specs.bureau_desk.specs.fault_count.specs.Counts.{HasRisen}
-use Rattle.journal_texts.specs.bureau_desk.specs.round_journal.specs.Opened.{AreFound}
 use Rattle.journal_texts.specs.bureau_desk.specs.declared.desk_refused.DeskCause.{DeskCause}
 use Rattle.journal_texts.specs.bureau_desk.specs.declared.desk_refused.DeskCause.TheVariants.{Memory, Device, BadHeader, BadRecord, BadAct, Overfull}
-use Rattle.journal_texts.specs.bureau_desk.specs.Laws.{IsFault}
 use Rattle.journal_texts.specs.bureau_desk.specs.Opening.{HasDeskCause}
-use Rattle.journal_texts.specs.bureau_desk.proofs.Faults.{fault_law}
 use Rattle.journal_texts.specs.printed_text.specs.declared.exit_status.ExitStatus.{ExitStatus}
 use Rattle.journal_texts.specs.printed_text.specs.declared.exit_status.ExitStatus.TheVariants as statuses
 use Rattle.journal_texts.specs.printed_text.specs.Statuses.{IsOneOf}
 use Rattle.journal_texts.specs.DiskTexts.{opening_status}
-use Rattle.journal_texts.proofs.Written.{told_status}
+use Rattle.journal_texts.proofs.Openings.{unsound_fault}
+use Rattle.journal_texts.proofs.Written.{told_one, told_status}
+use Rattle.journal_texts.specs.Calls.{IsReadDue, input_read, no_input_memory, read_fault, too_long}
 use Rattle.load_command.specs.Headline.{HasTakenFirst, IsLoadHeadline, Taking}
 use Rattle.load_command.specs.Due.{IsLoadDue, loaded, no_output_memory, not_opened}
-use Rattle.load_command.specs.Inputs.{IsDue, IsInputDue, IsReadDue, Ran, asked, bad_line, bad_words, batches_read, input_read, no_input_memory, no_line_memory, no_request_memory, not_read, read_fault, too_long}
-use Rattle.load_command.specs.Causes.{ComesOnly, HasCause, HoldsUnsound, asked_for, disk_failed, done, full_line, no_memory, not_opened as unopened, out_of_form, sink_failed, some_words, source_failed, too_long as longer}
-use Rattle.load_command.proofs.ComesWhere.{told_one}
+use Rattle.load_command.specs.Inputs.{IsDue, IsInputDue, Ran, asked, bad_line, bad_words, batches_read, no_line_memory, no_request_memory, not_read}
+use Rattle.load_command.specs.Causes.{ComesOnly, HasCause, asked_for, disk_failed, done, full_line, no_memory, not_opened as unopened, out_of_form, sink_failed, some_words, source_failed, too_long as longer}
 use Rattle.load_command.proofs.Statuses.{headline_one, input_rose, load_statuses}
-use Rattle.load_command.proofs.Reading.{all_taken, taken_long}
-
--- bytes that have a fault are more than nine and stand for no sound records
-unsound_fault : (disk : Seen) (cause : DeskCause) → IsTrue disk.tells → IsFault disk.reads cause → HoldsUnsound disk
-unsound_fault disk cause told fault =
-    let law = fault_law disk.reads cause fault in
-    record { tells = told; long = law.0; none = λ records found sound. law.1 records (subst (λ (b : Bool). AreFound b disk.reads records) told found) sound }
+use Rattle.journal_texts.proofs.Inputs.{all_taken, taken_long}
 
 module _ {D : Type 0} (seen : D → Seen) (Taken : Taking) (left : Option (List ℕ)) (old new : D) where
   abbrev Why : ExitStatus → Type 0
@@ -80,13 +72,13 @@ module _ {D : Type 0} (seen : D → Seen) (Taken : Taking) (left : Option (List 
     of_told : (taken : List ℕ) → Consumes left left_new taken → (input : List ℕ) → left ≡ Some input → Consumes (Some input) left_new taken
     of_told taken h input told = subst (λ (l : Option (List ℕ)). Consumes l left_new taken) told h
 
-    pub read_why : (status : ExitStatus) (text : List ℕ) → IsReadDue seen Taken left left_new old new status text → Why status
+    pub read_why : (status : ExitStatus) (text : List ℕ) → IsReadDue (IsInputDue seen Taken old new) (new ≡ old) left left_new status text → Why status
     read_why status text (no_input_memory same) = no_memory
     read_why status text (read_fault same) = source_failed
     read_why status text (too_long same taken h many) = longer (λ input told. taken_long input taken left_new (of_told taken h input told) many)
     read_why status text (input_read taken all s t due) = input_why taken (λ input told. all_taken input taken left_new (of_told taken all.taken input told) all.at_end) s t due
 
-    read_rose : (status : ExitStatus) (text : List ℕ) → IsReadDue seen Taken left left_new old new status text → status ≡ statuses.Disk → HasRisen (seen old).count (seen new).count
+    read_rose : (status : ExitStatus) (text : List ℕ) → IsReadDue (IsInputDue seen Taken old new) (new ≡ old) left left_new status text → status ≡ statuses.Disk → HasRisen (seen old).count (seen new).count
     read_rose status text (no_input_memory same) disk = cc
     read_rose status text (read_fault same) disk = cc
     read_rose status text (too_long same taken h many) disk = cc

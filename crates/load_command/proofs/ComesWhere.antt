@@ -1,36 +1,23 @@
 -- Where each cause is, its status comes, or that of a fault.
 use Rattle.std.specs.Prelude.{Option, Some}
-use Rattle.std.proofs.Common.{◌≡◌, ◌≢◌, ◌⊎◌, inl, inr, ℕ, ◌≤◌, List, [], ◌∷◌, ◌++◌, length, ap, arith, refl, subst, sym}
+use Rattle.std.proofs.Common.{◌≡◌, ◌≢◌, ◌⊎◌, inl, inr, ℕ, ◌≤◌, List, [], ◌∷◌, ◌++◌, length, ap, arith, refl, subst}
 use Rattle.setoff_model.specs.declared.limits.TheConstants.{MOST_INPUT_BYTES}
 use Rattle.disk_model.specs.Calls.{Seen}
 use Rattle.request_text.specs.declared.request.Request.{Request}
 use Rattle.load_reading.specs.Reading.{IsNoLoadText}
-use Rattle.journal_texts.specs.bureau_desk.specs.declared.desk_refused.DeskCause.{DeskCause}
-use Rattle.journal_texts.specs.bureau_desk.specs.declared.desk_refused.DeskCause.TheVariants.{Memory, Device, BadHeader, BadRecord, BadAct, Overfull}
 use Rattle.journal_texts.specs.printed_text.specs.declared.exit_status.ExitStatus.{ExitStatus}
 use Rattle.journal_texts.specs.printed_text.specs.declared.exit_status.ExitStatus.TheVariants as statuses
 use Rattle.journal_texts.specs.printed_text.specs.Statuses.{IsOneOf}
-use Rattle.journal_texts.specs.printed_text.proofs.Statuses.{behind, in_front}
-use Rattle.journal_texts.specs.DiskTexts.{opening_status}
-use Rattle.journal_texts.proofs.Written.{told_status}
+use Rattle.journal_texts.specs.printed_text.proofs.Statuses.{behind}
+use Rattle.journal_texts.proofs.Openings.{opening_one}
+use Rattle.journal_texts.proofs.Written.{told_one, told_status}
+use Rattle.journal_texts.specs.Calls.{IsReadDue, IsTooLong, IsWholeInput, input_read, no_input_memory, read_fault, too_long}
+use Rattle.journal_texts.specs.Journals.{HoldsUnsound}
 use Rattle.load_command.specs.Headline.{HasTakenFirst, Taking}
 use Rattle.load_command.specs.Due.{IsLoadDue, loaded, no_output_memory, not_opened}
-use Rattle.load_command.specs.Inputs.{IsDue, IsInputDue, IsReadDue, Ran, asked, bad_line, bad_words, batches_read, input_read, no_input_memory, no_line_memory, no_request_memory, not_read, read_fault, too_long}
-use Rattle.load_command.specs.Causes.{ComesWhere, HoldsUnsound, IsInForm, IsTooLong, IsWholeInput}
-use Rattle.load_command.proofs.Reading.{all_taken, taken_long}
-
--- what was due was told, or the sink failed
-pub told_one : (dues : List ExitStatus) (due status : ExitStatus) → IsOneOf dues due → (status ≡ due) ⊎ (status ≡ statuses.Sink) → IsOneOf (dues ++ statuses.Sink ∷ []) status
-told_one dues due status one (inl is) = in_front dues (statuses.Sink ∷ []) status (subst (IsOneOf dues) (sym is) one)
-told_one dues due status one (inr sink) = behind dues (statuses.Sink ∷ []) status (inl sink)
-
-opening_one : (cause : DeskCause) → IsOneOf (statuses.Unsound ∷ statuses.Disk ∷ statuses.Memory ∷ []) (opening_status cause)
-opening_one Memory = inr (inr (inl refl))
-opening_one (Device before after) = inr (inl refl)
-opening_one BadHeader = inl refl
-opening_one (BadRecord offset why) = inl refl
-opening_one (BadAct offset got) = inl refl
-opening_one (Overfull offset) = inl refl
+use Rattle.load_command.specs.Inputs.{IsDue, IsInputDue, Ran, asked, bad_line, bad_words, batches_read, no_line_memory, no_request_memory, not_read}
+use Rattle.load_command.specs.Causes.{ComesWhere, IsInForm}
+use Rattle.journal_texts.proofs.Inputs.{all_taken, taken_long}
 
 -- the source is one more
 with_source : (one : ExitStatus) (dues : List ExitStatus) (status : ExitStatus) → IsOneOf (one ∷ dues) status → IsOneOf (one ∷ statuses.Source ∷ dues) status
@@ -59,7 +46,7 @@ module _ {D : Type 0} (seen : D → Seen) (Taken : Taking) (old new : D) where
 
   -- ---- the reading
 
-  read_long : (input : List ℕ) (left_new : Option (List ℕ)) → IsTooLong input → (status : ExitStatus) (text : List ℕ) → IsReadDue seen Taken (Some input) left_new old new status text → IsOneOf (statuses.Limit ∷ statuses.Source ∷ statuses.Memory ∷ []) status
+  read_long : (input : List ℕ) (left_new : Option (List ℕ)) → IsTooLong input → (status : ExitStatus) (text : List ℕ) → IsReadDue (IsInputDue seen Taken old new) (new ≡ old) (Some input) left_new status text → IsOneOf (statuses.Limit ∷ statuses.Source ∷ statuses.Memory ∷ []) status
   read_long input left_new long status text (no_input_memory same) = inr (inr (inl refl))
   read_long input left_new long status text (read_fault same) = inr (inl refl)
   read_long input left_new long status text (too_long same taken h many) = inl refl
@@ -68,7 +55,7 @@ module _ {D : Type 0} (seen : D → Seen) (Taken : Taking) (old new : D) where
 
   read_one : (input : List ℕ) (left_new : Option (List ℕ)) → length input ≤ MOST_INPUT_BYTES → (one : ExitStatus) (dues : List ExitStatus)
       → ((status : ExitStatus) (text : List ℕ) → IsInputDue seen Taken old new input status text → IsOneOf (one ∷ dues ++ statuses.Memory ∷ []) status)
-      → (status : ExitStatus) (text : List ℕ) → IsReadDue seen Taken (Some input) left_new old new status text → IsOneOf (one ∷ statuses.Source ∷ dues ++ statuses.Memory ∷ []) status
+      → (status : ExitStatus) (text : List ℕ) → IsReadDue (IsInputDue seen Taken old new) (new ≡ old) (Some input) left_new status text → IsOneOf (one ∷ statuses.Source ∷ dues ++ statuses.Memory ∷ []) status
   read_one input left_new within one dues comes status text (no_input_memory same) = inr (inr (behind dues (statuses.Memory ∷ []) statuses.Memory (inl refl)))
   read_one input left_new within one dues comes status text (read_fault same) = inr (inl refl)
   read_one input left_new within one dues comes status text (too_long same taken h many) = absurd (omega (arith, within, taken_long input taken left_new h many))
@@ -77,10 +64,10 @@ module _ {D : Type 0} (seen : D → Seen) (Taken : Taking) (old new : D) where
 
   whole_one : (Holds : List ℕ → Type 0) (left left_new : Option (List ℕ)) → IsWholeInput Holds left → (one : ExitStatus) (dues : List ExitStatus)
       → ((input : List ℕ) → Holds input → (status : ExitStatus) (text : List ℕ) → IsInputDue seen Taken old new input status text → IsOneOf (one ∷ dues ++ statuses.Memory ∷ []) status)
-      → (status : ExitStatus) (text : List ℕ) → IsReadDue seen Taken left left_new old new status text → IsOneOf (one ∷ statuses.Source ∷ dues ++ statuses.Memory ∷ []) status
+      → (status : ExitStatus) (text : List ℕ) → IsReadDue (IsInputDue seen Taken old new) (new ≡ old) left left_new status text → IsOneOf (one ∷ statuses.Source ∷ dues ++ statuses.Memory ∷ []) status
   whole_one Holds left left_new whole one dues comes status text due =
       read_one whole.input left_new whole.within one dues (comes whole.input whole.holds) status text
-      (subst (λ (l : Option (List ℕ)). IsReadDue seen Taken l left_new old new status text) whole.told due)
+      (subst (λ (l : Option (List ℕ)). IsReadDue (IsInputDue seen Taken old new) (new ≡ old) l left_new status text) whole.told due)
 
 -- ---- the words
 
@@ -89,7 +76,7 @@ module _ {S D : Type 0} (left : S → Option (List ℕ)) (seen : D → Seen) (Ta
   words_one some status text (bad_words is same still) = inl refl
   words_one some status text (asked none s t due) = absurd (some none)
 
-  pub asked_due : words ≡ [] → (status : ExitStatus) (text : List ℕ) → IsDue left seen Taken words source source' old new status text → IsReadDue seen Taken (left source) (left source') old new status text
+  pub asked_due : words ≡ [] → (status : ExitStatus) (text : List ℕ) → IsDue left seen Taken words source source' old new status text → IsReadDue (IsInputDue seen Taken old new) (new ≡ old) (left source) (left source') status text
   asked_due none status text (bad_words some same still) = absurd (some none)
   asked_due none status text (asked is s t due) = due
 
@@ -97,14 +84,14 @@ pub comes_where : {S D : Type 0} (left : S → Option (List ℕ)) (seen : D → 
     → ComesWhere words (left source) (seen old) status
 comes_where left seen words source source' old new x y status ran =
     let either : (status ≡ ran.due) ⊎ (status ≡ statuses.Sink) = told_status x y ran.due ran.text status ran.is_written in
-    let Read : Type 0 = IsReadDue seen (HasTakenFirst x y) (left source) (left source') old new ran.due ran.text in
+    let Read : Type 0 = IsReadDue (IsInputDue seen (HasTakenFirst x y) old new) (new ≡ old) (left source) (left source') ran.due ran.text in
     let due : words ≡ [] → Read = λ none. asked_due left seen (HasTakenFirst x y) words source source' old new none ran.due ran.text ran.is_due in
     record {
       of_words = λ some. told_one (statuses.Words ∷ []) ran.due status (words_one left seen (HasTakenFirst x y) words source source' old new some ran.due ran.text ran.is_due) either;
       of_length = λ none input is long.
           told_one (statuses.Limit ∷ statuses.Source ∷ statuses.Memory ∷ []) ran.due status
           (read_long seen (HasTakenFirst x y) old new input (left source') long ran.due ran.text
-          (subst (λ (l : Option (List ℕ)). IsReadDue seen (HasTakenFirst x y) l (left source') old new ran.due ran.text) is (due none))) either;
+          (subst (λ (l : Option (List ℕ)). IsReadDue (IsInputDue seen (HasTakenFirst x y) old new) (new ≡ old) l (left source') ran.due ran.text) is (due none))) either;
       of_form = λ none whole.
           told_one (statuses.Form ∷ statuses.Source ∷ statuses.Memory ∷ []) ran.due status
           (whole_one seen (HasTakenFirst x y) old new IsNoLoadText (left source) (left source') whole statuses.Form [] (unspelled seen (HasTakenFirst x y) old new) ran.due ran.text (due none)) either;

@@ -10,9 +10,7 @@ use Rattle.journal_texts.specs.bureau_desk.specs.round_journal.specs.Opened.{Are
 use Rattle.journal_texts.specs.bureau_desk.specs.round_journal.specs.declared.record.Record.{Record}
 use Rattle.journal_texts.specs.bureau_desk.specs.declared.desk_refused.DeskCause.{DeskCause}
 use Rattle.journal_texts.specs.bureau_desk.specs.declared.desk_refused.DeskCause.TheVariants.{Memory, Device, BadHeader, BadRecord, BadAct, Overfull}
-use Rattle.journal_texts.specs.bureau_desk.specs.Laws.{IsFault}
 use Rattle.journal_texts.specs.bureau_desk.specs.Opening.{HasDeskCause}
-use Rattle.journal_texts.specs.bureau_desk.proofs.Faults.{fault_law}
 use Rattle.journal_texts.specs.printed_text.specs.served_lines.specs.Ends.{is_full_end, is_memory_end}
 use Rattle.journal_texts.specs.printed_text.specs.served_lines.specs.Served.{Line}
 use Rattle.journal_texts.specs.printed_text.specs.declared.exit_status.ExitStatus.{ExitStatus}
@@ -20,15 +18,16 @@ use Rattle.journal_texts.specs.printed_text.specs.declared.exit_status.ExitStatu
 use Rattle.journal_texts.specs.printed_text.specs.Writing.{IsWritten, broken, whole}
 use Rattle.journal_texts.specs.DiskTexts.{opening_status}
 use Rattle.journal_texts.specs.Journals.{HasRoomForAll, HoldsSound}
+use Rattle.journal_texts.proofs.Openings.{no_fault}
 use Rattle.group_runs.specs.Runs.{load_status, some_end}
+use Rattle.journal_texts.specs.Calls.{IsComplete, IsReadDue, IsWholeInput, all_written, input_read, no_input_memory, no_memory, read_fault, too_long}
 use Rattle.load_command.specs.Headline.{HasTakenFirst, IsLoadHeadline, LoadEnd, Taking, all_kept, disk_failed, requests_of, sink_failed}
 use Rattle.load_command.specs.Due.{IsLoadDue, loaded, no_output_memory, not_opened}
-use Rattle.load_command.specs.Inputs.{IsInputDue, IsReadDue, Ran, bad_line, batches_read, input_read, no_input_memory, no_line_memory, no_request_memory, not_read, read_fault, too_long}
-use Rattle.load_command.specs.Causes.{IsWholeInput}
-use Rattle.load_command.specs.Completeness.{Completes, IsAllLoaded, IsComplete, all_written, no_memory}
+use Rattle.load_command.specs.Inputs.{IsInputDue, Ran, bad_line, batches_read, no_line_memory, no_request_memory, not_read}
+use Rattle.load_command.specs.Completeness.{Completes, IsAllLoaded}
 use Rattle.load_command.proofs.ComesOnly.{ran_rose}
 use Rattle.load_command.proofs.ComesWhere.{asked_due}
-use Rattle.load_command.proofs.Reading.{all_taken, taken_long}
+use Rattle.journal_texts.proofs.Inputs.{all_taken, taken_long}
 
 -- a source, a sink or a disk failed
 abbrev Failed : ExitStatus → Type 0
@@ -37,10 +36,6 @@ Failed status = (status ≡ statuses.Source) ⊎ ((status ≡ statuses.Sink) ⊎
 -- the status and the text that are due: of a failure, of running out of memory, or of what is done
 abbrev Ends : (ExitStatus → List ℕ → Type 0) → ExitStatus → List ℕ → Type 0
 Ends Done status text = Failed status ⊎ ((status ≡ statuses.Memory) ⊎ Done status text)
-
--- sound records have no fault
-no_fault : (disk : Seen) → HoldsSound disk → (cause : DeskCause) → IsFault disk.reads cause → ⊥
-no_fault disk has cause fault = (fault_law disk.reads cause fault).1 has.records (subst (λ (b : Bool). AreFound b disk.reads has.records) has.tells has.found) has.sound
 
 refused_ends : (Done : ExitStatus → List ℕ → Type 0) (disk : Seen) (low high : ℕ) → HoldsSound disk → (cause : DeskCause) → HasDeskCause disk.tells disk.reads low high cause → (text : List ℕ) → Ends Done (opening_status cause) text
 refused_ends Done disk low high has Memory h text = inr (inl refl)
@@ -83,7 +78,7 @@ module _ {D : Type 0} (seen : D → Seen) (Taken : Taking) (old new : D) (batche
   input_ends has input spelled status text (batches_read others is s t due) =
       load_ends has s t (subst (λ (bs : List (List Request)). IsLoadDue seen Taken old new bs s t) (read_back_law.only input others batches is.0 spelled.0) due)
 
-  read_ends : HoldsSound (seen old) → (input : List ℕ) → length input ≤ MOST_INPUT_BYTES → IsLoadText input batches → (left_new : Option (List ℕ)) (status : ExitStatus) (text : List ℕ) → IsReadDue seen Taken (Some input) left_new old new status text
+  read_ends : HoldsSound (seen old) → (input : List ℕ) → length input ≤ MOST_INPUT_BYTES → IsLoadText input batches → (left_new : Option (List ℕ)) (status : ExitStatus) (text : List ℕ) → IsReadDue (IsInputDue seen Taken old new) (new ≡ old) (Some input) left_new status text
       → Ends All status text
   read_ends has input within spelled left_new status text (no_input_memory same) = inr (inl refl)
   read_ends has input within spelled left_new status text (read_fault same) = inl (inl refl)
@@ -91,9 +86,9 @@ module _ {D : Type 0} (seen : D → Seen) (Taken : Taking) (old new : D) (batche
   read_ends has input within spelled left_new status text (input_read taken all s t due) =
       input_ends has input spelled s t (subst (λ (bytes : List ℕ). IsInputDue seen Taken old new bytes s t) (all_taken input taken left_new all.taken all.at_end) due)
 
-  whole_ends : HoldsSound (seen old) → (left left_new : Option (List ℕ)) → IsWholeInput (λ input. IsLoadText input batches) left → (status : ExitStatus) (text : List ℕ) → IsReadDue seen Taken left left_new old new status text → Ends All status text
+  whole_ends : HoldsSound (seen old) → (left left_new : Option (List ℕ)) → IsWholeInput (λ input. IsLoadText input batches) left → (status : ExitStatus) (text : List ℕ) → IsReadDue (IsInputDue seen Taken old new) (new ≡ old) left left_new status text → Ends All status text
   whole_ends has left left_new input status text due =
-      read_ends has input.input input.within input.holds left_new status text (subst (λ (l : Option (List ℕ)). IsReadDue seen Taken l left_new old new status text) input.told due)
+      read_ends has input.input input.within input.holds left_new status text (subst (λ (l : Option (List ℕ)). IsReadDue (IsInputDue seen Taken old new) (new ≡ old) l left_new status text) input.told due)
 
 -- what was written
 written_ends : (Done : ExitStatus → List ℕ → Type 0) (x y : Option (List ℕ)) (due : ExitStatus) (text : List ℕ) (status : ExitStatus) → IsWritten x y due text status → Ends Done due text → (Failed status → ⊥) → IsComplete Done x y status

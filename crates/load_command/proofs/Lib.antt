@@ -1,14 +1,11 @@
 mod ComesOnly
 mod ComesWhere
 mod Completeness
-mod Ends
 mod Fronts
 mod Full
 mod Loadable
 mod Loaded
 mod Parts
-mod Reading
-mod Silent
 mod Statuses
 mod Weaker
 mod Words

@@ -37,7 +37,7 @@ use Rattle.group_runs.specs.Order.{IsHeldFrom, WereShown}
 use Rattle.group_runs.specs.Runs.{CanAllBeLoaded, HasBroken, HasLoaded, IsKeptBy, KeepsHistory, calls_of_group, groups_of, some_end}
 use Rattle.group_runs.proofs.Lines.{calls_after_groups, groups_due, text_more}
 use Rattle.group_runs.proofs.Order.{held_longer, held_now, order_behind}
-use Rattle.load_command.proofs.Silent.{begun_parts}
+use Rattle.journal_texts.proofs.Silent.{begun_parts}
 use Rattle.load_command.proofs.Fronts.{all_keeps, first_keeps}
 use Rattle.load_command.proofs.Full.{none_full}
 use Rattle.load_command.specs.Headline.{HasTakenFirst, HasTakenInOrder, IsLoadHeadline, LoadEnd, SurvivesGroups, Taking, all_kept, but_last_group, disk_failed, load_text, requests_of, sink_failed, sure_load_text}

@@ -1,6 +1,6 @@
 -- What is told of a load with less of its sink.
 use Rattle.std.specs.Prelude.{Option}
-use Rattle.std.proofs.Common.{ℕ, List}
+use Rattle.std.proofs.Common.{◌≡◌, ℕ, List}
 use Rattle.disk_model.specs.Calls.{Seen}
 use Rattle.request_text.specs.declared.request.Request.{Request}
 use Rattle.journal_texts.specs.bureau_desk.specs.claim_history.specs.declared.call.PoolEntry.{PoolEntry}
@@ -8,9 +8,10 @@ use Rattle.journal_texts.specs.printed_text.specs.declared.exit_status.ExitStatu
 use Rattle.journal_texts.specs.printed_text.specs.served_lines.specs.Served.{Line}
 use Rattle.journal_texts.proofs.Written.{wrote_for}
 use Rattle.group_runs.specs.disk_witness.specs.Shown.{Shown}
+use Rattle.journal_texts.specs.Calls.{IsReadDue, input_read, no_input_memory, read_fault, too_long}
 use Rattle.load_command.specs.Headline.{HasTakenFirst, HasTakenInOrder, IsLoadHeadline, Taking}
 use Rattle.load_command.specs.Due.{IsLoadDue, loaded, no_output_memory, not_opened}
-use Rattle.load_command.specs.Inputs.{IsDue, IsInputDue, IsReadDue, Ran, RanInOrder, asked, bad_words, batches_read, input_read, no_input_memory, no_request_memory, not_read, read_fault, too_long}
+use Rattle.load_command.specs.Inputs.{IsDue, IsInputDue, Ran, RanInOrder, asked, bad_words, batches_read, no_request_memory, not_read}
 
 module _ {D : Type 0} (seen : D → Seen) (More Less : Taking) (less : (opened begun : List PoolEntry) (groups : List (List Line)) → More opened begun groups → Less opened begun groups) (old new : D) where
   headline_less : (batches : List (List Request)) (status : ExitStatus) (text : List ℕ) → IsLoadHeadline seen More old new batches status text → IsLoadHeadline seen Less old new batches status text
@@ -44,7 +45,7 @@ module _ {D : Type 0} (seen : D → Seen) (More Less : Taking) (less : (opened b
   input_less input status text (not_read same s t due) = not_read same s t due
   input_less input status text (batches_read batches is s t due) = batches_read batches is s t (load_less batches s t due)
 
-  read_less : (left left' : Option (List ℕ)) (status : ExitStatus) (text : List ℕ) → IsReadDue seen More left left' old new status text → IsReadDue seen Less left left' old new status text
+  read_less : (left left' : Option (List ℕ)) (status : ExitStatus) (text : List ℕ) → IsReadDue (IsInputDue seen More old new) (new ≡ old) left left' status text → IsReadDue (IsInputDue seen Less old new) (new ≡ old) left left' status text
   read_less left left' status text (no_input_memory same) = no_input_memory same
   read_less left left' status text (read_fault same) = read_fault same
   read_less left left' status text (too_long same taken h many) = too_long same taken h many

@@ -1,43 +1,20 @@
 -- When each status of a load comes.
-use Rattle.std.specs.Prelude.{◌≡◌, ◌≢◌, ◌<◌, ◌≤◌, ℕ, List, [], ◌∷◌, length, Option, Some, IsTrue}
-use Rattle.setoff_model.specs.declared.limits.TheConstants.{MOST_INPUT_BYTES}
+use Rattle.std.specs.Prelude.{◌≡◌, ◌≢◌, ℕ, List, [], ◌∷◌, Option, Some, IsTrue}
 use Rattle.disk_model.specs.Calls.{Seen}
 use Rattle.request_text.specs.declared.request.Request.{Request}
 use Rattle.load_reading.specs.Reading.{IsLoadText, IsNoLoadText}
-use Rattle.journal_texts.specs.bureau_desk.specs.round_journal.specs.declared.record.Record.{Record}
-use Rattle.journal_texts.specs.bureau_desk.specs.round_journal.specs.Opened.{AreFound}
-use Rattle.journal_texts.specs.bureau_desk.specs.journal_replay.specs.Replays.{AreSound}
 use Rattle.journal_texts.specs.printed_text.specs.declared.exit_status.ExitStatus.{ExitStatus}
 use Rattle.journal_texts.specs.printed_text.specs.declared.exit_status.ExitStatus.TheVariants as statuses
 use Rattle.journal_texts.specs.printed_text.specs.Statuses.{IsOneOf}
+use Rattle.journal_texts.specs.Calls.{IsTooLong, IsWholeInput, OfTold}
+use Rattle.journal_texts.specs.Journals.{HoldsUnsound}
 use Rattle.load_command.specs.Headline.{IsLoadHeadline, Taking}
 
 -- ---- causes
 
--- the source has an input of at most 2^26 bytes, of which this holds
-pub record IsWholeInput (Holds : List ℕ → Type 0) (left : Option (List ℕ)) : Type 0 where
-  pub input : List ℕ
-  pub told : left ≡ Some input
-  pub within : length input ≤ MOST_INPUT_BYTES
-  pub holds : Holds input
-
--- what holds of the bytes of a source, where it tells them
-abbrev pub OfTold : (List ℕ → Type 0) → Option (List ℕ) → Type 0
-OfTold Holds left = (input : List ℕ) → left ≡ Some input → Holds input
-
--- the input has more than 2^26 bytes
-abbrev pub IsTooLong : List ℕ → Type 0
-IsTooLong input = MOST_INPUT_BYTES < length input
-
 -- it is in the grammar
 abbrev pub IsInForm : List ℕ → Type 0
 IsInForm input = (batches : List (List Request)) × IsLoadText input batches
-
--- the disk tells its bytes, which are more than nine and stand for no sound records
-pub record HoldsUnsound (disk : Seen) : Type 0 where
-  pub tells : IsTrue disk.tells
-  pub long : 9 < length disk.reads
-  pub none : (records : List Record) → AreFound disk.tells disk.reads records → AreSound records → ⊥
 
 -- the batches of the input were loaded, and some line was full
 pub record HadFullLine {D : Type 0} (seen : D → Seen) (Taken : Taking) (old new : D) (input : List ℕ) : Type 0 where

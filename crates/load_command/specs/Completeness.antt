@@ -1,26 +1,19 @@
 -- What a load ends with where no source, sink or disk fails.
 use Rattle.std.specs.Prelude.{◌≡◌, ◌≢◌, ◌⊎◌, ℕ, List, [], Option}
-use Rattle.std.specs.Io.KnownBytes.{Appends}
 use Rattle.disk_model.specs.Calls.{Seen}
 use Rattle.request_text.specs.declared.request.Request.{Request}
 use Rattle.load_reading.specs.Reading.{IsLoadText}
 use Rattle.journal_texts.specs.bureau_desk.specs.fault_count.specs.Counts.{HasRisen}
 use Rattle.journal_texts.specs.printed_text.specs.declared.exit_status.ExitStatus.{ExitStatus}
 use Rattle.journal_texts.specs.printed_text.specs.declared.exit_status.ExitStatus.TheVariants as statuses
+use Rattle.journal_texts.specs.Calls.{IsComplete, IsWholeInput}
 use Rattle.journal_texts.specs.Journals.{HasRoomForAll, HoldsSound}
 use Rattle.load_command.specs.Headline.{HasTakenFirst, IsLoadHeadline, Taking, requests_of}
-use Rattle.load_command.specs.Causes.{IsWholeInput}
 
 -- the batches were loaded: each line was replied to, or a line was full and none without memory
 abbrev pub IsAllLoaded : {D : Type 0} → (D → Seen) → Taking → D → D → List (List Request) → ExitStatus → List ℕ → Type 0
 IsAllLoaded seen Taken old new batches status text = ((status ≡ statuses.Done) ⊎ (status ≡ statuses.Limit))
     × IsLoadHeadline seen Taken old new batches status text
-
--- it was done, and the sink took its whole text; or memory was missing
-pub data IsComplete (IsDone : ExitStatus → List ℕ → Type 0) (held_old held_new : Option (List ℕ)) : ExitStatus → Type 0 where
-  all_written : (status : ExitStatus) (text : List ℕ) → IsDone status text → Appends held_old held_new text
-      → IsComplete IsDone held_old held_new status
-  no_memory : IsComplete IsDone held_old held_new statuses.Memory
 
 -- So it is of a load where no fault was counted, over a sound journal.
 pub record Completes {D : Type 0} (seen : D → Seen) (words : List (List ℕ)) (left : Option (List ℕ)) (old new : D)

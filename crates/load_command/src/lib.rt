@@ -14,5 +14,6 @@ mod tests;
 mod top;
 
 pub use group_runs::{ExitStatus, SilentWitness, Witness};
+pub use journal_texts::Ended;
 pub use serving::load_requests;
-pub use top::{Ended, load, load_in_order, without_words};
+pub use top::{load, load_in_order, without_words};

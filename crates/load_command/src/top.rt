@@ -4,43 +4,21 @@ ghost use Rattle.journal_texts.specs.bureau_desk.specs.fault_count.specs.Counts.
 ghost use Rattle.journal_texts.specs.printed_text.specs.declared.exit_status.ExitStatus.TheVariants as statuses;
 ghost use Rattle.journal_texts.specs.printed_text.specs.Statuses.{IsNumberOf, TellsSinkFault, number_of};
 ghost use Rattle.journal_texts.specs.printed_text.specs.Writing.{Wrote};
+ghost use Rattle.journal_texts.specs.Calls.{IsMemoryDue, IsReadDue};
 ghost use Rattle.load_command.specs.Causes.{ComesOnly, ComesWhere};
 ghost use Rattle.load_command.specs.Completeness.{Completes};
 ghost use Rattle.load_command.specs.Due.{WroteInOrder};
 ghost use Rattle.load_command.specs.Headline.{HasTakenFirst};
-ghost use Rattle.load_command.specs.Inputs.{IsMemoryDue, IsReadDue, IsToldUnread, Ran, RanInOrder};
+ghost use Rattle.load_command.specs.Inputs.{IsInputDue, Ran, RanInOrder};
 
 use crate::input::load_input;
-use bureau_edge::{ReadEnd, Sink, Source, read_whole};
+use bureau_edge::{Sink, Source, read_whole};
 use disk_model::Disk;
-use group_runs::{
-    ExitStatus, SilentWitness, Witness, tell_no_memory, tell_read_fault, tell_too_long, tell_words,
-};
+use group_runs::{ExitStatus, SilentWitness, Witness, tell_no_memory, tell_words};
+use journal_texts::{Ended, tell_unread};
 use round_journal::bytes_hold_one_list;
 use setoff_model::limits::MOST_INPUT_BYTES;
 use std::alloc::Global;
-
-/// What a call ends with: the status of the process, and the source, the sink and the disk as they are then.
-#[derive(Drop)]
-pub struct Ended<S, K, D> {
-    pub status: u8,
-    pub source: S,
-    pub sink: K,
-    pub disk: D,
-}
-
-// Tells why an input was not read.
-#[tactic(none)]
-fn tell_unread<K: Sink>(end: ReadEnd, sink: &mut K) -> ExitStatus
-    ensures written { IsToldUnread end (K.held sink.old) (K.held sink.new) result }
-    ensures write_fault { TellsSinkFault (K.faults sink.old) (K.faults sink.new) result }
-{
-    match end {
-        ReadEnd::Memory => tell_no_memory(sink),
-        ReadEnd::Failed => tell_read_fault(sink),
-        ReadEnd::TooLong => tell_too_long(sink),
-    }
-}
 
 // Loads the requests of a source into the journal of a disk.
 #[tactic(none)]
@@ -51,7 +29,8 @@ fn load_source<S: Source, K: Sink, W: Witness<K, D>, D: Disk>(
     witness: &mut W,
     disk: D,
 ) -> (ExitStatus, D)
-    ensures wrote { WroteInOrder D.seen result.1 (λ taken. IsReadDue D.seen taken (S.left source.old) (S.left source.new) disk result.1)
+    ensures wrote { WroteInOrder D.seen result.1 (λ taken. IsReadDue (IsInputDue D.seen taken disk result.1) (result.1 ≡ disk)
+        (S.left source.old) (S.left source.new))
         (K.held sink.old) (K.held sink.new) (W.shown witness.old) (W.shown witness.new) result.0 }
     ensures read_fault { result.0 ≡ statuses.Source → HasRisen (S.faults source.old) (S.faults source.new) }
     ensures write_fault { TellsSinkFault (K.faults sink.old) (K.faults sink.new) result.0 }

@@ -12,7 +12,7 @@ use Rattle.journal_texts.proofs.Written.{wrote_line}
 use Rattle.load_command.specs.Headline.{HasTakenInOrder}
 use Rattle.load_command.specs.Due.{IsNotBegunDue, WroteInOrder, no_output_memory, not_opened}
 use Rattle.load_command.proofs.Loaded.{from_few, none_published, wrote_begun}
-use Rattle.load_command.proofs.Ends.{at_err, at_ok}
+use Rattle.group_runs.proofs.Answered.{at_err, at_ok}
 use Rattle.journal_texts.specs.bureau_desk.specs.claim_history.specs.PoolRounds.{cuts_after}
 use Rattle.journal_texts.specs.bureau_desk.specs.limited_book.specs.claim_book.specs.Pools.{BooksView}
 use Rattle.load_command.proofs.opening.begin.Goals as goal

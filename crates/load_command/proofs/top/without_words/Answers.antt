@@ -2,9 +2,9 @@ use Rattle.std.proofs.Common.{◌∙◌, sym, ap}
 use Rattle.journal_texts.specs.printed_text.specs.declared.exit_status.ExitStatus.TheVariants as statuses
 use Rattle.journal_texts.specs.printed_text.specs.Texts.{memory_text}
 use Rattle.journal_texts.specs.printed_text.proofs.Statuses.{one_number}
-use Rattle.load_command.specs.Inputs.{IsMemoryDue, no_word_memory}
 use Rattle.journal_texts.proofs.Written.{wrote_line}
 use Rattle.journal_texts.specs.printed_text.specs.Statuses.{number_of}
+use Rattle.journal_texts.specs.Calls.{IsMemoryDue, no_word_memory}
 use Rattle.load_command.proofs.top.without_words.Goals as goal
 
 pub returns-clause-wrote : goal.returns-clause-wrote
