@@ -1,6 +1,5 @@
 pub mod TakenInputs
 pub mod Risen
-pub mod Reading
 pub mod Commands
 pub mod Served
 pub mod Bound

@@ -16,12 +16,13 @@ use Rattle.live_runs.specs.printed_text.specs.Statuses.{IsOneOf}
 use Rattle.live_runs.specs.printed_text.specs.Writing.{IsWritten, Wrote}
 use Rattle.live_runs.specs.printed_text.proofs.Statuses.{in_front, other_than}
 use Rattle.bureau_reports.proofs.Written.{told_status}
-use Rattle.bureau_commands.specs.Completeness.{IsWholeInput}
+use Rattle.bureau_commands.specs.Calls.{IsTooLong, IsWholeInput}
 use Rattle.bureau_commands.specs.Headline.{IsHeadline, Output}
-use Rattle.bureau_commands.specs.Journals.{HoldsSound}
+use Rattle.bureau_commands.specs.Journals.{HoldsSound, HoldsUnsound}
 use Rattle.bureau_commands.specs.Due.{IsBatchesDue, IsLiveDue, IsLiveHeadline, IsNotBegunDue, all_served, broken_off, not_begun, stop_status, stop_text}
-use Rattle.bureau_commands.specs.Causes.{HasCause, HoldsUnsound, IsOutOfForm, IsTooLong, StartsInForm, StartsOutOfForm, disk_failed, done, full_line, no_memory, not_opened, out_of_form, source_failed, too_long}
-use Rattle.bureau_commands.proofs.TakenInputs.{all_taken, bad_input, bad_start, first_taken, no_shorter}
+use Rattle.bureau_commands.specs.Causes.{HasCause, IsOutOfForm, StartsInForm, StartsOutOfForm, disk_failed, done, full_line, no_memory, not_opened, out_of_form, source_failed, too_long}
+use Rattle.bureau_reports.specs.journal_texts.proofs.Inputs.{all_taken, no_shorter}
+use Rattle.bureau_commands.proofs.TakenInputs.{bad_input, bad_start, first_taken}
 use Rattle.bureau_commands.proofs.Bound.{none_asked}
 use Rattle.bureau_commands.proofs.Completeness.{none_served}
 use Rattle.bureau_commands.proofs.RunCauses.{batches_cases, headline_one, unsound_batches}

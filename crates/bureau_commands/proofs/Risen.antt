@@ -26,8 +26,9 @@ use Rattle.live_runs.specs.live_reading.specs.declared.stop.Stop.TheVariants as 
 use Rattle.live_runs.specs.batch_runs.specs.Runs.{all_added, some_device, some_end}
 use Rattle.live_runs.specs.batch_runs.proofs.Printed.{device_by}
 use Rattle.live_runs.specs.batch_runs.proofs.Rising.{device_rose}
+use Rattle.bureau_commands.specs.Calls.{IsReadDue, input_read, no_input_memory, read_fault, too_long}
 use Rattle.bureau_commands.specs.Headline.{IsHeadline, Output}
-use Rattle.bureau_commands.specs.Due.{IsBatchesDue, IsCommandDue, IsDue, IsLiveDue, IsLiveHeadline, IsReadDue, IsRunDue, IsTrialDue, Ran, all_served, asked, bad_line, bad_words, batches_read, broken_off, input_read, no_input_memory, no_line_memory, no_output_memory, no_request_memory, no_trial_memory, no_words_memory, not_begun, not_opened, not_read, read_fault, served, stop_status, too_long, tried}
+use Rattle.bureau_commands.specs.Due.{IsBatchesDue, IsCommandDue, IsDue, IsLiveDue, IsLiveHeadline, IsRunDue, IsTrialDue, Ran, all_served, asked, bad_line, bad_words, batches_read, broken_off, no_line_memory, no_output_memory, no_request_memory, no_trial_memory, no_words_memory, not_begun, not_opened, not_read, served, stop_status, tried}
 
 -- where no desk was opened
 opening_rose : (tells : Bool) (bytes : List ℕ) (low high : ℕ) (cause : DeskCause) → HasDeskCause tells bytes low high cause → opening_status cause ≡ statuses.Disk → HasRisen low high

@@ -1,13 +1,12 @@
 -- A run over a desk.
-use Rattle.std.specs.Prelude.{Option, IsTrue, drop, map, take}
-use Rattle.std.proofs.Common.{◌≡◌, ◌∙◌, inr, ℕ, ◌<◌, ◌≤◌, ◌^◌, Bool, true, List, All, [], ◌∷◌, ◌++◌, length, refl, sym, ap, subst, true≢false, arith, append_assoc, length-append}
+use Rattle.std.specs.Prelude.{Option, IsTrue, drop, take}
+use Rattle.std.proofs.Common.{◌≡◌, ◌∙◌, inr, ℕ, ◌<◌, ◌≤◌, ◌^◌, Bool, true, List, [], ◌∷◌, ◌++◌, length, refl, sym, ap, subst, arith, append_assoc, length-append}
 use Rattle.std.proofs.lemmas.List.{append-nil}
-use Rattle.std.proofs.lemmas.List.Elements.{All-head, All-tail, All-weaker, filter_passes}
-use Rattle.std.proofs.Math.Seq.{drop-length, take-append_seam, take-length}
+use Rattle.std.proofs.lemmas.List.Elements.{All-weaker}
+use Rattle.std.proofs.Math.Seq.{take-append_seam}
 use Rattle.std.specs.Io.KnownBytes.{Appends}
 use Rattle.bureau_edge.specs.Streams.{AppendsPart}
 use Rattle.bureau_edge.proofs.Known.{Appends-none, Appends-then, AppendsPart-front}
-use Rattle.setoff_model.specs.CutView.{CutView}
 use Rattle.disk_model.specs.Calls.{Seen, GoesOn}
 use Rattle.live_runs.specs.disk_witness.specs.Shown.{Shown}
 use Rattle.live_runs.specs.claim_history.specs.declared.call.PoolEntry.{PoolEntry}
@@ -15,22 +14,16 @@ use Rattle.live_runs.specs.claim_history.specs.declared.entry.Entry.{Entry}
 use Rattle.live_runs.specs.claim_history.specs.declared.entry.Reply.{Reply}
 use Rattle.live_runs.specs.claim_history.specs.declared.entry.Reply.TheVariants as reply
 use Rattle.live_runs.specs.claim_history.specs.History as one
-use Rattle.live_runs.specs.claim_history.specs.History.{is_opening}
 use Rattle.live_runs.specs.claim_history.specs.Laws.{IsGreatestPublication}
-use Rattle.live_runs.specs.claim_history.specs.Pools.{AreValid, IsLegal, call_of, entries_in, open_round_in}
-use Rattle.live_runs.specs.claim_history.specs.PoolRounds.{cuts_after, cuts_of, ending_of, ending_reply, is_left_open, left_open}
-use Rattle.live_runs.specs.claim_history.specs.Rounds.{cut_published}
-use Rattle.live_runs.specs.claim_history.specs.States.{OpenRound}
+use Rattle.live_runs.specs.claim_history.specs.Pools.{AreValid, IsLegal, call_of, entries_in}
+use Rattle.live_runs.specs.claim_history.specs.PoolRounds.{cuts_after}
 use Rattle.live_runs.specs.claim_history.proofs.Greatest.{greatest_law}
-use Rattle.live_runs.specs.claim_history.proofs.PoolCuts.{cuts_law}
-use Rattle.live_runs.specs.claim_history.proofs.PoolEnds.{opens_so}
 use Rattle.live_runs.specs.claim_history.proofs.Pools.{in_append, legal_in, past_own}
 use Rattle.setoff_model.proofs.SameNames.{name_same}
 use Rattle.setoff_model.proofs.Lists.{All-first}
 use Rattle.live_runs.specs.act_bodies.specs.Bodies.{is_keepable}
 use Rattle.request_text.specs.declared.request.Request.{Request}
 use Rattle.live_runs.specs.journal_replay.specs.Replays.{history_of}
-use Rattle.live_runs.specs.recorded_book.specs.Acting.{IsOpenedHistory}
 use Rattle.live_runs.specs.recorded_book.specs.Calls.{CanBeKept}
 use Rattle.live_runs.specs.recorded_book.specs.Devices.{AreBetween, IsBetween}
 use Rattle.live_runs.specs.recorded_book.specs.Moments.{HasMoments}
@@ -54,39 +47,8 @@ use Rattle.bureau_commands.specs.Headline.{IsHeadline, IsInOrder, LeavesDisk, Ou
 use Rattle.live_runs.specs.batch_runs.specs.Serving.{HasRunBatches, HasSameOpening}
 use Rattle.bureau_commands.specs.Due.{HasBegun, IsBatchesDue, IsLiveDue, IsLiveHeadline, IsNotBegunDue, WroteTaking, all_served, broken_off, stop_status, stop_text}
 use Rattle.bureau_commands.specs.Due.{served as served_due}
+use Rattle.bureau_reports.specs.journal_texts.proofs.Silent.{begun_parts}
 use Rattle.bureau_reports.proofs.Written.{written_after, wrote_line}
-
--- ---- an opened history
-
-cuts_none : (history : List PoolEntry) → cuts_after (length history) history ≡ []
-cuts_none history =
-    ap (λ (first : List PoolEntry). drop (length (cuts_of first)) (cuts_of history)) (take-length history) ∙ drop-length (cuts_of history)
-
--- an abandonment publishes nothing
-silent : (r : Reply) (o : Option OpenRound) → is_opening r ≡ true → cut_published o (ending_reply r) ≡ []
-silent (reply.Opened number) o opens = refl
-silent r o opens = absurd (true≢false (sym opens))
-
-ends_silent : (count : ℕ) (history ms : List PoolEntry) → count ≤ length history → All (λ m. is_opening m.entry.reply ≡ true) ms
-    → cuts_after count (history ++ map ending_of ms) ≡ cuts_after count history
-ends_silent count history [] le all = ap (cuts_after count) (append-nil history)
-ends_silent count history (m ∷ ms) le all =
-    let P : PoolEntry → Type 0 = λ x. is_opening x.entry.reply ≡ true in
-    let e = ending_of m in
-    ap (cuts_after count) (sym (append_assoc history (e ∷ []) (map ending_of ms)))
-    ∙ ends_silent count (history ++ e ∷ []) ms (omega (arith, le, length-append history (e ∷ []))) (All-tail P m ms all)
-    ∙ cuts_law count history e le
-    ∙ ap (λ (cuts : List CutView). cuts_after count history ++ cuts) (silent m.entry.reply (open_round_in history m.pool) (All-head P m ms all))
-    ∙ append-nil (cuts_after count history)
-
--- it begins with the records', and what is behind them publishes nothing
-pub begun_parts : (opened begun : List PoolEntry) → IsOpenedHistory opened begun
-    → (rest : List PoolEntry) × (begun ≡ opened ++ rest) × (cuts_after (length opened) begun ≡ [])
-begun_parts opened begun is =
-    let left : PoolEntry → Type 0 = λ m. is_left_open opened m ≡ true in
-    let opens : All (λ m. is_opening m.entry.reply ≡ true) (left_open opened) =
-    All-weaker left (λ m. is_opening m.entry.reply ≡ true) (λ m h. opens_so (open_round_in opened m.pool) m.entry.reply h) (left_open opened) (filter_passes (is_left_open opened) opened) in
-    (map ending_of (left_open opened), is, ap (cuts_after (length opened)) is ∙ ends_silent (length opened) opened (left_open opened) (omega arith) opens ∙ cuts_none opened)
 
 -- ---- a round of a pool
 

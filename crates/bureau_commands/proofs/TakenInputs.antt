@@ -1,10 +1,10 @@
 -- An input that a source tells, and the bytes that were taken of it.
-use Rattle.std.specs.Prelude.{Option, Some, None}
+use Rattle.std.specs.Prelude.{Option, Some}
 use Rattle.std.proofs.Common.{◌≡◌, ℕ, ◌+◌, ◌-◌, ◌<◌, ◌≤◌, List, [], ◌∷◌, ◌++◌, length, take, inl, inr, sym, ◌∙◌, ap, ap₂, subst, arith}
-use Rattle.std.specs.Io.KnownBytes.{Consumes, IsAtEnd}
-use Rattle.std.proofs.lemmas.List.{append-nil, length-append}
+use Rattle.std.specs.Io.KnownBytes.{Consumes}
 use Rattle.std.proofs.Math.Seq.{take-append-add, take-append_seam}
 use Rattle.setoff_model.specs.declared.limits.TheConstants.{MOST_INPUT_BYTES}
+use Rattle.bureau_reports.specs.journal_texts.proofs.Inputs.{all_taken, followed}
 use Rattle.request_text.specs.declared.error.LineCause.{LineCause}
 use Rattle.request_text.specs.declared.request.Request.{Request}
 use Rattle.request_text.specs.Causes.{IsBadLine}
@@ -12,20 +12,6 @@ use Rattle.request_text.specs.Grammar.{AreBatches, IsFirstBadLine, IsNoRequestTe
 use Rattle.request_text.proofs.Causes.{asks_nothing}
 use Rattle.live_runs.specs.input_front.specs.Front.{whole_lines}
 use Rattle.live_runs.specs.live_reading.specs.Fronts.{IsBadLineOf}
-
--- at its end all was taken
-pub all_taken : (input taken : List ℕ) (left_new : Option (List ℕ)) → Consumes (Some input) left_new taken → IsAtEnd left_new → taken ≡ input
-all_taken input taken None h e = absurd h
-all_taken input taken (Some rest) h e = sym (h ∙ ap (λ (t : List ℕ). taken ++ t) e ∙ append-nil taken)
-
--- some rest follows
-followed : (input taken : List ℕ) (left_new : Option (List ℕ)) → Consumes (Some input) left_new taken → (rest : List ℕ) × (input ≡ taken ++ rest)
-followed input taken None h = absurd h
-followed input taken (Some rest) h = (rest, h)
-
--- it is no shorter
-pub no_shorter : (input taken : List ℕ) (left_new : Option (List ℕ)) → Consumes (Some input) left_new taken → length taken ≤ length input
-no_shorter input taken left_new h = let f = followed input taken left_new h in omega (arith, ap (λ (t : List ℕ). length t) f.1, length-append taken f.0)
 
 -- it is the first of it
 pub first_taken : (input taken : List ℕ) (left_new : Option (List ℕ)) (many : ℕ) → Consumes (Some input) left_new taken → length taken ≡ many → taken ≡ take many input

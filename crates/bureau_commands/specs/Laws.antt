@@ -15,9 +15,8 @@ use Rattle.live_runs.specs.recorded_book.specs.Calls.{TriedLast}
 use Rattle.live_runs.specs.recorded_book.specs.Moments.{HoldsAt}
 use Rattle.live_runs.specs.batch_runs.specs.Runs.{Done, all_added}
 use Rattle.live_runs.specs.bureau_desk.specs.Opening.{HasViewed, HoldsOpened}
-use Rattle.bureau_commands.specs.Journals.{HasAuditFault, HoldsSound}
+use Rattle.bureau_commands.specs.Journals.{HasAuditFault, HoldsSound, HoldsUnsound}
 use Rattle.bureau_commands.specs.Headline.{IsHeadline, Output, SurvivesCrashes, run_text}
-use Rattle.bureau_commands.specs.Causes.{HoldsUnsound}
 
 -- The disk that comes back is tied to the one that was handed in: the images of the start are as they were, and none between it and
 -- the first sync is new. From the first sync up to the end of the opening each holds the records of the start, with the first of the

@@ -1,4 +1,4 @@
-use Rattle.bureau_commands.proofs.Completeness.{no_fault}
+use Rattle.bureau_reports.specs.journal_texts.proofs.Openings.{no_fault}
 use Rattle.bureau_commands.proofs.laws.sound_journals_have_no_fault.Goals as goal
 
 pub returns : goal.returns

@@ -14,7 +14,7 @@ use Rattle.bureau_reports.proofs.Viewed.{tellable}
 use Rattle.bureau_reports.proofs.Written.{wrote_line}
 use Rattle.live_runs.specs.batch_runs.proofs.Batches.{same_opening, shown_at}
 use Rattle.live_runs.specs.batch_runs.proofs.Printed.{at_err, at_ok, printed_same}
-use Rattle.bureau_commands.proofs.JournalCauses.{opening_one}
+use Rattle.bureau_reports.specs.journal_texts.proofs.Openings.{opening_one}
 use Rattle.bureau_commands.proofs.Served.{begun_few, none_begun, wrote_begun}
 use Rattle.bureau_commands.proofs.opening.begin.Goals as goal
 

@@ -4,7 +4,7 @@ use Rattle.setoff_model.specs.declared.limits.TheConstants.{MOST_INPUT_BYTES}
 use Rattle.live_runs.specs.printed_text.specs.declared.exit_status.ExitStatus.TheVariants as statuses
 use Rattle.live_runs.specs.printed_text.proofs.Statuses.{other_than}
 use Rattle.bureau_reports.specs.Inputs.{IsInputDue, input_statuses}
-use Rattle.bureau_commands.proofs.Reading.{source_failed, wrote_read, wrote_unread}
+use Rattle.bureau_reports.specs.journal_texts.proofs.Inputs.{source_failed, wrote_read, wrote_unread}
 use Rattle.bureau_commands.proofs.top.report_source.Goals as goal
 
 pub returns-in-Ok-clause-wrote : goal.returns-in-Ok-clause-wrote
