@@ -16,12 +16,12 @@ use Rattle.printed_text.specs.served_lines.specs.Served.{Line}
 use Rattle.printed_text.specs.Printing.{printed_of}
 use Rattle.group_loader.specs.Loading.{HasKept, HasStopped, LoadView, kept_calls, pending_calls}
 use Rattle.group_runs.specs.Lines.{CanBeLoaded, IsEndDue, answers_of_lines, end_adds, group_text, lines_add}
-use Rattle.group_runs.specs.Runs.{HasAnswered, HasTaken, IsAllKept, IsAnswered, KeepsHistory}
+use Rattle.group_runs.specs.Runs.{HasAnswered, HasTakenLine, IsAllKept, IsAnswered, KeepsHistory}
 use Rattle.group_runs.proofs.Lines.{due_more, lines_more, no_cuts}
 
 -- one line more
 pub answered_more : {D : Type 0} (first now new : LoadView D) (requests : List Request) (answers after : List Answer) (request : Request) (end : LineEnd)
-    → HasAnswered first now requests answers → HasTaken now new request end → after ≡ answers ++ record { line = request.line; end = end } ∷ []
+    → HasAnswered first now requests answers → HasTakenLine now new request end → after ≡ answers ++ record { line = request.line; end = end } ∷ []
     → HasAnswered first new (requests ++ request ∷ []) after
 answered_more first now new requests answers after request end was one pushed =
     let line : Line = record { request = request; end = end } in

@@ -27,7 +27,7 @@ use Rattle.group_runs.specs.declared.load_break.LoadBreak.TheVariants as breaks
 use Rattle.group_runs.specs.declared.tally.Tally.{Tally}
 use Rattle.group_runs.specs.Lines.{GroupsAreDue, answers_of_lines, group_calls, groups_add, groups_text, lines_add, requests_of_lines}
 use Rattle.group_runs.specs.Order.{WereShown}
-use Rattle.group_runs.specs.Runs.{HasBrokenAt, HasServed, HaveBroken, HaveServed, IsAllKept, IsKeptBy, KeepsHistory, calls_of_group, cut_batch, groups_of, some_end}
+use Rattle.group_runs.specs.Runs.{HasBrokenAt, HasServedGroup, HaveBroken, HaveServedGroups, IsAllKept, IsKeptBy, KeepsHistory, calls_of_group, cut_batch, groups_of, some_end}
 use Rattle.group_runs.proofs.Lines.{calls_after_groups, calls_more, groups_due, groups_more, text_more}
 use Rattle.group_runs.proofs.Order.{fewer_first, shown_none, shown_one, shown_then, whole_first}
 
@@ -134,7 +134,7 @@ module _ {D : Type 0} (seen : D → Seen) where
 
   -- ---- groups in turn
 
-  pub served_none : (v : LoadView D) (tally : Tally) (x : Option (List ℕ)) (w : List (Shown D)) → IsAllKept v → HaveServed seen v v [] tally tally x x w w
+  pub served_none : (v : LoadView D) (tally : Tally) (x : Option (List ℕ)) (w : List (Shown D)) → IsAllKept v → HaveServedGroups seen v v [] tally tally x x w w
   served_none v tally x w all = record {
     groups = [];
     requests_are = refl;
@@ -150,7 +150,7 @@ module _ {D : Type 0} (seen : D → Seen) where
   }
 
   pub served_one : (old new : LoadView D) (requests : List Request) (before after : Tally) (x y : Option (List ℕ)) (v w : List (Shown D))
-      → HasServed seen old new requests before after x y v w → HaveServed seen old new (requests ∷ []) before after x y v w
+      → HasServedGroup seen old new requests before after x y v w → HaveServedGroups seen old new (requests ∷ []) before after x y v w
   served_one old new requests before after x y v w s =
       let added = lines_add old.books.members s.lines in
       let ends : LineEnd → Bool → Bool = λ e b. b in
@@ -168,7 +168,7 @@ module _ {D : Type 0} (seen : D → Seen) where
         written = subst (Appends x y) (sym (append-nil _)) s.written;
       }
 
-  module _ (a b : LoadView D) (rs : List (List Request)) (t0 t1 : Tally) (x y : Option (List ℕ)) (u v : List (Shown D)) (p : HaveServed seen a b rs t0 t1 x y u v) where
+  module _ (a b : LoadView D) (rs : List (List Request)) (t0 t1 : Tally) (x y : Option (List ℕ)) (u v : List (Shown D)) (p : HaveServedGroups seen a b rs t0 t1 x y u v) where
     abbrev first : List PoolEntry
     first = a.books.members
 
@@ -201,7 +201,7 @@ module _ {D : Type 0} (seen : D → Seen) where
     shown_on c hs calls tried w q shown =
         shown_then seen b.journal.disk c x y u v w first b.books.members p.groups hs p.members q.tells q.goes p.written p.shown shown
 
-    pub served_then : (c : LoadView D) (qs : List (List Request)) (t2 : Tally) (z : Option (List ℕ)) (w : List (Shown D)) → HaveServed seen b c qs t1 t2 y z v w → HaveServed seen a c (rs ++ qs) t0 t2 x z u w
+    pub served_then : (c : LoadView D) (qs : List (List Request)) (t2 : Tally) (z : Option (List ℕ)) (w : List (Shown D)) → HaveServedGroups seen b c qs t1 t2 y z v w → HaveServedGroups seen a c (rs ++ qs) t0 t2 x z u w
     served_then c qs t2 z w q = record {
       groups = p.groups ++ q.groups;
       requests_are = requests_of q.groups qs q.requests_are;

@@ -58,7 +58,7 @@ end_of_error errors.Memory = ends.Memory
 end_of_error (errors.Full full) = ends.Full full.what full.needed full.limit
 
 -- a request was answered, and nothing kept yet
-pub record HasTaken {D : Type 0} (old new : LoadView D) (request : Request) (end : LineEnd) : Type 0 where
+pub record HasTakenLine {D : Type 0} (old new : LoadView D) (request : Request) (end : LineEnd) : Type 0 where
   pub members : new.books.members ≡ old.books.members ++ end_adds old.books.members request end
   pub due : IsEndDue old.books.members request end
   pub journal : new.journal ≡ old.journal
@@ -112,7 +112,7 @@ abbrev pub calls_of_group : List PoolEntry → List Line → List Call
 calls_of_group before lines = accepted_calls (lines_add before lines)
 
 -- A group was answered, kept and counted; then the sink and the disk were shown; and then it was written, and the load goes on.
-pub record HasServed {D : Type 0} (seen : D → Seen) (old new : LoadView D) (requests : List Request) (before after : Tally)
+pub record HasServedGroup {D : Type 0} (seen : D → Seen) (old new : LoadView D) (requests : List Request) (before after : Tally)
     (held_old held_new : Option (List ℕ)) (shown_old shown_new : List (Shown D)) : Type 0 where
   pub lines : List Line
   pub is : IsAnswered old.books.members requests lines
@@ -167,7 +167,7 @@ pub record IsKeptBy {D : Type 0} (seen : D → Seen) (old new : D) (kept : List 
   pub grows : IsTrue (seen old).tells → GoesOnBy (seen old) (seen new) kept (λ before. before ++ groups) tried
 
 -- Groups were answered, kept, counted, shown and written in turn.
-pub record HaveServed {D : Type 0} (seen : D → Seen) (old new : LoadView D) (requests : List (List Request)) (before after : Tally)
+pub record HaveServedGroups {D : Type 0} (seen : D → Seen) (old new : LoadView D) (requests : List (List Request)) (before after : Tally)
     (held_old held_new : Option (List ℕ)) (shown_old shown_new : List (Shown D)) : Type 0 where
   pub groups : List (List Line)
   pub requests_are : map requests_of_lines groups ≡ requests

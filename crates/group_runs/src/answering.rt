@@ -1,7 +1,7 @@
 //! The lines of a group, answered in order.
 ghost use Rattle.std.specs.Prelude.{◌≡◌, ◌+◌, ◌≤◌, [], All, length, vec_len, vec_capacity};
 ghost use Rattle.group_runs.specs.Lines.{CanBeLoaded};
-ghost use Rattle.group_runs.specs.Runs.{HasAnswered, HasTaken, end_of_error};
+ghost use Rattle.group_runs.specs.Runs.{HasAnswered, HasTakenLine, end_of_error};
 
 use claim_history::Call;
 use disk_model::Disk;
@@ -31,7 +31,7 @@ fn end_of_error(error: LoadError) -> LineEnd
 // Answers one line, whose lane is the caller.
 fn answer_line<D: Disk>(loader: &mut Loader<D>, request: &Request) -> LineEnd
     requires can { CanBeLoaded request.now }
-    ensures taken { HasTaken loader.old loader.new request.now result }
+    ensures taken { HasTakenLine loader.old loader.new request.now result }
 {
     let Ok(act) = request.act.clone() else {
         return LineEnd::Memory;

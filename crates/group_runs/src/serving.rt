@@ -3,7 +3,7 @@ ghost use Rattle.std.specs.Prelude.{◌≡◌, ◌≤◌, [], All, length, vec_c
 ghost use Rattle.printed_text.specs.setoff_model.specs.declared.limits.TheConstants.{OUTPUT_BYTES};
 ghost use Rattle.group_runs.specs.declared.limits.TheConstants.{GROUP_LINES};
 ghost use Rattle.group_runs.specs.Lines.{CanBeLoaded};
-ghost use Rattle.group_runs.specs.Runs.{CanAllBeLoaded, HasBroken, HasBrokenAt, HasLoaded, HasServed, HaveServed};
+ghost use Rattle.group_runs.specs.Runs.{CanAllBeLoaded, HasBroken, HasBrokenAt, HasLoaded, HasServedGroup, HaveServedGroups};
 ghost use Rattle.group_runs.specs.Runs.{IsAllKept, IsBreakCounted, IsEmptied, cut_batch, groups_of};
 
 use crate::answering::answer_lines;
@@ -38,7 +38,7 @@ fn serve_group<K: Sink, W: Witness<K, D>, D: Disk>(
     requires spare { OUTPUT_BYTES ≤ vec_capacity buffer.old }
 
     // What was kept and told.
-    ensures served { IfOk result (λ l. HasServed D.seen loader l requests.now tally.old tally.new (K.held sink.old) (K.held sink.new)
+    ensures served { IfOk result (λ l. HasServedGroup D.seen loader l requests.now tally.old tally.new (K.held sink.old) (K.held sink.new)
         (W.shown witness.old) (W.shown witness.new)) }
     ensures broken { IfErr result (HasBrokenAt D.seen loader requests.now (K.held sink.old) (K.held sink.new)
         (W.shown witness.old) (W.shown witness.new)) }
@@ -89,7 +89,7 @@ fn serve_batch<K: Sink, W: Witness<K, D>, D: Disk>(
     requires spare { OUTPUT_BYTES ≤ vec_capacity buffer.old }
 
     // What was kept and told.
-    ensures served { IfOk result (λ l. HaveServed D.seen loader l (cut_batch (length requests.now) requests.now) tally.old tally.new
+    ensures served { IfOk result (λ l. HaveServedGroups D.seen loader l (cut_batch (length requests.now) requests.now) tally.old tally.new
         (K.held sink.old) (K.held sink.new) (W.shown witness.old) (W.shown witness.new)) }
     ensures broken { IfErr result (HasBroken D.seen loader (cut_batch (length requests.now) requests.now)
         (K.held sink.old) (K.held sink.new) (W.shown witness.old) (W.shown witness.new)) }

@@ -41,7 +41,7 @@ use Rattle.journal_texts.proofs.Silent.{begun_parts}
 use Rattle.load_command.proofs.Fronts.{all_keeps, first_keeps}
 use Rattle.load_command.proofs.Full.{none_full}
 use Rattle.load_command.specs.Headline.{HasTakenFirst, HasTakenInOrder, IsLoadHeadline, LoadEnd, SurvivesGroups, Taking, all_kept, but_last_group, disk_failed, load_text, requests_of, sink_failed, sure_load_text}
-use Rattle.load_command.specs.Due.{HasOpened, IsLoadDue, IsNotBegunDue, WroteInOrder, device_text, loaded}
+use Rattle.load_command.specs.Due.{IsLoadBegun, IsLoadDue, IsNotBegunDue, WroteInOrder, device_text, loaded}
 
 -- ---- the text that was surely taken
 
@@ -83,7 +83,7 @@ module _ (opened begun : List PoolEntry) where
 
 -- ---- a load
 
-module _ {D : Type 0} (seen : D → Seen) (reads_now : (d : D) → IsTrue (seen d).tells → IsPresent (seen d) (seen d).reads) (old : D) (first : LoadView D) (from : ℕ) (o : HasOpened seen old first from) where
+module _ {D : Type 0} (seen : D → Seen) (reads_now : (d : D) → IsTrue (seen d).tells → IsPresent (seen d) (seen d).reads) (old : D) (first : LoadView D) (from : ℕ) (o : IsLoadBegun seen old first from) where
   abbrev opened : List PoolEntry
   opened = history_of o.opening.records
 

@@ -10,14 +10,14 @@ use Rattle.journal_texts.specs.bureau_desk.specs.Opening.{IsDeskOpen}
 use Rattle.group_runs.specs.group_loader.specs.Groups.{HasGroupMoments}
 use Rattle.group_runs.specs.group_loader.specs.Loading.{LoadView}
 use Rattle.group_runs.specs.Runs.{KeepsHistory}
-use Rattle.load_command.specs.Due.{HasOpened}
+use Rattle.load_command.specs.Due.{IsLoadBegun}
 
 module _ {D : Type 0} (seen : D → Seen) (old : D) (desk : DeskView D) (from : ℕ) (l : LoadView D) (journal : JournalView D) (books : BooksView) where
   abbrev Begins : D → BooksView → Type 0
   Begins d b = IsTrue (seen d).tells → HasGroupMoments (seen d) (seen d).moment (accepted_calls b.members) [] []
 
   pub opened_so : IsDeskOpen seen old desk → from ≡ desk.opened_with → l.journal ≡ journal → l.books ≡ books → (l.kept ≡ length books.members) × (l.group ≡ []) → journal.disk ≡ desk.disk → books.members ≡ desk.history
-      → KeepsDesk seen desk → Begins journal.disk books → HasOpened seen old l from
+      → KeepsDesk seen desk → Begins journal.disk books → IsLoadBegun seen old l from
   opened_so opening from_is j b all disk history keeps begins =
       let same : l.books.members ≡ desk.history = ap (λ (x : BooksView). x.members) b ∙ history in
       record {

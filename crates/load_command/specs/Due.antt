@@ -44,7 +44,7 @@ WroteInOrder seen new IsTextDue held_old held_new shown_old shown_new status =
     Wrote (IsTextDue (HasTakenInOrder seen new held_old held_new shown_old shown_new)) held_old held_new status
 
 -- a load was begun on a disk, after an opening that left so many members before the abandonments
-pub record HasOpened {D : Type 0} (seen : D → Seen) (old : D) (first : LoadView D) (from : ℕ) : Type 0 where
+pub record IsLoadBegun {D : Type 0} (seen : D → Seen) (old : D) (first : LoadView D) (from : ℕ) : Type 0 where
   pub desk : DeskView D
   pub opening : IsDeskOpen seen old desk
   pub from_is : from ≡ desk.opened_with
@@ -59,6 +59,6 @@ pub record HasOpened {D : Type 0} (seen : D → Seen) (old : D) (first : LoadVie
 pub record HasBegun {D : Type 0} (seen : D → Seen) (old : D) (first : LoadView D) (held_old held_new : Option (List ℕ))
     (shown_old shown_new : List (Shown D)) : Type 0 where
   pub from : ℕ
-  pub opened : HasOpened seen old first from
+  pub opened : IsLoadBegun seen old first from
   pub shown : shown_new ≡ shown_old ++ (record { held = held_old; disk = first.journal.disk }) ∷ []
   pub printed : Appends held_old held_new (printed_of (take from first.books.members) (drop from first.books.members) [])

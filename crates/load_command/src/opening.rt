@@ -4,7 +4,7 @@ ghost use Rattle.setoff_model.specs.declared.limits.TheConstants.{OUTPUT_BYTES};
 ghost use Rattle.journal_texts.specs.bureau_desk.specs.Opening.{IsDeskRefused};
 ghost use Rattle.journal_texts.specs.printed_text.specs.Statuses.{TellsSinkFault};
 ghost use Rattle.group_runs.specs.declared.limits.TheConstants.{GROUP_LINES};
-ghost use Rattle.load_command.specs.Due.{HasBegun, HasOpened, IsNotBegunDue, WroteInOrder};
+ghost use Rattle.load_command.specs.Due.{HasBegun, IsLoadBegun, IsNotBegunDue, WroteInOrder};
 
 use bureau_edge::Sink;
 use disk_model::Disk;
@@ -59,7 +59,7 @@ fn output_room(alloc: Global) -> Result<OutputRoom, AllocError>
 }
 
 fn open_loader<D: Disk>(alloc: Global, disk: D) -> Result<Opened<D>, DeskRefused<D>>
-    ensures opened { IfOk result (λ o. HasOpened D.seen disk o.loader o.from) }
+    ensures opened { IfOk result (λ o. IsLoadBegun D.seen disk o.loader o.from) }
     ensures refused { IfErr result (λ e. IsDeskRefused (D.seen disk) (D.seen e.disk) e.cause) }
 {
     let desk = match Desk::open(alloc, disk) {

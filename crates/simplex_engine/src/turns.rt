@@ -36,7 +36,8 @@ pub struct Start<'a> {
 
 /// A solution from where nothing is set off, if one is found with little work for each arc that enters.
 ///
-/// It is sought where there are some halves of arcs at a node and not many, or where most of what is set off is in excess. Nothing is proved of it. The only error is running out of memory.
+/// It is sought where there are some halves of arcs at a node and not many, or where most of what is set off is in excess. Nothing is
+/// proved of it. The only error is running out of memory.
 pub fn seek_cold(
     alloc: Global,
     start: &Start,

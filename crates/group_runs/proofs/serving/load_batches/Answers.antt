@@ -5,7 +5,7 @@ use Rattle.request_text.specs.declared.request.Request.{Request}
 use Rattle.printed_text.specs.served_lines.specs.Ends.{is_full_end, is_memory_end}
 use Rattle.group_runs.specs.Lines.{group_calls}
 use Rattle.group_runs.specs.Order.{WereShown}
-use Rattle.group_runs.specs.Runs.{HasBroken, HaveServed, IsKeptBy, KeepsHistory, cut_batch, groups_of, load_status, some_end}
+use Rattle.group_runs.specs.Runs.{HasBroken, HaveServedGroups, IsKeptBy, KeepsHistory, cut_batch, groups_of, load_status, some_end}
 use Rattle.group_runs.proofs.Served.{broken_then, groups_in_order, groups_push, served_none, served_then}
 use Rattle.group_runs.proofs.serving.load_batches.Goals as goal
 
@@ -53,13 +53,13 @@ loop-batch-preserved g c =
     let v = g.W.Witness.shown c.loop-batch.witness in
     let w = g.W.Witness.shown c.serve_batch.new.witness in
     let item : take (i + 1) bs ≡ take i bs ++ b ∷ [] = take_more bs i b c.loop-batch-test.true ∙ ap (λ (l : List Request). take i bs ++ l ∷ []) (sym c.batch-item.is) in
-    let served : HaveServed g.D.Disk.seen c.loop-batch.loader c.in-Ok.loader (cut_batch (length b) b) c.loop-batch.tally c.serve_batch.new.tally y z v w =
-    subst (λ (rs : List Request). HaveServed g.D.Disk.seen c.loop-batch.loader c.in-Ok.loader (cut_batch (length rs) rs) c.loop-batch.tally c.serve_batch.new.tally y z v w) c.requests-requests.ensures.requests c.in-Ok.ensures.served in
+    let served : HaveServedGroups g.D.Disk.seen c.loop-batch.loader c.in-Ok.loader (cut_batch (length b) b) c.loop-batch.tally c.serve_batch.new.tally y z v w =
+    subst (λ (rs : List Request). HaveServedGroups g.D.Disk.seen c.loop-batch.loader c.in-Ok.loader (cut_batch (length rs) rs) c.loop-batch.tally c.serve_batch.new.tally y z v w) c.requests-requests.ensures.requests c.in-Ok.ensures.served in
     record {
       so_far = (
         so.0,
         so.1,
-        subst (λ (l : List (List Request)). HaveServed g.D.Disk.seen c.args.loader c.in-Ok.loader l so.0 c.serve_batch.new.tally x z u w) (sym (ap groups_of item ∙ groups_push (take i bs) b))
+        subst (λ (l : List (List Request)). HaveServedGroups g.D.Disk.seen c.args.loader c.in-Ok.loader l so.0 c.serve_batch.new.tally x z u w) (sym (ap groups_of item ∙ groups_push (take i bs) b))
             (served_then g.D.Disk.seen c.args.loader c.loop-batch.loader (groups_of (take i bs)) so.0 c.loop-batch.tally x y u v so.2 c.in-Ok.loader (cut_batch (length b) b) c.serve_batch.new.tally z w served),
       );
       list = c.serve_batch.ensures.list;

@@ -5,7 +5,7 @@ use Rattle.std.proofs.lemmas.List.Elements.{All-drop, All-take}
 use Rattle.request_text.specs.declared.request.Request.{Request}
 use Rattle.group_runs.specs.declared.limits.TheConstants.{GROUP_LINES}
 use Rattle.group_runs.specs.Lines.{CanBeLoaded}
-use Rattle.group_runs.specs.Runs.{HasBrokenAt, HasServed, HaveServed, cut_batch}
+use Rattle.group_runs.specs.Runs.{HasBrokenAt, HasServedGroup, HaveServedGroups, cut_batch}
 use Rattle.group_runs.proofs.Served.{broken_one, broken_then, cut_none, cut_step, drop_min, not_empty, served_none, served_one, served_then}
 use Rattle.group_runs.proofs.serving.serve_batch.Goals as goal
 
@@ -63,7 +63,7 @@ loop-rest-preserved g c =
     let front : c.split_at.result.0.now ≡ take GROUP_LINES rest = c.split_at.ensures.front ∙ ap (λ (n : ℕ). take n rest) mid ∙ take_min GROUP_LINES rest in
     let back : c.split_at.result.1.now ≡ drop GROUP_LINES rest = c.split_at.ensures.back ∙ ap (λ (n : ℕ). drop n rest) mid ∙ drop_min GROUP_LINES rest in
     let group = take GROUP_LINES rest in
-    let one = subst (λ (rs : List Request). HasServed g.D.Disk.seen c.loop-rest.loader c.in-Ok.loader rs c.loop-rest.tally c.serve_group.new.tally y z v w) front c.in-Ok.ensures.served in
+    let one = subst (λ (rs : List Request). HasServedGroup g.D.Disk.seen c.loop-rest.loader c.in-Ok.loader rs c.loop-rest.tally c.serve_group.new.tally y z v w) front c.in-Ok.ensures.served in
     record {
       so_far = (
         step.0,
@@ -86,5 +86,5 @@ returns-clause-served g c =
     let so = c.loop-rest.invariant.so_far in
     let none : length rest ≡ 0 = search rules in
     let all : cut_batch (length c.args.requests.now) c.args.requests.now ≡ so.1 = so.3 ∙ ap (λ (l : List (List Request)). so.1 ++ l) (cut_none so.0 rest none) ∙ append-nil so.1 in
-    subst (λ (l : List (List Request)). HaveServed g.D.Disk.seen c.args.loader c.loop-rest.loader l c.args.tally.now c.loop-rest.tally (g.K.Sink.held c.args.sink.now) (g.K.Sink.held c.loop-rest.sink)
+    subst (λ (l : List (List Request)). HaveServedGroups g.D.Disk.seen c.args.loader c.loop-rest.loader l c.args.tally.now c.loop-rest.tally (g.K.Sink.held c.args.sink.now) (g.K.Sink.held c.loop-rest.sink)
     (g.W.Witness.shown c.args.witness.now) (g.W.Witness.shown c.loop-rest.witness)) (sym all) so.4
