@@ -1,7 +1,7 @@
 #!/usr/bin/env bash
-# Times a run of the gate from nothing, crate by crate: tools/gate.sh [--kept] [CRATE..]
+# Times a run of the gate from scratch, crate by crate: tools/gate.sh [--kept] [CRATE..]
 # Runs `rt ci --anew` with one processor for each check, and looks once a second at what each of its checks has used. It prints a
-# table in processor minutes: of each crate the check, that of its tests, and its must-fail edits. `rest` is what the looks do not
+# table in minutes of CPU time: of each crate the check, that of its tests, and its must-fail edits. `rest` is what the looks do not
 # see: the last second of each check, the programs, and rt itself. The words of rt go to bench/out/gate.log. With names it runs
 # `rt ci --anew` of these and those below.
 # With --kept it runs plain `rt ci`: what an earlier run kept is not run again, and its crates are not in the table.
@@ -33,7 +33,7 @@ look() {
 }
 
 anew=(--anew)
-# (a kit whose rt ci has no such word proves from nothing each time, and takes no names)
+# (a kit whose rt ci has no such word proves from scratch each time, and takes no names)
 rt help 2>&1 | grep -q -e --anew || anew=()
 [ "${1:-}" = --kept ] && { anew=(); shift; }
 
