@@ -1,6 +1,7 @@
 //! What an audit finds.
-ghost use Rattle.std.specs.Prelude.{◌≡◌, ◌+◌, ◌≤◌, ◌++◌, count_by, vec_len, vec_capacity};
+ghost use Rattle.std.specs.Prelude.{◌≡◌, ◌+◌, ◌≤◌, count_by, vec_len, vec_capacity};
 ghost use Rattle.setoff_model.specs.declared.limits.TheConstants.{LINE_BYTES};
+ghost use Rattle.setoff_model.specs.Writing.{Writes};
 ghost use Rattle.weighed_round.specs.claim_history.specs.Acts.{is_publication};
 ghost use Rattle.bureau_reports.specs.DiskTexts.{sound_text, unsound_text, unsound_status, IsTellable};
 
@@ -26,9 +27,7 @@ fn rounds_in(books: &Books) -> u64
 /// Writes the line `yes acts N rounds M` of a journal that is sound, whose history is that of these books.
 pub(crate) fn write_sound(buffer: &mut Vec<u8>, books: &Books)
     requires { vec_len buffer.old + LINE_BYTES ≤ vec_capacity buffer.old }
-    ensures text { buffer.new.items ≡ buffer.old.items ++ sound_text books.now.members }
-    ensures len { vec_len buffer.new ≤ vec_len buffer.old + LINE_BYTES }
-    ensures room { vec_capacity buffer.old ≤ vec_capacity buffer.new }
+    ensures { Writes buffer.old buffer.new (sound_text books.now.members) LINE_BYTES }
 {
     put(buffer, b"yes acts ");
     write_whole(buffer, books.len());
@@ -44,9 +43,7 @@ pub(crate) fn write_unsound(buffer: &mut Vec<u8>, cause: DeskCause)
     requires spare { vec_len buffer.old + LINE_BYTES ≤ vec_capacity buffer.old }
 
     // What stands in the buffer then, and its room.
-    ensures text { buffer.new.items ≡ buffer.old.items ++ unsound_text cause }
-    ensures len { vec_len buffer.new ≤ vec_len buffer.old + LINE_BYTES }
-    ensures room { vec_capacity buffer.old ≤ vec_capacity buffer.new }
+    ensures { Writes buffer.old buffer.new (unsound_text cause) LINE_BYTES }
 {
     match cause {
         DeskCause::BadAct { .. } => write_told(buffer, b"no ", cause),

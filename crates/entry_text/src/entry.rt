@@ -2,6 +2,7 @@
 ghost use Rattle.std.specs.Prelude.{◌≡◌, ◌+◌, ◌<◌, ◌≤◌, ◌++◌, unsigned_abs, length, codes, decimal, true, vec_len, vec_capacity};
 ghost use Rattle.setoff_model.specs.declared.limits.TheConstants.{SUM_LIMIT, LINE_BYTES};
 ghost use Rattle.setoff_model.specs.Texts.{cents_text, signed_cents_text};
+ghost use Rattle.setoff_model.specs.Writing.{Writes};
 ghost use Rattle.request_text.specs.claim_history.specs.Acts.{is_valid};
 ghost use Rattle.request_text.specs.claim_history.specs.Laws.{IsReplyInRange};
 ghost use Rattle.request_text.specs.claim_history.specs.Pools.{member_of};
@@ -42,9 +43,7 @@ fn name_of(why: Why) -> &'static [u8]
 fn write_balance(buffer: &mut Vec<u8>, cents: i64)
     requires small { unsigned_abs cents < SUM_LIMIT }
     requires spare { vec_len buffer.old + 20 ≤ vec_capacity buffer.old }
-    ensures text { buffer.new.items ≡ buffer.old.items ++ signed_cents_text cents }
-    ensures len { vec_len buffer.new ≤ vec_len buffer.old + 20 }
-    ensures room { vec_capacity buffer.old ≤ vec_capacity buffer.new }
+    ensures { Writes buffer.old buffer.new (signed_cents_text cents) 20 }
 {
     let size = cents.unsigned_abs();
     if cents < 0 {
@@ -58,9 +57,7 @@ fn write_balance(buffer: &mut Vec<u8>, cents: i64)
 fn write_named_sum(buffer: &mut Vec<u8>, name: &[u8], cents: u64)
     requires small { cents < SUM_LIMIT }
     requires spare { vec_len buffer.old + (length name.now + 19) ≤ vec_capacity buffer.old }
-    ensures text { buffer.new.items ≡ buffer.old.items ++ (name.now ++ cents_text cents) }
-    ensures len { vec_len buffer.new ≤ vec_len buffer.old + (length name.now + 19) }
-    ensures room { vec_capacity buffer.old ≤ vec_capacity buffer.new }
+    ensures { Writes buffer.old buffer.new (name.now ++ cents_text cents) (length name.now + 19) }
 {
     put(buffer, name);
     write_sum(buffer, cents);
@@ -71,9 +68,7 @@ fn write_position(buffer: &mut Vec<u8>, position: &Position)
     requires receivable { position.now.receivable < SUM_LIMIT }
     requires payable { position.now.payable < SUM_LIMIT }
     requires spare { vec_len buffer.old + 87 ≤ vec_capacity buffer.old }
-    ensures text { buffer.new.items ≡ buffer.old.items ++ position_text position.now }
-    ensures len { vec_len buffer.new ≤ vec_len buffer.old + 87 }
-    ensures room { vec_capacity buffer.old ≤ vec_capacity buffer.new }
+    ensures { Writes buffer.old buffer.new (position_text position.now) 87 }
 {
     put(buffer, b"balance ");
     write_balance(buffer, position.balance);
@@ -84,9 +79,7 @@ fn write_position(buffer: &mut Vec<u8>, position: &Position)
 // A space and a number.
 fn write_spaced(buffer: &mut Vec<u8>, number: u64)
     requires { vec_len buffer.old + 21 ≤ vec_capacity buffer.old }
-    ensures text { buffer.new.items ≡ buffer.old.items ++ spaced number }
-    ensures len { vec_len buffer.new ≤ vec_len buffer.old + 21 }
-    ensures room { vec_capacity buffer.old ≤ vec_capacity buffer.new }
+    ensures { Writes buffer.old buffer.new (spaced number) 21 }
 {
     put(buffer, b" ");
     write_whole(buffer, number);
@@ -96,9 +89,7 @@ fn write_spaced(buffer: &mut Vec<u8>, number: u64)
 fn write_round(buffer: &mut Vec<u8>, word: &[u8], round: u32)
     requires short { length word.now ≤ 9 }
     requires spare { vec_len buffer.old + 30 ≤ vec_capacity buffer.old }
-    ensures text { buffer.new.items ≡ buffer.old.items ++ (word.now ++ spaced round) }
-    ensures len { vec_len buffer.new ≤ vec_len buffer.old + 30 }
-    ensures room { vec_capacity buffer.old ≤ vec_capacity buffer.new }
+    ensures { Writes buffer.old buffer.new (word.now ++ spaced round) 30 }
 {
     put(buffer, word);
     write_spaced(buffer, u64::from(round));
@@ -107,9 +98,7 @@ fn write_round(buffer: &mut Vec<u8>, word: &[u8], round: u32)
 // The numbers that a refusal tells.
 fn write_numbers(buffer: &mut Vec<u8>, why: Why)
     requires { vec_len buffer.old + 42 ≤ vec_capacity buffer.old }
-    ensures text { buffer.new.items ≡ buffer.old.items ++ why_numbers why }
-    ensures len { vec_len buffer.new ≤ vec_len buffer.old + 42 }
-    ensures room { vec_capacity buffer.old ≤ vec_capacity buffer.new }
+    ensures { Writes buffer.old buffer.new (why_numbers why) 42 }
 {
     match why {
         Why::Frozen { round } | Why::RoundOpen { round } | Why::NotOwner { round } => {
@@ -122,9 +111,7 @@ fn write_numbers(buffer: &mut Vec<u8>, why: Why)
 
 fn write_counts(buffer: &mut Vec<u8>, before: u64, after: u64)
     requires { vec_len buffer.old + 42 ≤ vec_capacity buffer.old }
-    ensures text { buffer.new.items ≡ buffer.old.items ++ (spaced before ++ spaced after) }
-    ensures len { vec_len buffer.new ≤ vec_len buffer.old + 42 }
-    ensures room { vec_capacity buffer.old ≤ vec_capacity buffer.new }
+    ensures { Writes buffer.old buffer.new (spaced before ++ spaced after) 42 }
 {
     write_spaced(buffer, before);
     write_spaced(buffer, after);
@@ -132,9 +119,7 @@ fn write_counts(buffer: &mut Vec<u8>, before: u64, after: u64)
 
 fn write_refusal(buffer: &mut Vec<u8>, why: Why)
     requires { vec_len buffer.old + 80 ≤ vec_capacity buffer.old }
-    ensures text { buffer.new.items ≡ buffer.old.items ++ (codes "refused " ++ why_text why) }
-    ensures len { vec_len buffer.new ≤ vec_len buffer.old + 80 }
-    ensures room { vec_capacity buffer.old ≤ vec_capacity buffer.new }
+    ensures { Writes buffer.old buffer.new (codes "refused " ++ why_text why) 80 }
 {
     put(buffer, b"refused ");
     put(buffer, name_of(why));
@@ -148,9 +133,7 @@ fn write_refusal(buffer: &mut Vec<u8>, why: Why)
 pub fn write_reply(buffer: &mut Vec<u8>, reply: &Reply)
     requires range { IsReplyInRange reply.now }
     requires spare { vec_len buffer.old + 87 ≤ vec_capacity buffer.old }
-    ensures text { buffer.new.items ≡ buffer.old.items ++ reply_text reply.now }
-    ensures len { vec_len buffer.new ≤ vec_len buffer.old + 87 }
-    ensures room { vec_capacity buffer.old ≤ vec_capacity buffer.new }
+    ensures { Writes buffer.old buffer.new (reply_text reply.now) 87 }
 {
     match reply {
         Reply::Done => put(buffer, b"ok"),
@@ -166,9 +149,7 @@ pub fn write_reply(buffer: &mut Vec<u8>, reply: &Reply)
 // The number of a caller, which has at most 10 digits.
 fn write_caller(buffer: &mut Vec<u8>, caller: u32)
     requires { vec_len buffer.old + 20 ≤ vec_capacity buffer.old }
-    ensures text { buffer.new.items ≡ buffer.old.items ++ decimal caller }
-    ensures len { vec_len buffer.new ≤ vec_len buffer.old + 10 }
-    ensures room { vec_capacity buffer.old ≤ vec_capacity buffer.new }
+    ensures { Writes buffer.old buffer.new (decimal caller) 10 }
 {
     write_whole(buffer, u64::from(caller));
 }
@@ -178,9 +159,7 @@ fn write_entry(buffer: &mut Vec<u8>, entry: &Entry)
     requires valid { is_valid entry.now.act ≡ true }
     requires range { IsReplyInRange entry.now.reply }
     requires spare { vec_len buffer.old + 170 ≤ vec_capacity buffer.old }
-    ensures text { buffer.new.items ≡ buffer.old.items ++ entry_text entry.now }
-    ensures len { vec_len buffer.new ≤ vec_len buffer.old + 170 }
-    ensures room { vec_capacity buffer.old ≤ vec_capacity buffer.new }
+    ensures { Writes buffer.old buffer.new (entry_text entry.now) 170 }
 {
     write_act(buffer, &entry.act);
     put(buffer, b" = ");
@@ -196,9 +175,7 @@ pub fn write_member(buffer: &mut Vec<u8>, pool: &Name, entry: &Entry)
     requires range { IsReplyInRange entry.now.reply }
     requires spare { vec_len buffer.old + LINE_BYTES ≤ vec_capacity buffer.old }
 
-    ensures text { buffer.new.items ≡ buffer.old.items ++ entry_line (member_of pool.now entry.now) }
-    ensures len { vec_len buffer.new ≤ vec_len buffer.old + LINE_BYTES }
-    ensures room { vec_capacity buffer.old ≤ vec_capacity buffer.new }
+    ensures { Writes buffer.old buffer.new (entry_line (member_of pool.now entry.now)) LINE_BYTES }
 {
     write_caller(buffer, entry.caller);
     put(buffer, b" ");
@@ -213,9 +190,7 @@ pub fn write_pool_entry(buffer: &mut Vec<u8>, entry: &PoolEntry)
     requires range { IsReplyInRange entry.now.entry.reply }
     requires spare { vec_len buffer.old + LINE_BYTES ≤ vec_capacity buffer.old }
 
-    ensures text { buffer.new.items ≡ buffer.old.items ++ entry_line entry.now }
-    ensures len { vec_len buffer.new ≤ vec_len buffer.old + LINE_BYTES }
-    ensures room { vec_capacity buffer.old ≤ vec_capacity buffer.new }
+    ensures { Writes buffer.old buffer.new (entry_line entry.now) LINE_BYTES }
 {
     write_member(buffer, &entry.pool, &entry.entry);
 }

@@ -1,6 +1,7 @@
 //! Disks on which no desk was opened.
-ghost use Rattle.std.specs.Prelude.{◌≡◌, ◌+◌, ◌≤◌, ◌++◌, length, vec_len, vec_capacity};
+ghost use Rattle.std.specs.Prelude.{◌≡◌, ◌+◌, ◌≤◌, length, vec_len, vec_capacity};
 ghost use Rattle.setoff_model.specs.declared.limits.TheConstants.{LINE_BYTES};
+ghost use Rattle.setoff_model.specs.Writing.{Writes};
 ghost use Rattle.journal_texts.specs.DiskTexts.{offset_of, record_why, fault_of, told_fault};
 ghost use Rattle.journal_texts.specs.DiskTexts.{told_counts, opening_text, opening_status, IsTellable};
 
@@ -34,9 +35,7 @@ fn write_fault(buffer: &mut Vec<u8>, cause: DeskCause)
     requires spare { vec_len buffer.old + 90 ≤ vec_capacity buffer.old }
 
     // What stands in the buffer then, and its room.
-    ensures text { buffer.new.items ≡ buffer.old.items ++ fault_of cause }
-    ensures len { vec_len buffer.new ≤ vec_len buffer.old + 90 }
-    ensures room { vec_capacity buffer.old ≤ vec_capacity buffer.new }
+    ensures { Writes buffer.old buffer.new (fault_of cause) 90 }
 {
     match cause {
         DeskCause::BadRecord { why, .. } => put(buffer, record_why(why)),
@@ -53,9 +52,7 @@ pub fn write_told(buffer: &mut Vec<u8>, word: &[u8], cause: DeskCause)
     requires spare { vec_len buffer.old + LINE_BYTES ≤ vec_capacity buffer.old }
 
     // What stands in the buffer then, and its room.
-    ensures text { buffer.new.items ≡ buffer.old.items ++ told_fault word.now cause }
-    ensures len { vec_len buffer.new ≤ vec_len buffer.old + LINE_BYTES }
-    ensures room { vec_capacity buffer.old ≤ vec_capacity buffer.new }
+    ensures { Writes buffer.old buffer.new (told_fault word.now cause) LINE_BYTES }
 {
     put(buffer, word);
     write_whole(buffer, offset_of(cause));
@@ -70,9 +67,7 @@ fn write_counts(buffer: &mut Vec<u8>, word: &[u8], before: u64, after: u64)
     requires spare { vec_len buffer.old + LINE_BYTES ≤ vec_capacity buffer.old }
 
     // What stands in the buffer then, and its room.
-    ensures text { buffer.new.items ≡ buffer.old.items ++ told_counts word.now before after }
-    ensures len { vec_len buffer.new ≤ vec_len buffer.old + LINE_BYTES }
-    ensures room { vec_capacity buffer.old ≤ vec_capacity buffer.new }
+    ensures { Writes buffer.old buffer.new (told_counts word.now before after) LINE_BYTES }
 {
     put(buffer, word);
     write_whole(buffer, before);
@@ -87,9 +82,7 @@ pub fn write_opening_fault(buffer: &mut Vec<u8>, cause: DeskCause)
     requires spare { vec_len buffer.old + LINE_BYTES ≤ vec_capacity buffer.old }
 
     // What stands in the buffer then, and its room.
-    ensures text { buffer.new.items ≡ buffer.old.items ++ opening_text cause }
-    ensures len { vec_len buffer.new ≤ vec_len buffer.old + LINE_BYTES }
-    ensures room { vec_capacity buffer.old ≤ vec_capacity buffer.new }
+    ensures { Writes buffer.old buffer.new (opening_text cause) LINE_BYTES }
 {
     match cause {
         DeskCause::Memory => put(buffer, b"fault memory\n"),

@@ -1,6 +1,7 @@
 //! The lines that tell of faults.
 ghost use Rattle.std.specs.Prelude.{◌≡◌, ◌+◌, ◌≤◌, ◌++◌, codes, decimal, length, vec_len, vec_capacity};
 ghost use Rattle.setoff_model.specs.declared.limits.TheConstants.{LINE_BYTES};
+ghost use Rattle.setoff_model.specs.Writing.{Writes};
 ghost use Rattle.printed_text.specs.Texts.{memory_line, full_line, room_text, cause_text, bad_line_text};
 ghost use Rattle.printed_text.specs.Texts.{row_cause_text, bad_row_text, statement_cause_text, bad_statement_text};
 
@@ -12,9 +13,7 @@ use statement_text::StatementCause;
 /// Writes the line `! line N memory` of a line for which there was no memory.
 pub fn write_memory_line(buffer: &mut Vec<u8>, line: u64)
     requires { vec_len buffer.old + LINE_BYTES ≤ vec_capacity buffer.old }
-    ensures text { buffer.new.items ≡ buffer.old.items ++ memory_line line }
-    ensures len { vec_len buffer.new ≤ vec_len buffer.old + LINE_BYTES }
-    ensures room { vec_capacity buffer.old ≤ vec_capacity buffer.new }
+    ensures { Writes buffer.old buffer.new (memory_line line) LINE_BYTES }
 {
     put(buffer, b"! line ");
     write_whole(buffer, line);
@@ -35,9 +34,7 @@ fn full_words(what: Room) -> &'static [u8]
 /// Writes the line `! line N full WHAT NEEDED LIMIT` of a line whose act was full.
 pub fn write_full_line(buffer: &mut Vec<u8>, line: u64, what: Room, needed: u64, limit: u64)
     requires { vec_len buffer.old + LINE_BYTES ≤ vec_capacity buffer.old }
-    ensures text { buffer.new.items ≡ buffer.old.items ++ full_line line what needed limit }
-    ensures len { vec_len buffer.new ≤ vec_len buffer.old + LINE_BYTES }
-    ensures room { vec_capacity buffer.old ≤ vec_capacity buffer.new }
+    ensures { Writes buffer.old buffer.new (full_line line what needed limit) LINE_BYTES }
 {
     put(buffer, b"! line ");
     write_whole(buffer, line);
@@ -52,9 +49,7 @@ fn write_place(buffer: &mut Vec<u8>, words: &[u8], number: u64)
     requires words { length words.now ≤ 14 }
 
     // What stands in the buffer then, and its room.
-    ensures text { buffer.new.items ≡ buffer.old.items ++ (words.now ++ decimal number ++ codes " ") }
-    ensures len { vec_len buffer.new ≤ vec_len buffer.old + 40 }
-    ensures room { vec_capacity buffer.old ≤ vec_capacity buffer.new }
+    ensures { Writes buffer.old buffer.new (words.now ++ decimal number ++ codes " ") 40 }
 {
     put(buffer, words);
     write_whole(buffer, number);
@@ -64,9 +59,7 @@ fn write_place(buffer: &mut Vec<u8>, words: &[u8], number: u64)
 // The number of a field.
 fn write_field(buffer: &mut Vec<u8>, field: u32)
     requires { vec_len buffer.old + 70 ≤ vec_capacity buffer.old }
-    ensures text { buffer.new.items ≡ buffer.old.items ++ (codes "field " ++ decimal field) }
-    ensures len { vec_len buffer.new ≤ vec_len buffer.old + 30 }
-    ensures room { vec_capacity buffer.old ≤ vec_capacity buffer.new }
+    ensures { Writes buffer.old buffer.new (codes "field " ++ decimal field) 30 }
 {
     put(buffer, b"field ");
     write_whole(buffer, u64::from(field));
@@ -74,9 +67,7 @@ fn write_field(buffer: &mut Vec<u8>, field: u32)
 
 fn write_cause(buffer: &mut Vec<u8>, cause: LineCause)
     requires { vec_len buffer.old + 70 ≤ vec_capacity buffer.old }
-    ensures text { buffer.new.items ≡ buffer.old.items ++ cause_text cause }
-    ensures len { vec_len buffer.new ≤ vec_len buffer.old + 30 }
-    ensures room { vec_capacity buffer.old ≤ vec_capacity buffer.new }
+    ensures { Writes buffer.old buffer.new (cause_text cause) 30 }
 {
     match cause {
         LineCause::Lane => put(buffer, b"lane"),
@@ -91,9 +82,7 @@ fn write_cause(buffer: &mut Vec<u8>, cause: LineCause)
 /// gives room for `LINE_BYTES` behind what the buffer has, and so there is no error.
 pub fn write_bad_line(buffer: &mut Vec<u8>, line: u64, cause: LineCause)
     requires { vec_len buffer.old + LINE_BYTES ≤ vec_capacity buffer.old }
-    ensures text { buffer.new.items ≡ buffer.old.items ++ bad_line_text line cause }
-    ensures len { vec_len buffer.new ≤ vec_len buffer.old + LINE_BYTES }
-    ensures room { vec_capacity buffer.old ≤ vec_capacity buffer.new }
+    ensures { Writes buffer.old buffer.new (bad_line_text line cause) LINE_BYTES }
 {
     write_place(buffer, b"fault line ", line);
     write_cause(buffer, cause);
@@ -102,9 +91,7 @@ pub fn write_bad_line(buffer: &mut Vec<u8>, line: u64, cause: LineCause)
 
 fn write_row_cause(buffer: &mut Vec<u8>, cause: RowCause)
     requires { vec_len buffer.old + 70 ≤ vec_capacity buffer.old }
-    ensures text { buffer.new.items ≡ buffer.old.items ++ row_cause_text cause }
-    ensures len { vec_len buffer.new ≤ vec_len buffer.old + 30 }
-    ensures room { vec_capacity buffer.old ≤ vec_capacity buffer.new }
+    ensures { Writes buffer.old buffer.new (row_cause_text cause) 30 }
 {
     match cause {
         RowCause::Header => put(buffer, b"header"),
@@ -117,9 +104,7 @@ fn write_row_cause(buffer: &mut Vec<u8>, cause: RowCause)
 /// first. The room is as for `write_bad_line`.
 pub fn write_bad_row(buffer: &mut Vec<u8>, row: u64, cause: RowCause)
     requires { vec_len buffer.old + LINE_BYTES ≤ vec_capacity buffer.old }
-    ensures text { buffer.new.items ≡ buffer.old.items ++ bad_row_text row cause }
-    ensures len { vec_len buffer.new ≤ vec_len buffer.old + LINE_BYTES }
-    ensures room { vec_capacity buffer.old ≤ vec_capacity buffer.new }
+    ensures { Writes buffer.old buffer.new (bad_row_text row cause) LINE_BYTES }
 {
     write_place(buffer, b"fault row ", row);
     write_row_cause(buffer, cause);
@@ -147,9 +132,7 @@ fn statement_cause(cause: StatementCause) -> &'static [u8]
 /// `write_bad_line`.
 pub fn write_bad_statement(buffer: &mut Vec<u8>, line: u64, cause: StatementCause)
     requires { vec_len buffer.old + LINE_BYTES ≤ vec_capacity buffer.old }
-    ensures text { buffer.new.items ≡ buffer.old.items ++ bad_statement_text line cause }
-    ensures len { vec_len buffer.new ≤ vec_len buffer.old + LINE_BYTES }
-    ensures room { vec_capacity buffer.old ≤ vec_capacity buffer.new }
+    ensures { Writes buffer.old buffer.new (bad_statement_text line cause) LINE_BYTES }
 {
     write_place(buffer, b"fault line ", line);
     put(buffer, statement_cause(cause));

@@ -3,6 +3,7 @@ ghost use Rattle.std.specs.Prelude.{◌≡◌, ◌+◌, ◌≤◌, ◌<◌, ◌+
 ghost use Rattle.printed_text.specs.Texts.{verdict_text, verdict_words, verdict_status, IsPlaced, creditor_at, invoice_at, firm_at};
 ghost use Rattle.setoff_model.specs.declared.limits.TheConstants.{LINE_BYTES};
 ghost use Rattle.setoff_model.specs.Texts.{cents_text};
+ghost use Rattle.setoff_model.specs.Writing.{Writes};
 
 use crate::exit_status::ExitStatus;
 use served_lines::Verdict;
@@ -39,9 +40,7 @@ fn write_named(buffer: &mut Vec<u8>, what: &[u8], name: &Name)
     requires spare { vec_len buffer.old + 60 ≤ vec_capacity buffer.old }
 
     // What stands in the buffer then, and its room.
-    ensures text { buffer.new.items ≡ buffer.old.items ++ (what.now ++ name.now) }
-    ensures len { vec_len buffer.new ≤ vec_len buffer.old + 60 }
-    ensures room { vec_capacity buffer.old ≤ vec_capacity buffer.new }
+    ensures { Writes buffer.old buffer.new (what.now ++ name.now) 60 }
 {
     put(buffer, what);
     put(buffer, name.bytes());
@@ -49,9 +48,7 @@ fn write_named(buffer: &mut Vec<u8>, what: &[u8], name: &Name)
 
 fn write_over_amount(buffer: &mut Vec<u8>, key: &Key)
     requires { vec_len buffer.old + 150 ≤ vec_capacity buffer.old }
-    ensures text { buffer.new.items ≡ buffer.old.items ++ (codes "no over-amount " ++ key.now.creditor ++ codes " " ++ key.now.invoice) }
-    ensures len { vec_len buffer.new ≤ vec_len buffer.old + 150 }
-    ensures room { vec_capacity buffer.old ≤ vec_capacity buffer.new }
+    ensures { Writes buffer.old buffer.new (codes "no over-amount " ++ key.now.creditor ++ codes " " ++ key.now.invoice) 150 }
 {
     write_named(buffer, b"no over-amount ", &key.creditor);
     write_named(buffer, b" ", &key.invoice);
@@ -62,9 +59,7 @@ fn write_named_cents(buffer: &mut Vec<u8>, what: &[u8], cents: u128)
     requires spare { vec_len buffer.old + 75 ≤ vec_capacity buffer.old }
 
     // What stands in the buffer then, and its room.
-    ensures text { buffer.new.items ≡ buffer.old.items ++ (what.now ++ cents_text cents) }
-    ensures len { vec_len buffer.new ≤ vec_len buffer.old + 75 }
-    ensures room { vec_capacity buffer.old ≤ vec_capacity buffer.new }
+    ensures { Writes buffer.old buffer.new (what.now ++ cents_text cents) 75 }
 {
     put(buffer, what);
     write_cents(buffer, cents);
@@ -72,10 +67,8 @@ fn write_named_cents(buffer: &mut Vec<u8>, what: &[u8], cents: u128)
 
 fn write_not_proved(buffer: &mut Vec<u8>, total: u64, bound: i128)
     requires { vec_len buffer.old + 150 ≤ vec_capacity buffer.old }
-    ensures text { buffer.new.items ≡ buffer.old.items
-        ++ (codes "no not-proved " ++ cents_text total ++ codes " " ++ cents_text (unsigned_abs bound)) }
-    ensures len { vec_len buffer.new ≤ vec_len buffer.old + 150 }
-    ensures room { vec_capacity buffer.old ≤ vec_capacity buffer.new }
+    ensures { Writes buffer.old buffer.new
+        (codes "no not-proved " ++ cents_text total ++ codes " " ++ cents_text (unsigned_abs bound)) 150 }
 {
     write_named_cents(buffer, b"no not-proved ", u128::from(total));
     write_named_cents(buffer, b" ", bound.unsigned_abs());
@@ -86,9 +79,7 @@ fn write_words(buffer: &mut Vec<u8>, cut: &Cut, verdict: Verdict)
     requires spare { vec_len buffer.old + 150 ≤ vec_capacity buffer.old }
 
     // What stands in the buffer then, and its room.
-    ensures text { buffer.new.items ≡ buffer.old.items ++ verdict_words cut.now verdict }
-    ensures len { vec_len buffer.new ≤ vec_len buffer.old + 150 }
-    ensures room { vec_capacity buffer.old ≤ vec_capacity buffer.new }
+    ensures { Writes buffer.old buffer.new (verdict_words cut.now verdict) 150 }
 {
     match verdict {
         Verdict::Greatest { total } => write_named_cents(buffer, b"yes ", u128::from(total)),
@@ -113,9 +104,7 @@ pub fn write_verdict(buffer: &mut Vec<u8>, cut: &Cut, verdict: Verdict)
     requires spare { vec_len buffer.old + LINE_BYTES ≤ vec_capacity buffer.old }
 
     // What stands in the buffer then, and its room.
-    ensures text { buffer.new.items ≡ buffer.old.items ++ verdict_text cut.now verdict }
-    ensures len { vec_len buffer.new ≤ vec_len buffer.old + LINE_BYTES }
-    ensures room { vec_capacity buffer.old ≤ vec_capacity buffer.new }
+    ensures { Writes buffer.old buffer.new (verdict_text cut.now verdict) LINE_BYTES }
 {
     write_words(buffer, cut, verdict);
     put(buffer, b"\n");

@@ -1,6 +1,7 @@
 //! Writing requests.
-ghost use Rattle.std.specs.Prelude.{◌≡◌, ◌+◌, ◌≤◌, ◌++◌, true, vec_len, vec_capacity};
+ghost use Rattle.std.specs.Prelude.{◌≡◌, ◌+◌, ◌≤◌, true, vec_len, vec_capacity};
 ghost use Rattle.setoff_model.specs.declared.limits.TheConstants.{LINE_BYTES};
+ghost use Rattle.setoff_model.specs.Writing.{Writes};
 ghost use Rattle.claim_history.specs.Acts.{is_request};
 ghost use Rattle.request_text.specs.Grammar.{request_line};
 ghost use Rattle.request_text.specs.Lanes.{IsLane};
@@ -13,9 +14,7 @@ use setoff_model::{Name, put, write_whole};
 /// room. It takes no memory.
 pub fn write_pool(buffer: &mut Vec<u8>, pool: &Name)
     requires spare { vec_len buffer.old + 18 ≤ vec_capacity buffer.old }
-    ensures text { buffer.new.items ≡ buffer.old.items ++ pool_text pool.now }
-    ensures len { vec_len buffer.new ≤ vec_len buffer.old + 18 }
-    ensures room { vec_capacity buffer.old ≤ vec_capacity buffer.new }
+    ensures { Writes buffer.old buffer.new (pool_text pool.now) 18 }
 {
     if !is_main(pool) {
         put(buffer, b"@");
@@ -30,9 +29,7 @@ pub fn write_request(buffer: &mut Vec<u8>, lane: u32, pool: &Name, act: &Act)
     requires lane { IsLane lane }
     requires valid { is_request act.now ≡ true }
     requires spare { vec_len buffer.old + LINE_BYTES ≤ vec_capacity buffer.old }
-    ensures text { buffer.new.items ≡ buffer.old.items ++ request_line lane pool.now act.now }
-    ensures len { vec_len buffer.new ≤ vec_len buffer.old + LINE_BYTES }
-    ensures room { vec_capacity buffer.old ≤ vec_capacity buffer.new }
+    ensures { Writes buffer.old buffer.new (request_line lane pool.now act.now) LINE_BYTES }
 {
     write_whole(buffer, u64::from(lane));
     put(buffer, b" ");

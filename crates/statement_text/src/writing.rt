@@ -6,6 +6,7 @@ ghost use Rattle.setoff_model.specs.declared.limits.TheConstants.{SUM_LIMIT, LIN
 ghost use Rattle.setoff_model.specs.declared.cut.CutClaim.{CutClaim};
 ghost use Rattle.setoff_model.specs.CutView.{WellFormed};
 ghost use Rattle.setoff_model.specs.Texts.{cents_text};
+ghost use Rattle.setoff_model.specs.Writing.{Writes};
 ghost use Rattle.statement_text.specs.Lines.{head_fields, party_fields, claim_fields};
 ghost use Rattle.statement_text.specs.Statements.{firm_at};
 
@@ -20,9 +21,7 @@ pub fn write_head(buffer: &mut Vec<u8>, round: u32, kind: Kind)
     requires spare { vec_len buffer.old + LINE_BYTES ≤ vec_capacity buffer.old }
 
     // The line is at the end, and no room is lost.
-    ensures text { buffer.new.items ≡ buffer.old.items ++ line_of (head_fields round kind) ++ codes "\n" }
-    ensures len { vec_len buffer.new ≤ vec_len buffer.old + LINE_BYTES }
-    ensures room { vec_capacity buffer.old ≤ vec_capacity buffer.new }
+    ensures { Writes buffer.old buffer.new (line_of (head_fields round kind) ++ codes "\n") LINE_BYTES }
 {
     put(buffer, b"ROUND ");
     write_whole(buffer, u64::from(round));
@@ -46,9 +45,7 @@ pub fn write_party(buffer: &mut Vec<u8>, party: &Party, price: i64)
     requires spare { vec_len buffer.old + LINE_BYTES ≤ vec_capacity buffer.old }
 
     // The line is at the end, and no room is lost.
-    ensures text { buffer.new.items ≡ buffer.old.items ++ line_of (party_fields party.now price) ++ codes "\n" }
-    ensures len { vec_len buffer.new ≤ vec_len buffer.old + LINE_BYTES }
-    ensures room { vec_capacity buffer.old ≤ vec_capacity buffer.new }
+    ensures { Writes buffer.old buffer.new (line_of (party_fields party.now price) ++ codes "\n") LINE_BYTES }
 {
     put(buffer, b"PARTY ");
     put(buffer, party.firm.bytes());
@@ -84,9 +81,7 @@ pub fn write_claim(buffer: &mut Vec<u8>, cut: &Cut, place: u32, discharge: u64)
 /// Writes the line `END`, with its line feed, into a buffer that has `LINE_BYTES` spare.
 pub fn write_end(buffer: &mut Vec<u8>)
     requires { vec_len buffer.old + LINE_BYTES ≤ vec_capacity buffer.old }
-    ensures text { buffer.new.items ≡ buffer.old.items ++ codes "END\n" }
-    ensures len { vec_len buffer.new ≤ vec_len buffer.old + LINE_BYTES }
-    ensures room { vec_capacity buffer.old ≤ vec_capacity buffer.new }
+    ensures { Writes buffer.old buffer.new (codes "END\n") LINE_BYTES }
 {
     put(buffer, b"END\n");
 }
@@ -120,9 +115,7 @@ fn put_claim(buffer: &mut Vec<u8>, key: &Key, debtor: &Name, amount: u64, discha
     requires spare { vec_len buffer.old + LINE_BYTES ≤ vec_capacity buffer.old }
 
     // They are at the end, and no room is lost.
-    ensures text { buffer.new.items ≡ buffer.old.items ++ line_of (claim_fields key.now debtor.now amount discharge) }
-    ensures len { vec_len buffer.new ≤ vec_len buffer.old + 100 }
-    ensures room { vec_capacity buffer.old ≤ vec_capacity buffer.new }
+    ensures { Writes buffer.old buffer.new (line_of (claim_fields key.now debtor.now amount discharge)) 100 }
 {
     put(buffer, b"CLAIM ");
     put_names(buffer, key, debtor);
@@ -133,9 +126,7 @@ fn put_claim(buffer: &mut Vec<u8>, key: &Key, debtor: &Name, amount: u64, discha
 // Creditor, invoice and debtor.
 fn put_names(buffer: &mut Vec<u8>, key: &Key, debtor: &Name)
     requires spare { vec_len buffer.old + 50 ≤ vec_capacity buffer.old }
-    ensures text { buffer.new.items ≡ buffer.old.items ++ line_of (key.now.creditor ∷ key.now.invoice ∷ debtor.now ∷ []) }
-    ensures len { vec_len buffer.new ≤ vec_len buffer.old + 50 }
-    ensures room { vec_capacity buffer.old ≤ vec_capacity buffer.new }
+    ensures { Writes buffer.old buffer.new (line_of (key.now.creditor ∷ key.now.invoice ∷ debtor.now ∷ [])) 50 }
 {
     put(buffer, key.creditor.bytes());
     put(buffer, b" ");
@@ -152,9 +143,7 @@ fn put_sums(buffer: &mut Vec<u8>, first: u64, second: u64)
     requires spare { vec_len buffer.old + 80 ≤ vec_capacity buffer.old }
 
     // They are at the end, and no room is lost.
-    ensures text { buffer.new.items ≡ buffer.old.items ++ line_of (cents_text first ∷ cents_text second ∷ []) }
-    ensures len { vec_len buffer.new ≤ vec_len buffer.old + 39 }
-    ensures room { vec_capacity buffer.old ≤ vec_capacity buffer.new }
+    ensures { Writes buffer.old buffer.new (line_of (cents_text first ∷ cents_text second ∷ [])) 39 }
 {
     write_sum(buffer, first);
     put(buffer, b" ");

@@ -1,5 +1,6 @@
 //! The line of a trial.
 ghost use Rattle.std.specs.Prelude.{◌≡◌, ◌+◌, ◌≤◌, ◌++◌, decimal, length, IfOk, vec_len, vec_capacity};
+ghost use Rattle.setoff_model.specs.Writing.{Writes};
 ghost use Rattle.trial_round.specs.Trial.{trial_line};
 
 use crate::round::Sums;
@@ -13,9 +14,7 @@ fn write_count(buffer: &mut Vec<u8>, words: &[u8], number: u32)
     requires spare { vec_len buffer.old + 80 ≤ vec_capacity buffer.old }
 
     // What stands in the buffer then, and its room.
-    ensures text { buffer.new.items ≡ buffer.old.items ++ words.now ++ decimal number }
-    ensures len { vec_len buffer.new ≤ vec_len buffer.old + 40 }
-    ensures room { vec_capacity buffer.old ≤ vec_capacity buffer.new }
+    ensures { Writes buffer.old buffer.new (words.now ++ decimal number) 40 }
 {
     put(buffer, words);
     write_whole(buffer, u64::from(number));

@@ -1,4 +1,4 @@
-use Rattle.std.proofs.Common.{◌≡◌, ℕ, List, ◌++◌, ap, sym, ◌∙◌, append_assoc, FitsSigned}
+use Rattle.std.proofs.Common.{◌≡◌, ℕ, List, ◌++◌, ap, sym, ◌∙◌, append_assoc, FitsSigned, arith, common_steps}
 use mir.Syntax.{w128}
 use Rattle.std.specs.Prelude.{codes, unsigned_abs}
 use Rattle.std.proofs.lemmas.Int.{to_z-of_z}
@@ -11,9 +11,13 @@ regroup a t b u w x n p q r =
     p ∙ ap (λ (y : List ℕ). y ++ (b ++ w)) q ∙ ap (λ (y : List ℕ). (a ++ t) ++ (b ++ y)) r
     ∙ append_assoc a t (b ++ u) ∙ ap (λ (y : List ℕ). a ++ y) (sym (append_assoc t b u))
 
-pub returns-clause-text : goal.returns-clause-text
-returns-clause-text c =
-    let fits : FitsSigned w128 c.args.bound = c.ranges.bound in
-    let size : c.unsigned_abs.result ≡ unsigned_abs c.args.bound = simp to_z-of_z at c.unsigned_abs.ensures.value in
-    regroup c.args.buffer.now.items (codes "no not-proved " ++ cents_text c.args.total) (codes " ") (cents_text (unsigned_abs c.args.bound)) (cents_text c.unsigned_abs.result) c.write_named_cents.new.buffer.items c.write_named_cents-2.new.buffer.items
-    c.write_named_cents-2.ensures.text (c.write_named_cents.ensures.text ∙ ap (λ (n : ℕ). c.args.buffer.now.items ++ (codes "no not-proved " ++ cents_text n)) c.from.ensures) (ap cents_text size)
+pub returns : goal.returns
+returns c = record {
+    text =
+        let fits : FitsSigned w128 c.args.bound = c.ranges.bound in
+        let size : c.unsigned_abs.result ≡ unsigned_abs c.args.bound = simp to_z-of_z at c.unsigned_abs.ensures.value in
+        regroup c.args.buffer.now.items (codes "no not-proved " ++ cents_text c.args.total) (codes " ") (cents_text (unsigned_abs c.args.bound)) (cents_text c.unsigned_abs.result) c.write_named_cents.new.buffer.items c.write_named_cents-2.new.buffer.items
+        c.write_named_cents-2.ensures.text (c.write_named_cents.ensures.text ∙ ap (λ (n : ℕ). c.args.buffer.now.items ++ (codes "no not-proved " ++ cents_text n)) c.from.ensures) (ap cents_text size);
+    len = grind (arith, common_steps);
+    room = grind (arith, common_steps)
+  }

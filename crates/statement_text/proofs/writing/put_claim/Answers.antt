@@ -1,5 +1,9 @@
-use Rattle.std.proofs.Common.{append_assoc}
+use Rattle.std.proofs.Common.{append_assoc, arith, common_steps}
 use Rattle.statement_text.proofs.writing.put_claim.Goals as goal
 
-pub returns-clause-text : goal.returns-clause-text
-returns-clause-text c = rw (c.put_sums.ensures.text, c.put-2.ensures.text, c.put_names.ensures.text, c.put.ensures.text) (simp append_assoc)
+pub returns : goal.returns
+returns c = record {
+    text = rw (c.put_sums.ensures.text, c.put-2.ensures.text, c.put_names.ensures.text, c.put.ensures.text) (simp append_assoc);
+    len = grind (arith, common_steps);
+    room = grind (arith, common_steps)
+  }

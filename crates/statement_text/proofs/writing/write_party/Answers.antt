@@ -1,12 +1,16 @@
 use mir.Syntax.{w128}
-use Rattle.std.proofs.Common.{append_assoc, arith}
+use Rattle.std.proofs.Common.{append_assoc, arith, common_steps}
 use Rattle.std.proofs.lemmas.Int.{to_z-of_z, fits_signed_from_abs}
 use Rattle.statement_text.proofs.writing.write_party.Goals as goal
 
-pub returns-clause-text : goal.returns-clause-text
-returns-clause-text c =
-    let fits = c.ranges.price in
-    let wide = fits_signed_from_abs w128 c.args.price (omega (arith, c.requires.price)) in
-    let price = simp to_z-of_z at c.from.ensures in
-    let number = simp to_z-of_z at (rw price at c.write_number.ensures.text) in
-    rw (c.put-5.ensures.text, number, c.put-4.ensures.text, c.put_sums.ensures.text, c.put-3.ensures.text, c.put-2.ensures.text, c.bytes.ensures.bytes, c.put.ensures.text) (simp append_assoc)
+pub returns : goal.returns
+returns c = record {
+    text =
+        let fits = c.ranges.price in
+        let wide = fits_signed_from_abs w128 c.args.price (omega (arith, c.requires.price)) in
+        let price = simp to_z-of_z at c.from.ensures in
+        let number = simp to_z-of_z at (rw price at c.write_number.ensures.written.text) in
+        rw (c.put-5.ensures.text, number, c.put-4.ensures.text, c.put_sums.ensures.text, c.put-3.ensures.text, c.put-2.ensures.text, c.bytes.ensures.bytes, c.put.ensures.text) (simp append_assoc);
+    len = grind (arith, common_steps);
+    room = grind (arith, common_steps)
+  }
