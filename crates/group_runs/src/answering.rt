@@ -1,5 +1,5 @@
 //! The lines of a group, answered in order.
-ghost use Rattle.std.specs.Prelude.{◌≡◌, ◌+◌, ◌≤◌, [], All, length, vec_len, vec_capacity};
+ghost use Rattle.std.specs.Prelude.{◌≡◌, ◌≤◌, [], All, length, vec_capacity};
 ghost use Rattle.group_runs.specs.Lines.{CanBeLoaded};
 ghost use Rattle.group_runs.specs.Runs.{HasAnswered, HasTakenLine, end_of_error};
 
@@ -64,7 +64,7 @@ pub(crate) fn answer_lines<D: Disk>(
 {
     for request in requests {
         let end = answer_line(loader, request);
-        let _ = answers.push(Answer {
+        answers.push_reserved(Answer {
             line: request.line,
             end,
         });

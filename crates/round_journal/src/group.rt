@@ -4,6 +4,7 @@ ghost use Rattle.act_bodies.specs.claim_history.specs.declared.record_bytes.TheC
 ghost use Rattle.round_journal.specs.Kept.{IsGroup, IsSomeGroup};
 
 use act_bodies::record_bytes::RECORD_HEAD;
+use setoff_model::put;
 use std::alloc::{AllocError, Global};
 use std::marker::Model;
 
@@ -82,7 +83,7 @@ pub(crate) fn push_record(bytes: &mut Vec<u8>, body: &[u8])
     if len > 0 {
         bytes[len - 1] = 1;
     }
-    let _ = bytes.extend_from_slice(&(body.len() as u32).to_be_bytes());
-    let _ = bytes.extend_from_slice(body);
-    let _ = bytes.push(0);
+    put(bytes, &(body.len() as u32).to_be_bytes());
+    put(bytes, body);
+    bytes.push_reserved(0);
 }

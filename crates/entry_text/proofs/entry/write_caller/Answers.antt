@@ -1,4 +1,5 @@
-use Rattle.std.proofs.Common.{◌++◌, ◌∙◌, ℕ, ap, arith, decimal, length, length-append, common_steps}
+use Rattle.std.proofs.Common.{◌++◌, ◌∙◌, ℕ, ap, arith, decimal, length, length-append}
+use Rattle.std.proofs.lemmas.Grind.{common_steps}
 use Rattle.std.proofs.lemmas.Fmt.{length-decimal-le}
 use Rattle.entry_text.proofs.entry.write_caller.Goals as goal
 

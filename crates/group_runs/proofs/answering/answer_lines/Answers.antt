@@ -12,10 +12,10 @@ loop-request-preserved g c =
     let request = c.request-item.result in
     let item : take (i + 1) requests ≡ take i requests ++ request ∷ [] =
     take_more requests i request c.loop-request-test.true ∙ ap (λ (r : Request). take i requests ++ r ∷ []) (sym c.request-item.is) in
-    let pushed : c.push.new.self.items ≡ c.loop-request.answers.items ++ record { line = request.line; end = c.answer_line-end.result } ∷ [] = search rules in
+    let pushed : c.push_reserved.new.self.items ≡ c.loop-request.answers.items ++ record { line = request.line; end = c.answer_line-end.result } ∷ [] = search rules in
     record {
-      answered = subst (λ (rs : List Request). HasAnswered c.args.loader.now c.answer_line-end.new.loader rs c.push.new.self.items) (sym item)
-          (answered_more c.args.loader.now c.loop-request.loader c.answer_line-end.new.loader (take i requests) c.loop-request.answers.items c.push.new.self.items request c.answer_line-end.result
+      answered = subst (λ (rs : List Request). HasAnswered c.args.loader.now c.answer_line-end.new.loader rs c.push_reserved.new.self.items) (sym item)
+          (answered_more c.args.loader.now c.loop-request.loader c.answer_line-end.new.loader (take i requests) c.loop-request.answers.items c.push_reserved.new.self.items request c.answer_line-end.result
           c.loop-request.invariant.answered c.answer_line-end.ensures.taken pushed);
       len = search rules;
       room = search rules;

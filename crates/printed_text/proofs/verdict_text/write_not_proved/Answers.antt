@@ -1,4 +1,5 @@
-use Rattle.std.proofs.Common.{◌≡◌, ℕ, List, ◌++◌, ap, sym, ◌∙◌, append_assoc, FitsSigned, arith, common_steps}
+use Rattle.std.proofs.Common.{◌≡◌, ℕ, List, ◌++◌, ap, sym, ◌∙◌, append_assoc, FitsSigned, arith}
+use Rattle.std.proofs.lemmas.Grind.{common_steps}
 use mir.Syntax.{w128}
 use Rattle.std.specs.Prelude.{codes, unsigned_abs}
 use Rattle.std.proofs.lemmas.Int.{to_z-of_z}

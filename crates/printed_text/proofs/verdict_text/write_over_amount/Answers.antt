@@ -1,4 +1,5 @@
-use Rattle.std.proofs.Common.{append_assoc, arith, common_steps}
+use Rattle.std.proofs.Common.{append_assoc, arith}
+use Rattle.std.proofs.lemmas.Grind.{common_steps}
 use Rattle.printed_text.proofs.verdict_text.write_over_amount.Goals as goal
 
 pub returns : goal.returns

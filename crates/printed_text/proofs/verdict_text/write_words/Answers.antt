@@ -1,4 +1,5 @@
-use Rattle.std.proofs.Common.{List, ℕ, ◌++◌, ap, sym, ◌∙◌, arith, common_steps}
+use Rattle.std.proofs.Common.{List, ℕ, ◌++◌, ap, sym, ◌∙◌, arith}
+use Rattle.std.proofs.lemmas.Grind.{common_steps}
 use Rattle.std.specs.Prelude.{codes}
 use Rattle.served_lines.specs.setoff_checker.specs.declared.verdict.Verdict.{Verdict}
 use Rattle.printed_text.specs.Texts.{verdict_words}

@@ -1,4 +1,5 @@
-use Rattle.std.proofs.Common.{ℕ, ◌++◌, ◌∙◌, ap, decimal, arith, common_steps}
+use Rattle.std.proofs.Common.{ℕ, ◌++◌, ◌∙◌, ap, decimal, arith}
+use Rattle.std.proofs.lemmas.Grind.{common_steps}
 use Rattle.request_text.proofs.ReadBack.{line_written}
 use Rattle.request_text.proofs.writing.write_request.Goals as goal
 

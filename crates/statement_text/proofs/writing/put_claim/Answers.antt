@@ -1,4 +1,5 @@
-use Rattle.std.proofs.Common.{append_assoc, arith, common_steps}
+use Rattle.std.proofs.Common.{append_assoc, arith}
+use Rattle.std.proofs.lemmas.Grind.{common_steps}
 use Rattle.statement_text.proofs.writing.put_claim.Goals as goal
 
 pub returns : goal.returns

@@ -1,5 +1,6 @@
 use mir.Syntax.{w128}
-use Rattle.std.proofs.Common.{append_assoc, arith, common_steps}
+use Rattle.std.proofs.Common.{append_assoc, arith}
+use Rattle.std.proofs.lemmas.Grind.{common_steps}
 use Rattle.std.proofs.lemmas.Int.{to_z-of_z, fits_signed_from_abs}
 use Rattle.statement_text.proofs.writing.write_party.Goals as goal
 
