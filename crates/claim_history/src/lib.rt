@@ -32,7 +32,7 @@ mod laws;
 pub mod record_bytes;
 
 pub use act::{Act, each_act_has_its_own_text};
-pub use act_text::write_act;
+pub use act_text::{ACT_BYTES, ACT_SPARE, write_act};
 pub use call::{Call, PoolEntry, is_main, main_pool_name, pool_bytes};
 pub use day::{Day, days_are_civil_dates};
 pub use entry::{Entry, Reply, Why, accepted, tells_of_device};

@@ -7,9 +7,16 @@ ghost use Rattle.request_text.specs.claim_history.specs.Acts.{is_valid};
 ghost use Rattle.request_text.specs.claim_history.specs.Laws.{IsReplyInRange};
 ghost use Rattle.request_text.specs.claim_history.specs.Pools.{member_of};
 ghost use Rattle.entry_text.specs.Entries.{why_name, why_numbers, why_text, spaced, position_text, reply_text, entry_line, entry_text};
+ghost use Rattle.entry_text.specs.declared.entry.TheConstants.{ENTRY_BYTES, REPLY_BYTES};
 
 use request_text::{Entry, PoolEntry, Position, Reply, Why, write_act, write_pool};
 use setoff_model::{Name, put, write_sum, write_whole};
+
+/// The bytes that the text of a reply takes at most.
+pub const REPLY_BYTES: usize = 87;
+
+// The bytes that an act, ` = ` and its reply take at most.
+const ENTRY_BYTES: usize = 170;
 
 // The number and name of a refusal.
 fn name_of(why: Why) -> &'static [u8]
@@ -67,8 +74,8 @@ fn write_position(buffer: &mut Vec<u8>, position: &Position)
     requires balance { unsigned_abs position.now.balance < SUM_LIMIT }
     requires receivable { position.now.receivable < SUM_LIMIT }
     requires payable { position.now.payable < SUM_LIMIT }
-    requires spare { vec_len buffer.old + 87 ≤ vec_capacity buffer.old }
-    ensures { Writes buffer.old buffer.new (position_text position.now) 87 }
+    requires spare { vec_len buffer.old + REPLY_BYTES ≤ vec_capacity buffer.old }
+    ensures { Writes buffer.old buffer.new (position_text position.now) REPLY_BYTES }
 {
     put(buffer, b"balance ");
     write_balance(buffer, position.balance);
@@ -126,14 +133,14 @@ fn write_refusal(buffer: &mut Vec<u8>, why: Why)
     write_numbers(buffer, why);
 }
 
-/// Writes the text of a reply, which takes at most 87 bytes. The caller gives 87 bytes of room behind what the buffer
-/// has, and so there is no error.
+/// Writes the text of a reply: at most `REPLY_BYTES`. The caller gives as many bytes of room behind what the buffer has, and so
+/// there is no error.
 ///
 /// The amounts of a position, and the total of a publication, are below 10^18 cents in size.
 pub fn write_reply(buffer: &mut Vec<u8>, reply: &Reply)
     requires range { IsReplyInRange reply.now }
-    requires spare { vec_len buffer.old + 87 ≤ vec_capacity buffer.old }
-    ensures { Writes buffer.old buffer.new (reply_text reply.now) 87 }
+    requires spare { vec_len buffer.old + REPLY_BYTES ≤ vec_capacity buffer.old }
+    ensures { Writes buffer.old buffer.new (reply_text reply.now) REPLY_BYTES }
 {
     match reply {
         Reply::Done => put(buffer, b"ok"),
@@ -158,8 +165,8 @@ fn write_caller(buffer: &mut Vec<u8>, caller: u32)
 fn write_entry(buffer: &mut Vec<u8>, entry: &Entry)
     requires valid { is_valid entry.now.act ≡ true }
     requires range { IsReplyInRange entry.now.reply }
-    requires spare { vec_len buffer.old + 170 ≤ vec_capacity buffer.old }
-    ensures { Writes buffer.old buffer.new (entry_text entry.now) 170 }
+    requires spare { vec_len buffer.old + ENTRY_BYTES ≤ vec_capacity buffer.old }
+    ensures { Writes buffer.old buffer.new (entry_text entry.now) ENTRY_BYTES }
 {
     write_act(buffer, &entry.act);
     put(buffer, b" = ");

@@ -8,4 +8,4 @@
 
 mod entry;
 
-pub use entry::{write_member, write_pool_entry, write_reply};
+pub use entry::{REPLY_BYTES, write_member, write_pool_entry, write_reply};

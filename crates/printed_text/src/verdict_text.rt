@@ -4,10 +4,14 @@ ghost use Rattle.printed_text.specs.Texts.{verdict_text, verdict_words, verdict_
 ghost use Rattle.setoff_model.specs.declared.limits.TheConstants.{LINE_BYTES};
 ghost use Rattle.setoff_model.specs.Texts.{cents_text};
 ghost use Rattle.setoff_model.specs.Writing.{Writes};
+ghost use Rattle.printed_text.specs.declared.verdict_text.TheConstants.{WORDS_BYTES};
 
 use crate::exit_status::ExitStatus;
 use served_lines::Verdict;
 use setoff_model::{Cut, Key, Name, put, write_cents};
+
+// The bytes that the words of a verdict take at most.
+const WORDS_BYTES: usize = 150;
 
 /// `Done` where the set-off was found greatest, else `No`.
 pub fn status_of_verdict(verdict: Verdict) -> ExitStatus
@@ -47,8 +51,8 @@ fn write_named(buffer: &mut Vec<u8>, what: &[u8], name: &Name)
 }
 
 fn write_over_amount(buffer: &mut Vec<u8>, key: &Key)
-    requires { vec_len buffer.old + 150 ≤ vec_capacity buffer.old }
-    ensures { Writes buffer.old buffer.new (codes "no over-amount " ++ key.now.creditor ++ codes " " ++ key.now.invoice) 150 }
+    requires { vec_len buffer.old + WORDS_BYTES ≤ vec_capacity buffer.old }
+    ensures { Writes buffer.old buffer.new (codes "no over-amount " ++ key.now.creditor ++ codes " " ++ key.now.invoice) WORDS_BYTES }
 {
     write_named(buffer, b"no over-amount ", &key.creditor);
     write_named(buffer, b" ", &key.invoice);
@@ -66,9 +70,9 @@ fn write_named_cents(buffer: &mut Vec<u8>, what: &[u8], cents: u128)
 }
 
 fn write_not_proved(buffer: &mut Vec<u8>, total: u64, bound: i128)
-    requires { vec_len buffer.old + 150 ≤ vec_capacity buffer.old }
+    requires { vec_len buffer.old + WORDS_BYTES ≤ vec_capacity buffer.old }
     ensures { Writes buffer.old buffer.new
-        (codes "no not-proved " ++ cents_text total ++ codes " " ++ cents_text (unsigned_abs bound)) 150 }
+        (codes "no not-proved " ++ cents_text total ++ codes " " ++ cents_text (unsigned_abs bound)) WORDS_BYTES }
 {
     write_named_cents(buffer, b"no not-proved ", u128::from(total));
     write_named_cents(buffer, b" ", bound.unsigned_abs());
@@ -76,10 +80,10 @@ fn write_not_proved(buffer: &mut Vec<u8>, total: u64, bound: i128)
 
 fn write_words(buffer: &mut Vec<u8>, cut: &Cut, verdict: Verdict)
     requires placed { IsPlaced cut.now verdict }
-    requires spare { vec_len buffer.old + 150 ≤ vec_capacity buffer.old }
+    requires spare { vec_len buffer.old + WORDS_BYTES ≤ vec_capacity buffer.old }
 
     // What stands in the buffer then, and its room.
-    ensures { Writes buffer.old buffer.new (verdict_words cut.now verdict) 150 }
+    ensures { Writes buffer.old buffer.new (verdict_words cut.now verdict) WORDS_BYTES }
 {
     match verdict {
         Verdict::Greatest { total } => write_named_cents(buffer, b"yes ", u128::from(total)),

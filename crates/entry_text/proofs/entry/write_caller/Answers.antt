@@ -5,13 +5,13 @@ use Rattle.entry_text.proofs.entry.write_caller.Goals as goal
 
 pub returns : goal.returns
 returns c = record {
-    text = grind (arith, common_steps);
-    len =
-        omega (
-          arith,
-          ap length (c.write_whole.ensures.text ∙ ap (λ (n : ℕ). c.args.buffer.now.items ++ decimal n) c.from.ensures),
-          length-append c.args.buffer.now.items (decimal c.args.caller),
-          length-decimal-le 10 c.args.caller (omega arith) (omega (arith, c.ranges.caller.fits)) (omega (arith, c.ranges.caller.fits)),
-        );
-    room = grind (arith, common_steps)
-  }
+  text = grind (arith, common_steps);
+  len =
+      omega (
+        arith,
+        ap length (c.write_whole.ensures.text ∙ ap (λ (n : ℕ). c.args.buffer.now.items ++ decimal n) c.from.ensures),
+        length-append c.args.buffer.now.items (decimal c.args.caller),
+        length-decimal-le 10 c.args.caller (omega arith) (omega (arith, c.ranges.caller.fits)) (omega (arith, c.ranges.caller.fits)),
+      );
+  room = grind (arith, common_steps);
+}

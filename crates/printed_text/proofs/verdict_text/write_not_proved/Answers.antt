@@ -14,11 +14,11 @@ regroup a t b u w x n p q r =
 
 pub returns : goal.returns
 returns c = record {
-    text =
-        let fits : FitsSigned w128 c.args.bound = c.ranges.bound in
-        let size : c.unsigned_abs.result ≡ unsigned_abs c.args.bound = simp to_z-of_z at c.unsigned_abs.ensures.value in
-        regroup c.args.buffer.now.items (codes "no not-proved " ++ cents_text c.args.total) (codes " ") (cents_text (unsigned_abs c.args.bound)) (cents_text c.unsigned_abs.result) c.write_named_cents.new.buffer.items c.write_named_cents-2.new.buffer.items
-        c.write_named_cents-2.ensures.text (c.write_named_cents.ensures.text ∙ ap (λ (n : ℕ). c.args.buffer.now.items ++ (codes "no not-proved " ++ cents_text n)) c.from.ensures) (ap cents_text size);
-    len = grind (arith, common_steps);
-    room = grind (arith, common_steps)
-  }
+  text =
+      let fits : FitsSigned w128 c.args.bound = c.ranges.bound in
+      let size : c.unsigned_abs.result ≡ unsigned_abs c.args.bound = simp to_z-of_z at c.unsigned_abs.ensures.value in
+      regroup c.args.buffer.now.items (codes "no not-proved " ++ cents_text c.args.total) (codes " ") (cents_text (unsigned_abs c.args.bound)) (cents_text c.unsigned_abs.result) c.write_named_cents.new.buffer.items c.write_named_cents-2.new.buffer.items
+      c.write_named_cents-2.ensures.text (c.write_named_cents.ensures.text ∙ ap (λ (n : ℕ). c.args.buffer.now.items ++ (codes "no not-proved " ++ cents_text n)) c.from.ensures) (ap cents_text size);
+  len = grind (arith, common_steps);
+  room = grind (arith, common_steps);
+}

@@ -4,7 +4,7 @@ use Rattle.statement_text.proofs.writing.put_claim.Goals as goal
 
 pub returns : goal.returns
 returns c = record {
-    text = rw (c.put_sums.ensures.text, c.put-2.ensures.text, c.put_names.ensures.text, c.put.ensures.text) (simp append_assoc);
-    len = grind (arith, common_steps);
-    room = grind (arith, common_steps)
-  }
+  text = rw (c.put_sums.ensures.text, c.put-2.ensures.text, c.put_names.ensures.text, c.put.ensures.text) (simp append_assoc);
+  len = grind (arith, common_steps);
+  room = grind (arith, common_steps);
+}
