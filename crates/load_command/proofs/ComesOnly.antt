@@ -18,14 +18,14 @@ use Rattle.journal_texts.proofs.Written.{told_one, told_status}
 use Rattle.journal_texts.specs.Calls.{IsReadDue, input_read, no_input_memory, read_fault, too_long}
 use Rattle.load_command.specs.Headline.{HasTakenFirst, IsLoadHeadline, Taking}
 use Rattle.load_command.specs.Due.{IsLoadDue, loaded, no_output_memory, not_opened}
-use Rattle.load_command.specs.Inputs.{IsDue, IsInputDue, Ran, asked, bad_line, bad_words, batches_read, no_line_memory, no_request_memory, not_read}
-use Rattle.load_command.specs.Causes.{ComesOnly, HasCause, asked_for, disk_failed, done, full_line, no_memory, not_opened as unopened, out_of_form, sink_failed, some_words, source_failed, too_long as longer}
+use Rattle.load_command.specs.Inputs.{IsLoadCallDue, IsInputDue, LoadRan, asked, bad_line, bad_words, batches_read, no_line_memory, no_request_memory, not_read}
+use Rattle.load_command.specs.Causes.{LoadComesOnly, HasLoadStatusCause, asked_for, disk_failed, done, full_line, no_memory, not_opened as unopened, out_of_form, sink_failed, some_words, source_failed, too_long as longer}
 use Rattle.load_command.proofs.Statuses.{headline_one, input_rose, load_statuses}
 use Rattle.journal_texts.proofs.Inputs.{all_taken, taken_long}
 
 module _ {D : Type 0} (seen : D → Seen) (Taken : Taking) (left : Option (List ℕ)) (old new : D) where
   abbrev Why : ExitStatus → Type 0
-  Why status = HasCause seen Taken left old new status
+  Why status = HasLoadStatusCause seen Taken left old new status
 
   at : (n status : ExitStatus) → status ≡ n → Why n → Why status
   at n status is why = subst Why (sym is) why
@@ -87,21 +87,21 @@ module _ {D : Type 0} (seen : D → Seen) (Taken : Taking) (left : Option (List 
 -- ---- the words
 
 module _ {S D : Type 0} (left : S → Option (List ℕ)) (seen : D → Seen) (words : List (List ℕ)) (source source' : S) (old new : D) (x y : Option (List ℕ)) (status : ExitStatus) where
-  due_only : (due : ExitStatus) (text : List ℕ) → (status ≡ due) ⊎ (status ≡ statuses.Sink) → IsDue left seen (HasTakenFirst x y) words source source' old new due text → ComesOnly seen (HasTakenFirst x y) words (left source) old new status
+  due_only : (due : ExitStatus) (text : List ℕ) → (status ≡ due) ⊎ (status ≡ statuses.Sink) → IsLoadCallDue left seen (HasTakenFirst x y) words source source' old new due text → LoadComesOnly seen (HasTakenFirst x y) words (left source) old new status
   due_only due text either (bad_words some same still) = some_words some status (told_one (statuses.Words ∷ []) statuses.Words status (inl refl) either)
   due_only due text either (asked none s t is) = asked_for none status (⊎_elim
-      (λ same. subst (HasCause seen (HasTakenFirst x y) (left source) old new) (sym same) (read_why seen (HasTakenFirst x y) (left source) old new (left source') s t is))
-      (λ sink. subst (HasCause seen (HasTakenFirst x y) (left source) old new) (sym sink) sink_failed)
+      (λ same. subst (HasLoadStatusCause seen (HasTakenFirst x y) (left source) old new) (sym same) (read_why seen (HasTakenFirst x y) (left source) old new (left source') s t is))
+      (λ sink. subst (HasLoadStatusCause seen (HasTakenFirst x y) (left source) old new) (sym sink) sink_failed)
       either)
 
-  pub comes_only : Ran left seen words source source' old new x y status → ComesOnly seen (HasTakenFirst x y) words (left source) old new status
+  pub comes_only : LoadRan left seen words source source' old new x y status → LoadComesOnly seen (HasTakenFirst x y) words (left source) old new status
   comes_only ran = due_only ran.due ran.text (told_status x y ran.due ran.text status ran.is_written) ran.is_due
 
-  due_rose : (due : ExitStatus) (text : List ℕ) → IsDue left seen (HasTakenFirst x y) words source source' old new due text → due ≡ statuses.Disk → HasRisen (seen old).count (seen new).count
+  due_rose : (due : ExitStatus) (text : List ℕ) → IsLoadCallDue left seen (HasTakenFirst x y) words source source' old new due text → due ≡ statuses.Disk → HasRisen (seen old).count (seen new).count
   due_rose due text (bad_words some same still) disk = cc
   due_rose due text (asked none s t is) disk = read_rose seen (HasTakenFirst x y) (left source) old new (left source') s t is disk
 
-  pub ran_rose : Ran left seen words source source' old new x y status → status ≡ statuses.Disk → HasRisen (seen old).count (seen new).count
+  pub ran_rose : LoadRan left seen words source source' old new x y status → status ≡ statuses.Disk → HasRisen (seen old).count (seen new).count
   ran_rose ran disk = ⊎_elim
       (λ is. due_rose ran.due ran.text ran.is_due (sym is ∙ disk))
       (λ sink. cc (sink, disk))

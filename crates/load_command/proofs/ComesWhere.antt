@@ -15,8 +15,8 @@ use Rattle.journal_texts.specs.Calls.{IsReadDue, IsTooLong, IsWholeInput, input_
 use Rattle.journal_texts.specs.Journals.{HoldsUnsound}
 use Rattle.load_command.specs.Headline.{HasTakenFirst, Taking}
 use Rattle.load_command.specs.Due.{IsLoadDue, loaded, no_output_memory, not_opened}
-use Rattle.load_command.specs.Inputs.{IsDue, IsInputDue, Ran, asked, bad_line, bad_words, batches_read, no_line_memory, no_request_memory, not_read}
-use Rattle.load_command.specs.Causes.{ComesWhere, IsInForm}
+use Rattle.load_command.specs.Inputs.{IsLoadCallDue, IsInputDue, LoadRan, asked, bad_line, bad_words, batches_read, no_line_memory, no_request_memory, not_read}
+use Rattle.load_command.specs.Causes.{LoadComesWhere, IsInForm}
 use Rattle.journal_texts.proofs.Inputs.{all_taken, taken_long}
 
 -- the source is one more
@@ -72,16 +72,16 @@ module _ {D : Type 0} (seen : D → Seen) (Taken : Taking) (old new : D) where
 -- ---- the words
 
 module _ {S D : Type 0} (left : S → Option (List ℕ)) (seen : D → Seen) (Taken : Taking) (words : List (List ℕ)) (source source' : S) (old new : D) where
-  words_one : words ≢ [] → (status : ExitStatus) (text : List ℕ) → IsDue left seen Taken words source source' old new status text → IsOneOf (statuses.Words ∷ []) status
+  words_one : words ≢ [] → (status : ExitStatus) (text : List ℕ) → IsLoadCallDue left seen Taken words source source' old new status text → IsOneOf (statuses.Words ∷ []) status
   words_one some status text (bad_words is same still) = inl refl
   words_one some status text (asked none s t due) = absurd (some none)
 
-  pub asked_due : words ≡ [] → (status : ExitStatus) (text : List ℕ) → IsDue left seen Taken words source source' old new status text → IsReadDue (IsInputDue seen Taken old new) (new ≡ old) (left source) (left source') status text
+  pub asked_due : words ≡ [] → (status : ExitStatus) (text : List ℕ) → IsLoadCallDue left seen Taken words source source' old new status text → IsReadDue (IsInputDue seen Taken old new) (new ≡ old) (left source) (left source') status text
   asked_due none status text (bad_words some same still) = absurd (some none)
   asked_due none status text (asked is s t due) = due
 
-pub comes_where : {S D : Type 0} (left : S → Option (List ℕ)) (seen : D → Seen) (words : List (List ℕ)) (source source' : S) (old new : D) (x y : Option (List ℕ)) (status : ExitStatus) → Ran left seen words source source' old new x y status
-    → ComesWhere words (left source) (seen old) status
+pub comes_where : {S D : Type 0} (left : S → Option (List ℕ)) (seen : D → Seen) (words : List (List ℕ)) (source source' : S) (old new : D) (x y : Option (List ℕ)) (status : ExitStatus) → LoadRan left seen words source source' old new x y status
+    → LoadComesWhere words (left source) (seen old) status
 comes_where left seen words source source' old new x y status ran =
     let either : (status ≡ ran.due) ⊎ (status ≡ statuses.Sink) = told_status x y ran.due ran.text status ran.is_written in
     let Read : Type 0 = IsReadDue (IsInputDue seen (HasTakenFirst x y) old new) (new ≡ old) (left source) (left source') ran.due ran.text in

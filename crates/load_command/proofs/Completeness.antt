@@ -23,8 +23,8 @@ use Rattle.group_runs.specs.Runs.{load_status, some_end}
 use Rattle.journal_texts.specs.Calls.{IsComplete, IsReadDue, IsWholeInput, all_written, input_read, no_input_memory, no_memory, read_fault, too_long}
 use Rattle.load_command.specs.Headline.{HasTakenFirst, IsLoadHeadline, LoadEnd, Taking, all_kept, disk_failed, requests_of, sink_failed}
 use Rattle.load_command.specs.Due.{IsLoadDue, loaded, no_output_memory, not_opened}
-use Rattle.load_command.specs.Inputs.{IsInputDue, Ran, bad_line, batches_read, no_line_memory, no_request_memory, not_read}
-use Rattle.load_command.specs.Completeness.{Completes, IsAllLoaded}
+use Rattle.load_command.specs.Inputs.{IsInputDue, LoadRan, bad_line, batches_read, no_line_memory, no_request_memory, not_read}
+use Rattle.load_command.specs.Completeness.{CompletesLoad, IsAllLoaded}
 use Rattle.load_command.proofs.ComesOnly.{ran_rose}
 use Rattle.load_command.proofs.ComesWhere.{asked_due}
 use Rattle.journal_texts.proofs.Inputs.{all_taken, taken_long}
@@ -131,7 +131,7 @@ limit_told seen Taken old new batches x y due text status (whole taken) (inr (in
 limit_told seen Taken old new batches x y due text status (broken part) e limit = absurd (cc limit)
 
 pub completes : {S D : Type 0} → OneRecords → (left : S → Option (List ℕ)) (seen : D → Seen) (words : List (List ℕ)) (source source' : S) (old new : D) (x y : Option (List ℕ)) (ReadFault WriteFault : Type 0) (status : ExitStatus)
-    → Ran left seen words source source' old new x y status → (status ≡ statuses.Source → ReadFault) → (status ≡ statuses.Sink → WriteFault) → Completes seen words (left source) old new x y ReadFault WriteFault status
+    → LoadRan left seen words source source' old new x y status → (status ≡ statuses.Source → ReadFault) → (status ≡ statuses.Sink → WriteFault) → CompletesLoad seen words (left source) old new x y ReadFault WriteFault status
 completes one left seen words source source' old new x y ReadFault WriteFault status ran read write =
     let T = HasTakenFirst x y in
     let ends : words ≡ [] → (batches : List (List Request)) → IsWholeInput (λ input. IsLoadText input batches) (left source) → HoldsSound (seen old) → Ends (IsAllLoaded seen T old new batches) ran.due ran.text =

@@ -41,7 +41,7 @@ use Rattle.journal_texts.proofs.Silent.{begun_parts}
 use Rattle.load_command.proofs.Fronts.{all_keeps, first_keeps}
 use Rattle.load_command.proofs.Full.{none_full}
 use Rattle.load_command.specs.Headline.{HasTakenFirst, HasTakenInOrder, IsLoadHeadline, LoadEnd, SurvivesGroups, Taking, all_kept, but_last_group, disk_failed, load_text, requests_of, sink_failed, sure_load_text}
-use Rattle.load_command.specs.Due.{IsLoadBegun, IsLoadDue, IsNotBegunDue, WroteInOrder, device_text, loaded}
+use Rattle.load_command.specs.Due.{IsLoadBegun, IsLoadDue, IsLoadNotBegunDue, WroteInOrder, device_text, loaded}
 
 -- ---- the text that was surely taken
 
@@ -236,7 +236,7 @@ module _ {D : Type 0} (seen : D → Seen) (reads_now : (d : D) → IsTrue (seen 
 
   -- the sink failed at the lines of the abandonments
   pub wrote_begun : (x y : Option (List ℕ)) (u v : List (Shown D)) → v ≡ u ++ (record { held = x; disk = first.journal.disk }) ∷ [] → AppendsPart x y (printed_of (take from begun) (drop from begun) [])
-      → WroteInOrder seen first.journal.disk (λ Taken. IsNotBegunDue seen Taken old first.journal.disk) x y u v statuses.Sink
+      → WroteInOrder seen first.journal.disk (λ Taken. IsLoadNotBegunDue seen Taken old first.journal.disk) x y u v statuses.Sink
   wrote_begun x y u v shown part =
       let none : List (List Line) = [] in
       let d = first.journal.disk in
@@ -250,7 +250,7 @@ module _ {D : Type 0} (seen : D → Seen) (reads_now : (d : D) → IsTrue (seen 
       let taken : Taken opened begun none = record { taken = (part.0, part.3); shown = one ∷ []; were_shown = shown; order = ((Appends-none x, opening_held d [] [] kept), tt) } in
       let text = load_text opened begun none ++ [] in
       let k : KeepsHistory (begun ++ groups_add begun none) = subst KeepsHistory (sym (append-nil begun)) o.keeps in
-      wrote_line (IsNotBegunDue seen Taken old d) x y statuses.Sink text statuses.Sink
+      wrote_line (IsLoadNotBegunDue seen Taken old d) x y statuses.Sink text statuses.Sink
       (λ batches. loaded statuses.Sink text (headline d none [] kept Taken batches statuses.Sink [] (sink_failed (groups_of batches) refl refl) taken (tt, tt) (λ room. refl) k (none_more (begun ++ groups_add begun none) k)))
       (broken (AppendsPart-front x y (load_text opened begun none) [] (AppendsPart-front x y (added_text opened (drop (length opened) begun)) [] (subst (AppendsPart x y) begun_text part))))
 

@@ -11,7 +11,7 @@ use Rattle.group_runs.specs.disk_witness.specs.Shown.{Shown}
 use Rattle.journal_texts.specs.Calls.{IsReadDue, input_read, no_input_memory, read_fault, too_long}
 use Rattle.load_command.specs.Headline.{HasTakenFirst, HasTakenInOrder, IsLoadHeadline, Taking}
 use Rattle.load_command.specs.Due.{IsLoadDue, loaded, no_output_memory, not_opened}
-use Rattle.load_command.specs.Inputs.{IsDue, IsInputDue, Ran, RanInOrder, asked, bad_words, batches_read, no_request_memory, not_read}
+use Rattle.load_command.specs.Inputs.{IsLoadCallDue, IsInputDue, LoadRan, LoadRanInOrder, asked, bad_words, batches_read, no_request_memory, not_read}
 
 module _ {D : Type 0} (seen : D → Seen) (More Less : Taking) (less : (opened begun : List PoolEntry) (groups : List (List Line)) → More opened begun groups → Less opened begun groups) (old new : D) where
   headline_less : (batches : List (List Request)) (status : ExitStatus) (text : List ℕ) → IsLoadHeadline seen More old new batches status text → IsLoadHeadline seen Less old new batches status text
@@ -51,16 +51,16 @@ module _ {D : Type 0} (seen : D → Seen) (More Less : Taking) (less : (opened b
   read_less left left' status text (too_long same taken h many) = too_long same taken h many
   read_less left left' status text (input_read input all s t due) = input_read input all s t (input_less input s t due)
 
-  due_less : {S : Type 0} (left : S → Option (List ℕ)) (words : List (List ℕ)) (source source' : S) (status : ExitStatus) (text : List ℕ) → IsDue left seen More words source source' old new status text
-      → IsDue left seen Less words source source' old new status text
+  due_less : {S : Type 0} (left : S → Option (List ℕ)) (words : List (List ℕ)) (source source' : S) (status : ExitStatus) (text : List ℕ) → IsLoadCallDue left seen More words source source' old new status text
+      → IsLoadCallDue left seen Less words source source' old new status text
   due_less left words source source' status text (bad_words some same still) = bad_words some same still
   due_less left words source source' status text (asked none s t due) = asked none s t (read_less (left source) (left source') s t due)
 
 -- without what the witness was shown
 pub without_order : {S D : Type 0} (left : S → Option (List ℕ)) (seen : D → Seen) (words : List (List ℕ)) (source source' : S) (old new : D) (x y : Option (List ℕ)) (v w : List (Shown D)) (status : ExitStatus)
-    → RanInOrder left seen words source source' old new x y v w status → Ran left seen words source source' old new x y status
+    → LoadRanInOrder left seen words source source' old new x y v w status → LoadRan left seen words source source' old new x y status
 without_order left seen words source source' old new x y v w status ran =
     let More = HasTakenInOrder seen new x y v w in
     let Less = HasTakenFirst x y in
-    wrote_for (IsDue left seen More words source source' old new) (IsDue left seen Less words source source' old new) x y status
+    wrote_for (IsLoadCallDue left seen More words source source' old new) (IsLoadCallDue left seen Less words source source' old new) x y status
     (due_less seen More Less (λ opened begun groups h. h.taken) old new left words source source') ran

@@ -17,7 +17,7 @@ abbrev pub IsInForm : List ℕ → Type 0
 IsInForm input = (batches : List (List Request)) × IsLoadText input batches
 
 -- the batches of the input were loaded, and some line was full
-pub record HadFullLine {D : Type 0} (seen : D → Seen) (Taken : Taking) (old new : D) (input : List ℕ) : Type 0 where
+pub record LoadHadFullLine {D : Type 0} (seen : D → Seen) (Taken : Taking) (old new : D) (input : List ℕ) : Type 0 where
   pub batches : List (List Request)
   pub spelled : IsLoadText input batches
   pub text : List ℕ
@@ -26,7 +26,7 @@ pub record HadFullLine {D : Type 0} (seen : D → Seen) (Taken : Taking) (old ne
 -- ---- statuses
 
 -- Where each cause is, its status comes, or that of a fault: of the source, of the disk, out of memory, or of the sink.
-pub record ComesWhere (words : List (List ℕ)) (left : Option (List ℕ)) (disk : Seen) (status : ExitStatus) : Type 0 where
+pub record LoadComesWhere (words : List (List ℕ)) (left : Option (List ℕ)) (disk : Seen) (status : ExitStatus) : Type 0 where
   -- any words
   pub of_words : words ≢ [] → IsOneOf (statuses.Words ∷ statuses.Sink ∷ []) status
   -- an input that is too long, or not in the grammar
@@ -40,22 +40,22 @@ pub record ComesWhere (words : List (List ℕ)) (left : Option (List ℕ)) (disk
 
 -- Why a load without words ends with a status, as far as the source and the disk tell their bytes. That the source, the disk or the
 -- sink failed, their counts tell.
-pub data HasCause {D : Type 0} (seen : D → Seen) (Taken : Taking) (left : Option (List ℕ)) (old new : D) : ExitStatus
+pub data HasLoadStatusCause {D : Type 0} (seen : D → Seen) (Taken : Taking) (left : Option (List ℕ)) (old new : D) : ExitStatus
     → Type 0 where
-  done : HasCause seen Taken left old new statuses.Done
-  source_failed : HasCause seen Taken left old new statuses.Source
-  sink_failed : HasCause seen Taken left old new statuses.Sink
-  disk_failed : HasCause seen Taken left old new statuses.Disk
-  out_of_form : OfTold IsNoLoadText left → HasCause seen Taken left old new statuses.Form
-  too_long : OfTold IsTooLong left → HasCause seen Taken left old new statuses.Limit
-  full_line : OfTold (HadFullLine seen Taken old new) left → HasCause seen Taken left old new statuses.Limit
-  not_opened : (IsTrue (seen old).tells → HoldsUnsound (seen old)) → HasCause seen Taken left old new statuses.Unsound
-  no_memory : HasCause seen Taken left old new statuses.Memory
+  done : HasLoadStatusCause seen Taken left old new statuses.Done
+  source_failed : HasLoadStatusCause seen Taken left old new statuses.Source
+  sink_failed : HasLoadStatusCause seen Taken left old new statuses.Sink
+  disk_failed : HasLoadStatusCause seen Taken left old new statuses.Disk
+  out_of_form : OfTold IsNoLoadText left → HasLoadStatusCause seen Taken left old new statuses.Form
+  too_long : OfTold IsTooLong left → HasLoadStatusCause seen Taken left old new statuses.Limit
+  full_line : OfTold (LoadHadFullLine seen Taken old new) left → HasLoadStatusCause seen Taken left old new statuses.Limit
+  not_opened : (IsTrue (seen old).tells → HoldsUnsound (seen old)) → HasLoadStatusCause seen Taken left old new statuses.Unsound
+  no_memory : HasLoadStatusCause seen Taken left old new statuses.Memory
 
 -- Each status comes only where its cause is: there were words, which was told or the sink failed; or a load was asked for.
-pub data ComesOnly {D : Type 0} (seen : D → Seen) (Taken : Taking) (words : List (List ℕ)) (left : Option (List ℕ))
+pub data LoadComesOnly {D : Type 0} (seen : D → Seen) (Taken : Taking) (words : List (List ℕ)) (left : Option (List ℕ))
     (old new : D) : ExitStatus → Type 0 where
   some_words : words ≢ [] → (status : ExitStatus) → IsOneOf (statuses.Words ∷ statuses.Sink ∷ []) status
-      → ComesOnly seen Taken words left old new status
-  asked_for : words ≡ [] → (status : ExitStatus) → HasCause seen Taken left old new status
-      → ComesOnly seen Taken words left old new status
+      → LoadComesOnly seen Taken words left old new status
+  asked_for : words ≡ [] → (status : ExitStatus) → HasLoadStatusCause seen Taken left old new status
+      → LoadComesOnly seen Taken words left old new status

@@ -16,7 +16,7 @@ IsAllLoaded seen Taken old new batches status text = ((status ≡ statuses.Done)
     × IsLoadHeadline seen Taken old new batches status text
 
 -- So it is of a load where no fault was counted, over a sound journal.
-pub record Completes {D : Type 0} (seen : D → Seen) (words : List (List ℕ)) (left : Option (List ℕ)) (old new : D)
+pub record CompletesLoad {D : Type 0} (seen : D → Seen) (words : List (List ℕ)) (left : Option (List ℕ)) (old new : D)
     (held_old held_new : Option (List ℕ)) (ReadFault WriteFault : Type 0) (status : ExitStatus) : Type 0 where
   pub of_load : words ≡ [] → (batches : List (List Request)) → IsWholeInput (λ input. IsLoadText input batches) left
       → HoldsSound (seen old) → (ReadFault → ⊥) → (WriteFault → ⊥) → (HasRisen (seen old).count (seen new).count → ⊥)

@@ -30,8 +30,8 @@ pub data IsLoadDue {D : Type 0} (seen : D → Seen) (Taken : Taking) (old new : 
 
 -- No group was served, whatever the batches: there was no memory for their output, the journal was not opened, or the sink failed at
 -- the lines of the abandonments.
-abbrev pub IsNotBegunDue : {D : Type 0} → (D → Seen) → Taking → D → D → ExitStatus → List ℕ → Type 0
-IsNotBegunDue seen Taken old new status text = (batches : List (List Request)) → IsLoadDue seen Taken old new batches status text
+abbrev pub IsLoadNotBegunDue : {D : Type 0} → (D → Seen) → Taking → D → D → ExitStatus → List ℕ → Type 0
+IsLoadNotBegunDue seen Taken old new status text = (batches : List (List Request)) → IsLoadDue seen Taken old new batches status text
 
 -- the fault line of a disk that failed at a group, between these counts
 abbrev pub device_text : ℕ → ℕ → List ℕ
@@ -56,7 +56,7 @@ pub record IsLoadBegun {D : Type 0} (seen : D → Seen) (old : D) (first : LoadV
       → HasGroupMoments (seen first.journal.disk) (seen first.journal.disk).moment (accepted_calls first.books.members) [] []
 
 -- then the sink and the disk were shown, and then the lines of the abandonments were printed
-pub record HasBegun {D : Type 0} (seen : D → Seen) (old : D) (first : LoadView D) (held_old held_new : Option (List ℕ))
+pub record HasLoadBegun {D : Type 0} (seen : D → Seen) (old : D) (first : LoadView D) (held_old held_new : Option (List ℕ))
     (shown_old shown_new : List (Shown D)) : Type 0 where
   pub from : ℕ
   pub opened : IsLoadBegun seen old first from

@@ -65,10 +65,10 @@ HasTakenFirst held_old held_new opened begun groups =
 -- Before the lines of the abandonments, when it had taken nothing of this call, the sink and the disk were shown, and each image of the
 -- disk from then on holds all calls that were accepted up to the end of the opening. Behind these lines it goes on so before the text of
 -- each group: each image of the disk from then on holds all calls that were accepted up to the end of the group.
-abbrev pub IsInOrder : {D : Type 0} → (D → Seen) → D → Option (List ℕ) → List PoolEntry → List PoolEntry → List (List Line)
+abbrev pub IsLoadInOrder : {D : Type 0} → (D → Seen) → D → Option (List ℕ) → List PoolEntry → List PoolEntry → List (List Line)
     → List (Shown D) → Type 0
-IsInOrder seen new held opened begun groups [] = ⊥
-IsInOrder seen new held opened begun groups (s ∷ shown) =
+IsLoadInOrder seen new held opened begun groups [] = ⊥
+IsLoadInOrder seen new held opened begun groups (s ∷ shown) =
     IsShownAt seen new held [] (accepted_calls begun) s
     × AreInOrder seen new held (added_text opened (drop (length opened) begun)) begun groups shown
 
@@ -78,7 +78,7 @@ pub record HasTakenInOrder {D : Type 0} (seen : D → Seen) (new : D) (held_old 
   pub taken : HasTakenFirst held_old held_new opened begun groups
   pub shown : List (Shown D)
   pub were_shown : shown_new ≡ shown_old ++ shown
-  pub order : IsInOrder seen new held_old opened begun groups shown
+  pub order : IsLoadInOrder seen new held_old opened begun groups shown
 
 -- How it ended, between these counts of the disk, with the status and what is told behind the texts of the groups that are kept. All
 -- groups of the requests are; or the sink failed, at the text of the last of them or at the lines of the abandonments; or the disk failed

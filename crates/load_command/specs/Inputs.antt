@@ -16,16 +16,16 @@ use Rattle.load_command.specs.Due.{IsLoadDue, WroteInOrder}
 -- ---- inputs
 
 -- the status and the text that an input comes to that is not in the grammar: its first bad line, or there was no memory
-pub data IsBadLineDue (input : List ℕ) : ExitStatus → List ℕ → Type 0 where
-  no_line_memory : IsBadLineDue input statuses.Memory memory_text
+pub data IsLoadBadLineDue (input : List ℕ) : ExitStatus → List ℕ → Type 0 where
+  no_line_memory : IsLoadBadLineDue input statuses.Memory memory_text
   bad_line : (line : ℕ) (cause : LineCause) → IsFirstBadLoadLine input line cause → IsNoLoadText input
-      → IsBadLineDue input statuses.Form (bad_line_text line cause)
+      → IsLoadBadLineDue input statuses.Form (bad_line_text line cause)
 
 -- the status and the text that an input comes to
 pub data IsInputDue {D : Type 0} (seen : D → Seen) (Taken : Taking) (old new : D) (input : List ℕ) : ExitStatus → List ℕ
     → Type 0 where
   no_request_memory : new ≡ old → IsInputDue seen Taken old new input statuses.Memory memory_text
-  not_read : new ≡ old → (status : ExitStatus) (text : List ℕ) → IsBadLineDue input status text
+  not_read : new ≡ old → (status : ExitStatus) (text : List ℕ) → IsLoadBadLineDue input status text
       → IsInputDue seen Taken old new input status text
   batches_read : (batches : List (List Request)) → IsLoadText input batches → (status : ExitStatus) (text : List ℕ)
       → IsLoadDue seen Taken old new batches status text → IsInputDue seen Taken old new input status text
@@ -33,21 +33,22 @@ pub data IsInputDue {D : Type 0} (seen : D → Seen) (Taken : Taking) (old new :
 -- ---- words
 
 -- The status and the text that are due for the words, which are to be none: with any word nothing is read.
-pub data IsDue {S D : Type 0} (left : S → Option (List ℕ)) (seen : D → Seen) (Taken : Taking) (words : List (List ℕ))
+pub data IsLoadCallDue {S D : Type 0} (left : S → Option (List ℕ)) (seen : D → Seen) (Taken : Taking) (words : List (List ℕ))
     (source source' : S) (old new : D) : ExitStatus → List ℕ → Type 0 where
-  bad_words : words ≢ [] → source' ≡ source → new ≡ old → IsDue left seen Taken words source source' old new statuses.Words words_text
+  bad_words : words ≢ [] → source' ≡ source → new ≡ old
+      → IsLoadCallDue left seen Taken words source source' old new statuses.Words words_text
   asked : words ≡ [] → (status : ExitStatus) (text : List ℕ)
       → IsReadDue (IsInputDue seen Taken old new) (new ≡ old) (left source) (left source') status text
-      → IsDue left seen Taken words source source' old new status text
+      → IsLoadCallDue left seen Taken words source source' old new status text
 
 -- the whole call: what was due was written
-abbrev pub Ran : {S D : Type 0} → (S → Option (List ℕ)) → (D → Seen) → List (List ℕ) → S → S → D → D → Option (List ℕ)
+abbrev pub LoadRan : {S D : Type 0} → (S → Option (List ℕ)) → (D → Seen) → List (List ℕ) → S → S → D → D → Option (List ℕ)
     → Option (List ℕ) → ExitStatus → Type 0
-Ran left seen words source source' old new held_old held_new status =
-    Wrote (IsDue left seen (HasTakenFirst held_old held_new) words source source' old new) held_old held_new status
+LoadRan left seen words source source' old new held_old held_new status =
+    Wrote (IsLoadCallDue left seen (HasTakenFirst held_old held_new) words source source' old new) held_old held_new status
 
 -- the same before a witness, who was shown sink and disk in order
-abbrev pub RanInOrder : {S D : Type 0} → (S → Option (List ℕ)) → (D → Seen) → List (List ℕ) → S → S → D → D → Option (List ℕ)
+abbrev pub LoadRanInOrder : {S D : Type 0} → (S → Option (List ℕ)) → (D → Seen) → List (List ℕ) → S → S → D → D → Option (List ℕ)
     → Option (List ℕ) → List (Shown D) → List (Shown D) → ExitStatus → Type 0
-RanInOrder left seen words source source' old new held_old held_new shown_old shown_new status =
-    WroteInOrder seen new (λ Taken. IsDue left seen Taken words source source' old new) held_old held_new shown_old shown_new status
+LoadRanInOrder left seen words source source' old new held_old held_new shown_old shown_new status =
+    WroteInOrder seen new (λ Taken. IsLoadCallDue left seen Taken words source source' old new) held_old held_new shown_old shown_new status

@@ -3,7 +3,7 @@ ghost use Rattle.journal_texts.specs.printed_text.specs.Statuses.{TellsSinkFault
 ghost use Rattle.journal_texts.specs.printed_text.specs.Writing.{Wrote};
 ghost use Rattle.load_reading.specs.Reading.{IsFirstBadLoadLine, IsNoLoadText};
 ghost use Rattle.load_command.specs.Due.{WroteInOrder};
-ghost use Rattle.load_command.specs.Inputs.{IsBadLineDue, IsInputDue};
+ghost use Rattle.load_command.specs.Inputs.{IsLoadBadLineDue, IsInputDue};
 
 use crate::serving::load_requests;
 use bureau_edge::Sink;
@@ -23,7 +23,7 @@ fn tell_bad_line<K: Sink>(
 ) -> ExitStatus
     requires first { IsFirstBadLoadLine input.now line cause }
     requires none { IsNoLoadText input.now }
-    ensures wrote { Wrote (IsBadLineDue input.now) (K.held sink.old) (K.held sink.new) result }
+    ensures wrote { Wrote (IsLoadBadLineDue input.now) (K.held sink.old) (K.held sink.new) result }
     ensures write_fault { TellsSinkFault (K.faults sink.old) (K.faults sink.new) result }
 {
     let Ok(mut buffer) = Vec::with_capacity(alloc, LINE_BYTES) else {

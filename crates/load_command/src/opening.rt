@@ -4,7 +4,7 @@ ghost use Rattle.setoff_model.specs.declared.limits.TheConstants.{OUTPUT_BYTES};
 ghost use Rattle.journal_texts.specs.bureau_desk.specs.Opening.{IsDeskRefused};
 ghost use Rattle.journal_texts.specs.printed_text.specs.Statuses.{TellsSinkFault};
 ghost use Rattle.group_runs.specs.declared.limits.TheConstants.{GROUP_LINES};
-ghost use Rattle.load_command.specs.Due.{HasBegun, IsLoadBegun, IsNotBegunDue, WroteInOrder};
+ghost use Rattle.load_command.specs.Due.{HasLoadBegun, IsLoadBegun, IsLoadNotBegunDue, WroteInOrder};
 
 use bureau_edge::Sink;
 use disk_model::Disk;
@@ -85,13 +85,13 @@ pub(crate) fn begin<K: Sink, W: Witness<K, D>, D: Disk>(
     witness: &mut W,
     disk: D,
 ) -> Result<Begun<D>, NotBegun<D>>
-    ensures begun { IfOk result (λ b. HasBegun D.seen disk b.loader (K.held sink.old) (K.held sink.new)
+    ensures begun { IfOk result (λ b. HasLoadBegun D.seen disk b.loader (K.held sink.old) (K.held sink.new)
         (W.shown witness.old) (W.shown witness.new)) }
     ensures empty { IfOk result (λ b. b.room.buffer.items ≡ []) }
     ensures spare { IfOk result (λ b. OUTPUT_BYTES ≤ vec_capacity b.room.buffer) }
     ensures list { IfOk result (λ b. GROUP_LINES ≤ vec_capacity b.room.answers) }
     ensures kept { IfOk result (λ _. K.faults sink.new ≡ K.faults sink.old) }
-    ensures wrote { IfErr result (λ e. WroteInOrder D.seen e.disk (λ taken. IsNotBegunDue D.seen taken disk e.disk) (K.held sink.old)
+    ensures wrote { IfErr result (λ e. WroteInOrder D.seen e.disk (λ taken. IsLoadNotBegunDue D.seen taken disk e.disk) (K.held sink.old)
         (K.held sink.new) (W.shown witness.old) (W.shown witness.new) e.status) }
     ensures write_fault { IfErr result (λ e. TellsSinkFault (K.faults sink.old) (K.faults sink.new) e.status) }
 {

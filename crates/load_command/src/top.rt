@@ -5,11 +5,11 @@ ghost use Rattle.journal_texts.specs.printed_text.specs.declared.exit_status.Exi
 ghost use Rattle.journal_texts.specs.printed_text.specs.Statuses.{IsNumberOf, TellsSinkFault, number_of};
 ghost use Rattle.journal_texts.specs.printed_text.specs.Writing.{Wrote};
 ghost use Rattle.journal_texts.specs.Calls.{IsMemoryDue, IsReadDue};
-ghost use Rattle.load_command.specs.Causes.{ComesOnly, ComesWhere};
-ghost use Rattle.load_command.specs.Completeness.{Completes};
+ghost use Rattle.load_command.specs.Causes.{LoadComesOnly, LoadComesWhere};
+ghost use Rattle.load_command.specs.Completeness.{CompletesLoad};
 ghost use Rattle.load_command.specs.Due.{WroteInOrder};
 ghost use Rattle.load_command.specs.Headline.{HasTakenFirst};
-ghost use Rattle.load_command.specs.Inputs.{IsInputDue, Ran, RanInOrder};
+ghost use Rattle.load_command.specs.Inputs.{IsInputDue, LoadRan, LoadRanInOrder};
 
 use crate::input::load_input;
 use bureau_edge::{Sink, Source, read_whole};
@@ -51,7 +51,7 @@ fn answer_words<S: Source, K: Sink, W: Witness<K, D>, D: Disk>(
     witness: &mut W,
     disk: D,
 ) -> (ExitStatus, D)
-    ensures ran { RanInOrder S.left D.seen (map (λ w. string_bytes w) words.now) source.old source.new disk result.1 (K.held sink.old)
+    ensures ran { LoadRanInOrder S.left D.seen (map (λ w. string_bytes w) words.now) source.old source.new disk result.1 (K.held sink.old)
         (K.held sink.new) (W.shown witness.old) (W.shown witness.new) result.0 }
     ensures read_fault { result.0 ≡ statuses.Source → HasRisen (S.faults source.old) (S.faults source.new) }
     ensures write_fault { TellsSinkFault (K.faults sink.old) (K.faults sink.new) result.0 }
@@ -95,7 +95,7 @@ pub fn load<S: Source, K: Sink, D: Disk>(
     sink: K,
     disk: D,
 ) -> Ended<S, K, D>
-    ensures ran { IsNumberOf (Ran S.left D.seen (map (λ w. string_bytes w) words.items) source result.source disk result.disk
+    ensures ran { IsNumberOf (LoadRan S.left D.seen (map (λ w. string_bytes w) words.items) source result.source disk result.disk
         (K.held sink) (K.held result.sink)) result.status }
 
     // A fault of a device is told only where it was counted, and one of the sink wherever it was.
@@ -105,12 +105,12 @@ pub fn load<S: Source, K: Sink, D: Disk>(
     ensures disk_fault { result.status ≡ number_of statuses.Disk → HasRisen (D.seen disk).count (D.seen result.disk).count }
 
     // Each status comes where its cause is, and only there.
-    ensures comes { IsNumberOf (ComesWhere (map (λ w. string_bytes w) words.items) (S.left source) (D.seen disk)) result.status }
-    ensures only { IsNumberOf (ComesOnly D.seen (HasTakenFirst (K.held sink) (K.held result.sink))
+    ensures comes { IsNumberOf (LoadComesWhere (map (λ w. string_bytes w) words.items) (S.left source) (D.seen disk)) result.status }
+    ensures only { IsNumberOf (LoadComesOnly D.seen (HasTakenFirst (K.held sink) (K.held result.sink))
         (map (λ w. string_bytes w) words.items) (S.left source) disk result.disk) result.status }
 
     // Without a fault it is all done.
-    ensures complete { IsNumberOf (Completes D.seen (map (λ w. string_bytes w) words.items) (S.left source) disk result.disk
+    ensures complete { IsNumberOf (CompletesLoad D.seen (map (λ w. string_bytes w) words.items) (S.left source) disk result.disk
         (K.held sink) (K.held result.sink) (HasRisen (S.faults source) (S.faults result.source))
         (HasRisen (K.faults sink) (K.faults result.sink))) result.status }
 {
@@ -130,7 +130,7 @@ pub fn load_in_order<S: Source, K: Sink, W: Witness<K, D>, D: Disk>(
     witness: &mut W,
     disk: D,
 ) -> Ended<S, K, D>
-    ensures ran { IsNumberOf (RanInOrder S.left D.seen (map (λ w. string_bytes w) words.items) source result.source disk result.disk
+    ensures ran { IsNumberOf (LoadRanInOrder S.left D.seen (map (λ w. string_bytes w) words.items) source result.source disk result.disk
         (K.held sink) (K.held result.sink) (W.shown witness.old) (W.shown witness.new)) result.status }
 
     // A fault of a device is told only where it was counted, and one of the sink wherever it was.
@@ -140,12 +140,12 @@ pub fn load_in_order<S: Source, K: Sink, W: Witness<K, D>, D: Disk>(
     ensures disk_fault { result.status ≡ number_of statuses.Disk → HasRisen (D.seen disk).count (D.seen result.disk).count }
 
     // Each status comes where its cause is, and only there.
-    ensures comes { IsNumberOf (ComesWhere (map (λ w. string_bytes w) words.items) (S.left source) (D.seen disk)) result.status }
-    ensures only { IsNumberOf (ComesOnly D.seen (HasTakenFirst (K.held sink) (K.held result.sink))
+    ensures comes { IsNumberOf (LoadComesWhere (map (λ w. string_bytes w) words.items) (S.left source) (D.seen disk)) result.status }
+    ensures only { IsNumberOf (LoadComesOnly D.seen (HasTakenFirst (K.held sink) (K.held result.sink))
         (map (λ w. string_bytes w) words.items) (S.left source) disk result.disk) result.status }
 
     // Without a fault it is all done.
-    ensures complete { IsNumberOf (Completes D.seen (map (λ w. string_bytes w) words.items) (S.left source) disk result.disk
+    ensures complete { IsNumberOf (CompletesLoad D.seen (map (λ w. string_bytes w) words.items) (S.left source) disk result.disk
         (K.held sink) (K.held result.sink) (HasRisen (S.faults source) (S.faults result.source))
         (HasRisen (K.faults sink) (K.faults result.sink))) result.status }
 {

@@ -9,7 +9,7 @@ use Rattle.journal_texts.proofs.Written.{wrote_for, wrote_line}
 use Rattle.group_runs.specs.Runs.{CanAllBeLoaded}
 use Rattle.load_command.specs.Headline.{HasTakenInOrder}
 use Rattle.load_command.specs.Due.{IsLoadDue}
-use Rattle.load_command.specs.Inputs.{IsBadLineDue, IsInputDue, batches_read, no_request_memory, not_read}
+use Rattle.load_command.specs.Inputs.{IsLoadBadLineDue, IsInputDue, batches_read, no_request_memory, not_read}
 use Rattle.load_command.proofs.Loadable.{all_loadable}
 use Rattle.load_command.proofs.input.load_input.Goals as goal
 
@@ -49,7 +49,7 @@ tell_bad_line-requires-clause-none g c = (subst (Bad c.args.input.now) c.in-Err-
 
 pub returns-in-Err-BadLine-clause-wrote : goal.returns-in-Err-BadLine-clause-wrote
 returns-in-Err-BadLine-clause-wrote g c =
-    wrote_for (IsBadLineDue c.args.input.now) (IsInputDue g.D.Disk.seen (HasTakenInOrder g.D.Disk.seen c.args.disk (g.K.Sink.held c.args.sink.now) (g.K.Sink.held c.tell_bad_line.new.sink) (g.W.Witness.shown c.args.witness.now) (g.W.Witness.shown c.args.witness.now)) c.args.disk c.args.disk c.args.input.now)
+    wrote_for (IsLoadBadLineDue c.args.input.now) (IsInputDue g.D.Disk.seen (HasTakenInOrder g.D.Disk.seen c.args.disk (g.K.Sink.held c.args.sink.now) (g.K.Sink.held c.tell_bad_line.new.sink) (g.W.Witness.shown c.args.witness.now) (g.W.Witness.shown c.args.witness.now)) c.args.disk c.args.disk c.args.input.now)
     (g.K.Sink.held c.args.sink.now) (g.K.Sink.held c.tell_bad_line.new.sink) c.tell_bad_line.result (not_read refl) c.tell_bad_line.ensures.wrote
 
 pub returns-in-Err-BadLine-clause-write_fault : goal.returns-in-Err-BadLine-clause-write_fault

@@ -10,7 +10,7 @@ use Rattle.journal_texts.specs.DiskTexts.{opening_status, opening_text}
 use Rattle.journal_texts.proofs.Openings.{tellable}
 use Rattle.journal_texts.proofs.Written.{wrote_line}
 use Rattle.load_command.specs.Headline.{HasTakenInOrder}
-use Rattle.load_command.specs.Due.{IsNotBegunDue, WroteInOrder, no_output_memory, not_opened}
+use Rattle.load_command.specs.Due.{IsLoadNotBegunDue, WroteInOrder, no_output_memory, not_opened}
 use Rattle.load_command.proofs.Loaded.{from_few, none_published, wrote_begun}
 use Rattle.group_runs.proofs.Answered.{at_err, at_ok}
 use Rattle.journal_texts.specs.bureau_desk.specs.claim_history.specs.PoolRounds.{cuts_after}
@@ -21,7 +21,7 @@ use Rattle.load_command.proofs.opening.begin.Goals as goal
 
 pub returns-in_default-clause-wrote : goal.returns-in_default-clause-wrote
 returns-in_default-clause-wrote g c =
-    wrote_line (IsNotBegunDue g.D.Disk.seen (HasTakenInOrder g.D.Disk.seen c.args.disk (g.K.Sink.held c.args.sink.now) (g.K.Sink.held c.tell_no_memory.new.sink) (g.W.Witness.shown c.args.witness.now) (g.W.Witness.shown c.args.witness.now)) c.args.disk c.args.disk) _ _ statuses.Memory memory_text _
+    wrote_line (IsLoadNotBegunDue g.D.Disk.seen (HasTakenInOrder g.D.Disk.seen c.args.disk (g.K.Sink.held c.args.sink.now) (g.K.Sink.held c.tell_no_memory.new.sink) (g.W.Witness.shown c.args.witness.now) (g.W.Witness.shown c.args.witness.now)) c.args.disk c.args.disk) _ _ statuses.Memory memory_text _
     (λ batches. no_output_memory refl) c.tell_no_memory.ensures.written
 
 pub returns-in_default-clause-write_fault : goal.returns-in_default-clause-write_fault
@@ -41,7 +41,7 @@ tell_refused-requires-clause-spare g c = omega (arith, c.in-Ok.ensures.spare)
 pub returns-in-Err-clause-wrote : goal.returns-in-Err-clause-wrote
 returns-in-Err-clause-wrote g c =
     let cause = c.in-Err.field-0.cause in
-    wrote_line (IsNotBegunDue g.D.Disk.seen (HasTakenInOrder g.D.Disk.seen c.in-Err.field-0.disk (g.K.Sink.held c.args.sink.now) (g.K.Sink.held c.tell_refused.new.sink) (g.W.Witness.shown c.args.witness.now) (g.W.Witness.shown c.args.witness.now)) c.args.disk c.in-Err.field-0.disk) _ _ (opening_status cause) (opening_text cause) _
+    wrote_line (IsLoadNotBegunDue g.D.Disk.seen (HasTakenInOrder g.D.Disk.seen c.in-Err.field-0.disk (g.K.Sink.held c.args.sink.now) (g.K.Sink.held c.tell_refused.new.sink) (g.W.Witness.shown c.args.witness.now) (g.W.Witness.shown c.args.witness.now)) c.args.disk c.in-Err.field-0.disk) _ _ (opening_status cause) (opening_text cause) _
     (λ batches. not_opened cause c.in-Err.ensures.refused) c.tell_refused.ensures.written
 
 pub returns-in-Err-clause-write_fault : goal.returns-in-Err-clause-write_fault
@@ -70,7 +70,7 @@ returns-then-is_err-clause-wrote g c =
     let Part : BooksView → Type 0 = λ b. AppendsPart x y (printed_of (take opened.from b.members) (drop opened.from b.members) []) in
     let part : Part first.books = at_err c.print_batch.result (Part first.books) (sym c.is_err.ensures.value ∙ c.if-is_err.true)
     (subst (λ (b : BooksView). OnErr c.print_batch.result (Part b)) c.books.ensures.books c.print_batch.ensures.part) in
-    subst (λ (d : g.row.D.Denot). WroteInOrder g.D.Disk.seen d (λ Taken. IsNotBegunDue g.D.Disk.seen Taken c.args.disk d) x y u v statuses.Sink) (sym c.close.ensures)
+    subst (λ (d : g.row.D.Denot). WroteInOrder g.D.Disk.seen d (λ Taken. IsLoadNotBegunDue g.D.Disk.seen Taken c.args.disk d) x y u v statuses.Sink) (sym c.close.ensures)
     (wrote_begun g.D.Disk.seen g.met.D.Disk.reads_now c.args.disk first opened.from c.in-Ok-open_loader.ensures.opened x y u v
     (subst (λ (d : g.row.D.Denot). v ≡ u ++ (record { held = x; disk = d }) ∷ []) c.disk.ensures c.show.ensures) part)
 

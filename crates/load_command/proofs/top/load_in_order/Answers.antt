@@ -2,7 +2,7 @@ use Rattle.std.proofs.Common.{◌∙◌, ℕ, List, ap, subst, sym}
 use Rattle.journal_texts.specs.printed_text.specs.declared.exit_status.ExitStatus.TheVariants as statuses
 use Rattle.journal_texts.specs.printed_text.specs.Statuses.{number_of}
 use Rattle.journal_texts.specs.printed_text.proofs.Statuses.{one_number}
-use Rattle.load_command.specs.Inputs.{RanInOrder}
+use Rattle.load_command.specs.Inputs.{LoadRanInOrder}
 use Rattle.load_command.proofs.ComesOnly.{comes_only, ran_rose}
 use Rattle.load_command.proofs.ComesWhere.{comes_where}
 use Rattle.load_command.proofs.Completeness.{completes}
@@ -14,7 +14,7 @@ pub returns-clause-ran : goal.returns-clause-ran
 returns-clause-ran g c = record {
   status = c.answer_words-status.result.0;
   number_is = c.number.ensures;
-  holds = subst (λ (ws : List (List ℕ)). RanInOrder g.S.Source.left g.D.Disk.seen ws c.args.source c.answer_words-status.new.source c.args.disk c.answer_words-status.result.1 (g.K.Sink.held c.args.sink) (g.K.Sink.held c.answer_words-status.new.sink)
+  holds = subst (λ (ws : List (List ℕ)). LoadRanInOrder g.S.Source.left g.D.Disk.seen ws c.args.source c.answer_words-status.new.source c.args.disk c.answer_words-status.result.1 (g.K.Sink.held c.args.sink) (g.K.Sink.held c.answer_words-status.new.sink)
       (g.W.Witness.shown c.args.witness.now) (g.W.Witness.shown c.answer_words-status.new.witness) c.answer_words-status.result.0)
       (same_bytes c.as_slice.result.now c.args.words.items c.as_slice.ensures.value) c.answer_words-status.ensures.ran;
 }
