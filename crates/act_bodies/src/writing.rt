@@ -19,6 +19,8 @@ use setoff_model::{Key, Kind, Name, Outcome, put};
 pub fn encode(buffer: &mut Vec<u8>, caller: u32, pool: &Name, act: &Act)
     requires kept { is_keepable (called caller pool.now act.now) ≡ true }
     requires spare { body_length_of act.now + pool_bytes pool.now ≤ vec_capacity buffer.old }
+
+    // The buffer holds the body, and has no less room.
     ensures body { buffer.new.items ≡ body_of (called caller pool.now act.now) }
     ensures len { length buffer.new.items ≡ body_length_of act.now + pool_bytes pool.now }
     ensures room { vec_capacity buffer.old ≤ vec_capacity buffer.new }
@@ -47,6 +49,8 @@ fn put_pool(buffer: &mut Vec<u8>, pool: &Name)
 fn put_act(buffer: &mut Vec<u8>, act: &Act)
     requires valid { is_valid act.now ≡ true }
     requires spare { vec_len buffer.old + body_length_of act.now ≤ vec_capacity buffer.old + 4 }
+
+    // The fields stand behind what was there.
     ensures fields { buffer.new.items ≡ buffer.old.items ++ fields_of act.now }
     ensures len { vec_len buffer.new + 4 ≡ vec_len buffer.old + body_length_of act.now }
     ensures room { vec_capacity buffer.old ≤ vec_capacity buffer.new }
@@ -230,6 +234,8 @@ fn put_publish(buffer: &mut Vec<u8>, round: u32, outcome: &Outcome)
     requires discharges { length outcome.now.discharges ≤ MOST_CLAIMS }
     requires prices { length outcome.now.prices ≤ MOST_FIRMS }
     requires near { All (λ p. unsigned_abs p ≤ length outcome.now.prices) outcome.now.prices }
+
+    // The tag, the round and the outcome stand behind what was there.
     ensures text { buffer.new.items ≡ buffer.old.items ++ 14 ∷ four round ++ outcome_bytes outcome.now }
     ensures len { vec_len buffer.new ≡ vec_len buffer.old + 13 + (8 * length outcome.now.discharges + 4 * length outcome.now.prices) }
     ensures room { vec_capacity buffer.old ≤ vec_capacity buffer.new }
@@ -259,6 +265,8 @@ fn put_prices(buffer: &mut Vec<u8>, prices: &[i64])
     requires spare { vec_len buffer.old + 4 * length prices.now ≤ vec_capacity buffer.old }
     requires few { length prices.now ≤ MOST_FIRMS }
     requires near { All (λ p. unsigned_abs p ≤ length prices.now) prices.now }
+
+    // The prices stand behind what was there.
     ensures text { buffer.new.items ≡ buffer.old.items ++ flat_map (λ p. four (stored_price (length prices.now) p)) prices.now }
     ensures len { vec_len buffer.new ≡ vec_len buffer.old + 4 * length prices.now }
     ensures room { vec_capacity buffer.old ≤ vec_capacity buffer.new }
@@ -274,6 +282,8 @@ fn put_price(buffer: &mut Vec<u8>, n: u32, price: i64)
     requires spare { vec_len buffer.old + 4 ≤ vec_capacity buffer.old }
     requires few { n ≤ MOST_FIRMS }
     requires near { unsigned_abs price ≤ n }
+
+    // The price stands behind what was there.
     ensures text { buffer.new.items ≡ buffer.old.items ++ four (stored_price n price) }
     ensures len { vec_len buffer.new ≡ vec_len buffer.old + 4 }
     ensures room { vec_capacity buffer.old ≤ vec_capacity buffer.new }

@@ -71,11 +71,14 @@ impl Sink for BytesSink {
     /// memory for the piece.
     fn write(&mut self, piece: &[u8]) -> Result<usize, Failed>
         requires { 0 < length piece.now }
+
+        // It takes the front of the piece, or counts a fault.
         ensures some { IfOk result (λ count. 0 < count) }
         ensures bound { IfOk result (λ count. count ≤ length piece.now) }
         ensures bytes { WriteAppends (Some self.old.held) (Some self.new.held) result piece.now }
         ensures cause { CountsFaults self.old.faults self.new.faults result }
 
+        // It takes the whole piece or none, and fails at the calls that were named.
         ensures whole { IfOk result (λ count. count ≡ length piece.now) }
         ensures ok { OnOk result (self.new ≡ after_write piece.now self.old) }
         ensures named { is_to_fail self.old.fails self.old.calls ≡ true → IsErr result }

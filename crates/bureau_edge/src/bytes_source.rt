@@ -59,6 +59,7 @@ impl Source for BytesSource {
         ensures bytes { ReadConsumes (Some self.old.left) (Some self.new.left) result into.new }
         ensures cause { IsCounted self.old.faults self.new.faults result }
 
+        // It fails exactly at the calls that were named. Else it reads all that fits.
         ensures named { IsErr result ↔ (is_to_fail self.old.fails self.old.calls ≡ true) }
         ensures taken { IfOk result (λ count. count ≡ min (length self.old.left) (length into.old)) }
         ensures ok { IfOk result (λ count. self.new ≡ after_read count self.old) }

@@ -18,6 +18,8 @@ pub trait Sink {
     /// has taken none, if it tells what it holds, and has counted a fault. Else it has counted none.
     fn write(&mut self, piece: &[u8]) -> Result<usize, Failed>
         requires { 0 < length piece.now }
+
+        // It takes the front of the piece, or counts a fault.
         ensures some { IfOk result (λ count. 0 < count) }
         ensures bound { IfOk result (λ count. count ≤ length piece.now) }
         ensures bytes { WriteAppends (held self.old) (held self.new) result piece.now }

@@ -55,6 +55,7 @@ impl<I: Read> Source for StandardIn<I> {
         ensures bytes { ReadConsumes (I.remaining self.old.device) (I.remaining self.new.device) result into.new }
         ensures cause { IsCounted self.old.faults self.new.faults result }
 
+        // An error counts one fault, and nothing else does.
         ensures ok { OnOk result (self.new.faults ≡ self.old.faults) }
         ensures err { OnErr result (self.new.faults ≡ next_count self.old.faults) }
     {

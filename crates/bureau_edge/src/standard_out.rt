@@ -54,11 +54,14 @@ impl<W: Write> Sink for StandardOut<W> {
     /// either is a fault, and so are 64 interruptions in a row, and a writer that takes nothing.
     fn write(&mut self, piece: &[u8]) -> Result<usize, Failed>
         requires { 0 < length piece.now }
+
+        // It takes the front of the piece, or counts a fault.
         ensures some { IfOk result (λ count. 0 < count) }
         ensures bound { IfOk result (λ count. count ≤ length piece.now) }
         ensures bytes { WriteAppends None None result piece.now }
         ensures cause { CountsFaults self.old.faults self.new.faults result }
 
+        // What the writer takes, and how the faults are counted.
         ensures ok { OnOk result (self.new.faults ≡ self.old.faults) }
         ensures taken { IfOk result (λ count. Appends (W.contents self.old.device) (W.contents self.new.device) (take count piece.now)) }
         ensures err { OnErr result (self.new.faults ≡ next_count self.old.faults) }

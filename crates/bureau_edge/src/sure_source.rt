@@ -43,9 +43,12 @@ impl Source for SureSource {
 
     /// Moves as many bytes as are left and as the buffer has room for.
     fn read(&mut self, into: &mut [u8]) -> Result<usize, Failed>
+        // It reads from the front of what is left.
         ensures bound { ReadsAtMost result into.new }
         ensures bytes { ReadConsumes (Some self.old) (Some self.new) result into.new }
         ensures cause { IsCounted 0 0 result }
+
+        // It reads as much as there is room for, and never fails.
         ensures sure { result ≡ Ok (min (length self.old) (length into.old)) }
         ensures rest { self.new ≡ drop (length into.old) self.old }
     {

@@ -187,11 +187,16 @@ impl Book {
     /// stand next: its reply is that of the history, or tells of a device that failed where the act would be accepted. It takes
     /// no memory. Where a round is open, the room for its publication stays.
     pub fn apply(&mut self, entry: Entry)
+        // There is room for the entry, and its act is valid.
         requires room { room_for (state_of self.old.history) entry.act ≤ self.old.room }
         requires valid { is_valid entry.act ≡ true }
+
+        // It publishes nothing, opens no round, and may stand next.
         requires apart { is_publication entry.act ≡ false }
         requires no_opening { is_opening entry.reply ≡ false }
         requires next { MayFollowInPool self.old.history entry }
+
+        // The history with the entry, and the room that is left.
         ensures history { self.new.history ≡ self.old.history ++ entry ∷ [] }
         ensures room { self.old.room ≤ self.new.room + 1 }
         ensures kept { KeepsRoom self.old.history entry self.new.room }
@@ -208,13 +213,18 @@ impl Book {
     /// Puts the entry of a Close at the end that opens a round, and keeps the cut of the round, which is that of the history so
     /// far. The rest is as for `apply`.
     pub fn apply_close(&mut self, entry: Entry, cut: Cut)
+        // There is room for the entry, its act is valid, and one round more may be opened.
         requires room { room_for (state_of self.old.history) entry.act ≤ self.old.room }
         requires valid { is_valid entry.act ≡ true }
         requires few { (state_of self.old.history).openings < MOST_ROUNDS }
+
+        // It opens a round and may stand next, and this is the cut of the round.
         requires opens { is_opening entry.reply ≡ true }
         requires next { MayFollowInPool self.old.history entry }
         requires cut { (kind : Kind) (horizon : ℕ) → entry.act ≡ act.Close kind horizon
             → cut ≡ cut_of ((state_of self.old.history).openings + 1) (ledger_of self.old.history) kind horizon }
+
+        // The history with the entry, and the room that is left.
         ensures history { self.new.history ≡ self.old.history ++ entry ∷ [] }
         ensures room { self.old.room ≤ self.new.room + 1 }
         ensures kept { KeepsRoom self.old.history entry self.new.room }
@@ -243,6 +253,8 @@ impl Book {
         requires valid { is_valid entry.act ≡ true }
         requires publishes { is_publication entry.act ≡ true }
         requires next { MayFollowInPool self.old.history entry }
+
+        // The history with the entry, the room that is left, and the cut of a published round.
         ensures history { self.new.history ≡ self.old.history ++ entry ∷ [] }
         ensures room { self.old.room ≤ self.new.room + 1 }
         ensures kept { KeepsRoom self.old.history entry self.new.room }
@@ -324,9 +336,12 @@ impl Book {
     /// discharged above its amount nor its part above what is open, and the cut of the open round is frozen. No more rounds were
     /// opened than there are entries.
     pub fn history(&self) -> &[Entry]
+        // The entries, which are a legal history of valid acts.
         ensures entries { result.now ≡ self.now.history }
         ensures legal { IsLegalPool self.now.history }
         ensures valid { AreValidEntries self.now.history }
+
+        // What holds of the accounts, the claims and the rounds of this history.
         ensures limits { KeepLimits (ledger_of self.now.history) }
         ensures amounts { KeepAmounts (ledger_of self.now.history) }
         ensures frozen { OpenIsFrozen (state_of self.now.history) }
@@ -340,9 +355,12 @@ impl Book {
     ///
     /// They are those of a legal history of valid acts.
     pub fn claims(&self) -> &[ClaimFact]
+        // The claims, and what holds of their amounts.
         ensures claims { result.now ≡ claim_facts (ledger_of self.now.history) }
         ensures amounts { All (λ c. c.left ≤ c.amount) result.now }
         ensures parts { All (λ c. c.part ≤ c.left) result.now }
+
+        // The history is legal, and its acts are valid.
         ensures legal { IsLegalPool self.now.history }
         ensures valid { AreValidEntries self.now.history }
     {
@@ -388,9 +406,12 @@ impl Book {
 
 // Takes all marks off where a reply abandons the open round.
 fn unmark_ended(claims: &mut ClaimTable, accounts: &mut AccountTable, reply: Reply)
+    // Of the claims no more than the marks may change.
     ensures claims { claims.new.facts ≡ claims.old.facts }
     ensures claim_marks { claims.new.marks ≡ (if is_abandoned reply then no_marks claims.old.facts else claims.old.marks) }
     ensures claim_room { claims.new.room ≡ claims.old.room }
+
+    // Of the accounts no more than the marks may change.
     ensures accounts { accounts.new.facts ≡ accounts.old.facts }
     ensures account_marks { accounts.new.marks ≡ (if is_abandoned reply then no_marks accounts.old.facts else accounts.old.marks) }
     ensures account_room { accounts.new.room ≡ accounts.old.room }

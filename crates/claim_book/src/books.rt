@@ -97,6 +97,7 @@ impl Books {
     fn add_book(&mut self, pool: Name) -> Result<usize, AllocError>
         requires { position (λ r. same_name pool r.pool) self.old.rooms ≡ None }
 
+        // The members and all rooms are as they were, and the pool has its place.
         ensures members { self.new.members ≡ self.old.members }
         ensures rooms { (any : List ℕ) → room_in any self.new.rooms ≡ room_in any self.old.rooms }
         ensures place { IfOk result (λ place. position (λ r. same_name pool r.pool) self.new.rooms ≡ Some place) }
@@ -115,6 +116,7 @@ impl Books {
     fn add_room(&mut self, pool: Name, place: usize, act: &Act) -> Result<(), AllocError>
         requires { position (λ r. same_name pool r.pool) self.old.rooms ≡ Some place }
 
+        // The same members, with the room. An error comes only where there was less.
         ensures members { self.new.members ≡ self.old.members }
         ensures room { OnOk result (room_for (state_in self.old.members pool) act.now ≤ room_in pool self.new.rooms) }
         ensures kept { (any : List ℕ) → room_in any self.old.rooms ≤ room_in any self.new.rooms }
@@ -161,12 +163,16 @@ impl Books {
     /// at any member before it. It takes no memory, and lowers the room of no other pool. Where a round is open in its pool, the
     /// room for the round's publication stays.
     pub fn apply(&mut self, pool: Name, entry: Entry)
+        // There is room for the entry, and its act is valid.
         requires room { room_for (state_in self.old.members pool) entry.act ≤ room_in pool self.old.rooms }
         requires valid { is_valid entry.act ≡ true }
+
+        // It publishes nothing, opens no round, and may stand next.
         requires apart { is_publication entry.act ≡ false }
         requires no_opening { is_opening entry.reply ≡ false }
         requires next { MayFollow self.old.members (member_of pool entry) }
 
+        // The members with the entry, and the room that is left, in its pool and in the others.
         ensures members { self.new.members ≡ self.old.members ++ member_of pool entry ∷ [] }
         ensures room { room_in pool self.old.rooms ≤ room_in pool self.new.rooms + 1 }
         ensures kept { KeepsRoom (entries_in pool self.old.members) entry (room_in pool self.new.rooms) }
@@ -183,13 +189,17 @@ impl Books {
     /// Puts the entry of a Close of a pool at the end that opens a round, and keeps the cut of the round, which is that of the
     /// pool's entries so far. The rest is as for `apply`.
     pub fn apply_close(&mut self, pool: Name, entry: Entry, cut: Cut)
+        // There is room for the entry, its act is valid, and one round more may be opened.
         requires room { room_for (state_in self.old.members pool) entry.act ≤ room_in pool self.old.rooms }
         requires valid { is_valid entry.act ≡ true }
         requires few { (state_in self.old.members pool).openings < MOST_ROUNDS }
+
+        // It opens a round and may stand next, and this is the cut of the round.
         requires opens { is_opening entry.reply ≡ true }
         requires next { MayFollow self.old.members (member_of pool entry) }
         requires cut { IsCutDue self.old.members (call_of (member_of pool entry)) cut }
 
+        // The members with the entry, and the room that is left, in its pool and in the others.
         ensures members { self.new.members ≡ self.old.members ++ member_of pool entry ∷ [] }
         ensures room { room_in pool self.old.rooms ≤ room_in pool self.new.rooms + 1 }
         ensures kept { KeepsRoom (entries_in pool self.old.members) entry (room_in pool self.new.rooms) }
@@ -214,10 +224,13 @@ impl Books {
         requires publishes { is_publication entry.act ≡ true }
         requires next { MayFollow self.old.members (member_of pool entry) }
 
+        // The members with the entry, and the room that is left, in its pool and in the others.
         ensures members { self.new.members ≡ self.old.members ++ member_of pool entry ∷ [] }
         ensures room { room_in pool self.old.rooms ≤ room_in pool self.new.rooms + 1 }
         ensures kept { KeepsRoom (entries_in pool self.old.members) entry (room_in pool self.new.rooms) }
         ensures others { KeepsRooms pool self.old.rooms self.new.rooms }
+
+        // The cut of a round that was published is given.
         ensures cut { GivesCut (open_round_in self.old.members pool) entry result }
     {
         each_pool_has_its_history();

@@ -49,9 +49,12 @@ pub fn make_room(
     requires kept { kept.old.room ≤ kept.old.book.room }
     requires promised { promised.old ≤ vec_capacity places.old - vec_len places.old }
 
+    // The same history, with the room. An error comes only where there was less.
     ensures made { HasRoomMade kept.old kept.new }
     ensures room { OnOk result (room_for (state_of kept.old.book.history) act.now ≤ kept.new.room) }
     ensures needed { OnErr result (kept.old.room < room_for (state_of kept.old.book.history) act.now) }
+
+    // So many places more are promised, and there is memory for them.
     ensures promised { promised.new + kept.old.room ≡ promised.old + kept.new.room }
     ensures spare { promised.new ≤ vec_capacity places.new - vec_len places.new }
     ensures places { places.new.items ≡ places.old.items }
@@ -74,13 +77,17 @@ pub fn make_room(
 
 /// Applies an entry that publishes nothing and opens no round, and gives its place in the book.
 pub fn apply_in(kept: &mut PoolBook, entry: Entry) -> usize
+    // There is room for the entry, and its act is valid.
     requires kept { kept.old.room ≤ kept.old.book.room }
     requires room { room_for (state_of kept.old.book.history) entry.act ≤ kept.old.room }
     requires valid { is_valid entry.act ≡ true }
+
+    // It publishes nothing, opens no round, and may stand next.
     requires apart { is_publication entry.act ≡ false }
     requires no_opening { is_opening entry.reply ≡ false }
     requires next { MayFollowInPool kept.old.book.history entry }
 
+    // The entry stands at the end of the book, at this place.
     ensures grown { HasGrown kept.old kept.new entry }
     ensures at { result ≡ length kept.old.book.history }
 {
@@ -92,15 +99,19 @@ pub fn apply_in(kept: &mut PoolBook, entry: Entry) -> usize
 
 /// Applies the entry of a Close that opens a round, and gives its place in the book.
 pub fn close_in(kept: &mut PoolBook, entry: Entry, cut: Cut) -> usize
+    // There is room for the entry, its act is valid, and one round more may be opened.
     requires kept { kept.old.room ≤ kept.old.book.room }
     requires room { room_for (state_of kept.old.book.history) entry.act ≤ kept.old.room }
     requires valid { is_valid entry.act ≡ true }
     requires few { (state_of kept.old.book.history).openings < MOST_ROUNDS }
+
+    // It opens a round and may stand next, and this is the cut of the round.
     requires opens { is_opening entry.reply ≡ true }
     requires next { MayFollowInPool kept.old.book.history entry }
     requires cut { (kind : Kind) (horizon : ℕ) → entry.act ≡ acts.Close kind horizon
         → cut ≡ cut_of ((state_of kept.old.book.history).openings + 1) (ledger_of kept.old.book.history) kind horizon }
 
+    // The entry stands at the end of the book, at this place.
     ensures grown { HasGrown kept.old kept.new entry }
     ensures at { result ≡ length kept.old.book.history }
 {
@@ -112,12 +123,16 @@ pub fn close_in(kept: &mut PoolBook, entry: Entry, cut: Cut) -> usize
 
 /// Applies the entry of a publication, and gives its place in the book, and the cut where it is accepted.
 pub fn publish_in(kept: &mut PoolBook, entry: Entry) -> (usize, Option<Cut>)
+    // There is room for the entry, and its act is valid.
     requires kept { kept.old.room ≤ kept.old.book.room }
     requires room { room_needed (state_of kept.old.book.history) entry.caller entry.act ≤ kept.old.room }
     requires valid { is_valid entry.act ≡ true }
+
+    // It is a publication, and may stand next.
     requires publishes { is_publication entry.act ≡ true }
     requires next { MayFollowInPool kept.old.book.history entry }
 
+    // The entry stands at the end of the book, at this place, and the cut of its round is given.
     ensures grown { HasGrown kept.old kept.new entry }
     ensures at { result.0 ≡ length kept.old.book.history }
     ensures cut { GivesCut (state_of kept.old.book.history).open_round entry result.1 }

@@ -94,9 +94,12 @@ pub fn room_for_endings_is_kept()
 /// reserved, its own, and in place of the open round of its pool the one that is open there afterwards. It is full exactly where
 /// one of its two needs is above its limit.
 pub fn use_is_counted()
+    // What a history uses and reserves.
     ensures growth { UseLaw }
     ensures calls { CallsLaw }
     ensures reserve { ReserveLaw }
+
+    // What a call needs, and where it is full.
     ensures needs { NeedsLaw }
     ensures full { FullLaw }
 {}

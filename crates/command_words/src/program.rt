@@ -69,6 +69,8 @@ fn add<'a>(
     values: &[(&'a str, bool)],
 ) -> Result<(), AllocError>
     requires { vec_len commands.old < vec_capacity commands.old }
+
+    // The command stands at the end, in the room that there was.
     ensures shapes { OnOk result (map (λ c. made c) commands.new.items
         ≡ map (λ c. made c) commands.old.items ++ shape_of name.entry.now (map (λ v. value_of v.0.now v.1) values.now) ∷ []) }
     ensures local { All (λ c. (out-Command c).has_globals ≡ false) commands.old.items

@@ -81,6 +81,8 @@ pub fn triangle(rt: &impl Abort, alloc: Global) -> Vec<Act> {
 // Makes the room that an act needs. The test ends where it is not valid or a publication, or where many rounds were opened.
 fn make_room(rt: &impl Abort, book: &mut Book, act: &Act)
     ensures history { book.new.history ≡ book.old.history }
+
+    // The act is valid and no publication, and there is room for it.
     ensures valid { is_valid act.now ≡ true }
     ensures apart { is_publication act.now ≡ false }
     ensures few { (state_of book.new.history).openings < MOST_ROUNDS }

@@ -56,6 +56,8 @@ fn one_reads<R: Wait + Abort>(
 )
     requires left { All (λ r. r.board ≡ board.old.table.board) left.old.items }
     requires back { All (λ r. r.board ≡ board.old.table.board) back.old.items }
+
+    // The board stays as it was, and one reader went to the other list.
     ensures same { board.new ≡ board.old }
     ensures left { All (λ r. r.board ≡ board.old.table.board) left.new.items }
     ensures back { All (λ r. r.board ≡ board.old.table.board) back.new.items }
@@ -148,6 +150,8 @@ fn one_sees<R: Wait + Abort>(
 )
     requires left { All (λ r. r.board ≡ board.old.table.board) left.old.items }
     requires back { All (λ r. r.board ≡ board.old.table.board) back.old.items }
+
+    // The board stays as it was, and one reader went to the other list.
     ensures same { board.new ≡ board.old }
     ensures back { All (λ r. r.board ≡ board.old.table.board) back.new.items }
     ensures count { length back.new.items ≡ length back.old.items + 1 }
@@ -172,6 +176,8 @@ fn thousand_read<R: Wait + Abort>(
 ) -> Vec<BoardReader>
     requires same { board.old.table.history ≡ book.old.history }
     requires left { All (λ r. r.board ≡ board.old.table.board) left.old.items }
+
+    // The one reader reads this board, which has as many as before.
     ensures back { All (λ r. r.board ≡ board.new.table.board) result.items }
     ensures count { length result.items ≡ 1 }
     ensures readers { board.new.readers ≡ board.old.readers }

@@ -56,6 +56,8 @@ fn read_beside<R: Threads + Wait + Abort + Sync>(
     due: &[Option<Row>],
 )
     requires { board.old.table.history ≡ book.old.history }
+
+    // It is the same board for as many readers, and each of the two keeps its own.
     ensures board { board.new.table.board ≡ board.old.table.board }
     ensures readers { board.new.readers ≡ board.old.readers }
     ensures one { one.new.board ≡ one.old.board }
@@ -116,6 +118,8 @@ fn both_read<R: Threads + Wait + Abort + Sync>(
 ) -> Vec<BoardReader>
     requires same { board.old.table.history ≡ book.old.history }
     requires own { All (λ r. r.board ≡ board.old.table.board) readers.old.items }
+
+    // Both read this board, which has as many readers as before.
     ensures own { All (λ r. r.board ≡ board.new.table.board) result.items }
     ensures count { length result.items ≡ 2 }
     ensures readers { board.new.readers ≡ board.old.readers }

@@ -218,6 +218,7 @@ impl Disk for MemoryDisk {
         ensures crash { Passes (seen_of self.old) (seen_of self.new) (IsPresent (seen_of self.old)) }
         ensures cause { IsCounted self.old.faults self.new.faults result }
 
+        // The state after it, and where it fails.
         ensures ok { OnOk result (memory_state self.new ≡ after_quiet Waited (memory_state self.old)) }
         ensures named { is_named (memory_state self.old) ≡ true → IsErr result }
         ensures err { OnErr result (HasFailed (memory_state self.old) (memory_state self.new)) }
@@ -229,11 +230,14 @@ impl Disk for MemoryDisk {
     /// Fills `into` with the bytes from `at` on. It fails as `len` does.
     fn read_at(&mut self, at: u64, into: &mut [u8]) -> Result<(), DiskFailed>
         requires { at + length into.old ≤ length self.old.bytes.items }
+
+        // The bytes from there on, what a crash leaves meanwhile, and the cause of an error.
         ensures read { OnOk result (into.new ≡ take (length into.old) (drop at self.old.bytes.items)) }
         ensures reads { self.new.bytes.items ≡ self.old.bytes.items }
         ensures crash { Passes (seen_of self.old) (seen_of self.new) (IsPresent (seen_of self.old)) }
         ensures cause { IsCounted self.old.faults self.new.faults result }
 
+        // The state after it, and where it fails.
         ensures ok { OnOk result (memory_state self.new ≡ after_quiet Waited (memory_state self.old)) }
         ensures named { is_named (memory_state self.old) ≡ true → IsErr result }
         ensures err { OnErr result (HasFailed (memory_state self.old) (memory_state self.new)) }
@@ -248,12 +252,17 @@ impl Disk for MemoryDisk {
     fn write_at(&mut self, at: u64, piece: &[u8]) -> Result<(), DiskFailed>
         requires place { at ≤ length self.old.bytes.items }
         requires end { at + length piece.now < 2 ^ 62 }
+
+        // What a read gives then, also after an error.
         ensures written { OnOk result (Holds self.old.bytes.items at piece.now self.new.bytes.items) }
         ensures torn { Torn at (length piece.now) self.old.bytes.items self.new.bytes.items }
         ensures passes { OnOk result ((seen_of self.old).moment < (seen_of self.new).moment) }
+
+        // What a crash leaves meanwhile, and the cause of an error.
         ensures crash { Passes (seen_of self.old) (seen_of self.new) (After (Torn at (length piece.now)) (IsPresent (seen_of self.old))) }
         ensures cause { IsCounted self.old.faults self.new.faults result }
 
+        // The state after it, and where it fails.
         ensures ok { OnOk result ((kept : _) × (kept.items ≡ piece.now)
             × (memory_state self.new ≡ after_write at kept (memory_state self.old))) }
         ensures named { is_named (memory_state self.old) ≡ true → IsErr result }
@@ -270,12 +279,16 @@ impl Disk for MemoryDisk {
 
     /// After it, a crash leaves what a read gives. It fails as `len` does.
     fn sync(&mut self) -> Result<(), DiskFailed>
+        // What a crash leaves after it. The bytes stay as they were.
         ensures durable { OnOk result (Only self.old.bytes.items (IsPresent (seen_of self.new))) }
         ensures passes { OnOk result ((seen_of self.old).moment < (seen_of self.new).moment) }
         ensures reads { self.new.bytes.items ≡ self.old.bytes.items }
+
+        // What a crash leaves meanwhile, and the cause of an error.
         ensures crash { Passes (seen_of self.old) (seen_of self.new) (IsPresent (seen_of self.old)) }
         ensures cause { IsCounted self.old.faults self.new.faults result }
 
+        // The state after it, and where it fails.
         ensures ok { OnOk result (memory_state self.new ≡ after_quiet Synced (memory_state self.old)) }
         ensures named { is_named (memory_state self.old) ≡ true → IsErr result }
         ensures err { OnErr result (HasFailed (memory_state self.old) (memory_state self.new)) }

@@ -75,6 +75,8 @@ fn write_position(buffer: &mut Vec<u8>, position: &Position)
     requires receivable { position.now.receivable < SUM_LIMIT }
     requires payable { position.now.payable < SUM_LIMIT }
     requires spare { vec_len buffer.old + REPLY_BYTES ≤ vec_capacity buffer.old }
+
+    // The text of the position stands behind what there was.
     ensures { Writes buffer.old buffer.new (position_text position.now) REPLY_BYTES }
 {
     put(buffer, b"balance ");
@@ -182,6 +184,7 @@ pub fn write_member(buffer: &mut Vec<u8>, pool: &Name, entry: &Entry)
     requires range { IsReplyInRange entry.now.reply }
     requires spare { vec_len buffer.old + LINE_BYTES ≤ vec_capacity buffer.old }
 
+    // The line of the entry stands behind what there was.
     ensures { Writes buffer.old buffer.new (entry_line (member_of pool.now entry.now)) LINE_BYTES }
 {
     write_caller(buffer, entry.caller);
@@ -197,6 +200,7 @@ pub fn write_pool_entry(buffer: &mut Vec<u8>, entry: &PoolEntry)
     requires range { IsReplyInRange entry.now.entry.reply }
     requires spare { vec_len buffer.old + LINE_BYTES ≤ vec_capacity buffer.old }
 
+    // The line of the entry stands behind what there was.
     ensures { Writes buffer.old buffer.new (entry_line entry.now) LINE_BYTES }
 {
     write_member(buffer, &entry.pool, &entry.entry);

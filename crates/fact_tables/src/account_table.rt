@@ -65,8 +65,11 @@ impl AccountTable {
     ///
     /// The only error is that memory is missing. It comes only where there was less room.
     pub fn reserve(&mut self, accounts: usize) -> Result<(), AllocError>
+        // The accounts and marks are as they were.
         ensures facts { self.new.facts ≡ self.old.facts }
         ensures marks { self.new.marks ≡ self.old.marks }
+
+        // There is the room, and no less than before. An error comes only where there was less.
         ensures room { OnOk result (accounts ≤ self.new.room) }
         ensures kept { self.old.room ≤ self.new.room }
         ensures needed { OnErr result (self.old.room < accounts) }
@@ -146,6 +149,8 @@ impl AccountTable {
         requires room { 0 < self.old.room }
         requires valid { is_valid entry.now.act ≡ true }
         requires accounts { AreAccounts (accounts_with entry.now self.old.facts) }
+
+        // The accounts and marks with the entry, and the room that is left.
         ensures facts { self.new.facts ≡ accounts_with entry.now self.old.facts }
         ensures marks { self.new.marks ≡ account_marks_with entry.now self.old.marks }
         ensures room { self.old.room ≤ self.new.room + 1 }
@@ -164,6 +169,8 @@ impl AccountTable {
         requires formed { WellFormed cut.now }
         requires total { total_of discharges.now < SUM_LIMIT }
         requires small { AreSmall (map (settled_account (record { cut = cut.now; discharges = discharges.now })) self.old.facts) }
+
+        // The accounts are settled. All else is as it was.
         ensures facts { self.new.facts ≡ map (settled_account (record { cut = cut.now; discharges = discharges.now })) self.old.facts }
         ensures marks { self.new.marks ≡ self.old.marks }
         ensures room { self.new.room ≡ self.old.room }
@@ -207,15 +214,22 @@ fn find_account(accounts: &[AccountFact], names: &NameIndex, firm: &Name) -> Opt
 
 // Changes the accounts as `AccountTable::apply` does.
 fn change_accounts(accounts: &mut Vec<AccountFact>, names: &mut NameIndex, entry: &Entry)
+    // There is room for one account more, and the index has the firms of the accounts.
     requires room { vec_len accounts.old < vec_capacity accounts.old }
     requires names_room { 0 < names.old.room }
     requires names { names.old.names ≡ map (λ a. a.firm) accounts.old.items }
+
+    // The accounts may stand before and after, and the act is valid.
     requires after { FirmsOnce (accounts_with entry.now accounts.old.items) }
     requires once { FirmsOnce accounts.old.items }
     requires small { AreSmall accounts.old.items }
     requires valid { is_valid entry.now.act ≡ true }
+
+    // The accounts with the entry, and the index of their firms.
     ensures items { accounts.new.items ≡ accounts_with entry.now accounts.old.items }
     ensures names { names.new.names ≡ map (λ a. a.firm) accounts.new.items }
+
+    // One place is taken at most.
     ensures names_room { names.old.room ≤ names.new.room + 1 }
     ensures len { vec_len accounts.new ≤ vec_len accounts.old + 1 }
     ensures capacity { vec_capacity accounts.old ≤ vec_capacity accounts.new }
@@ -243,11 +257,16 @@ fn mark_new(marks: &mut Vec<bool>, entry: &Entry)
 
 // Changes the account that an act names, which registers no firm.
 fn change_account(accounts: &mut [AccountFact], names: &NameIndex, act: &Act)
+    // The accounts may stand, and the index has their firms.
     requires names { names.now.names ≡ map (λ a. a.firm) accounts.old }
     requires once { FirmsOnce accounts.old }
     requires small { AreSmall accounts.old }
+
+    // The act is valid, and registers no firm.
     requires valid { is_valid act.now ≡ true }
     requires other { RegistersNone act.now }
+
+    // The accounts after the act.
     ensures { accounts.new ≡ accounts_after act.now accounts.old }
 {
     match act {
@@ -280,8 +299,12 @@ fn add_account(accounts: &mut Vec<AccountFact>, names: &mut NameIndex, firm: &Na
     requires room { vec_len accounts.old < vec_capacity accounts.old }
     requires names_room { 0 < names.old.room }
     requires new { list_any (same_name firm.now) names.old.names ≡ false }
+
+    // The index has one firm more.
     ensures names { names.new.names ≡ names.old.names ++ firm.now ∷ [] }
     ensures names_room { names.old.room ≤ names.new.room + 1 }
+
+    // There is one account more, that of the firm.
     ensures items { accounts.new.items ≡ accounts.old.items ++ new_account firm.now ∷ [] }
     ensures len { vec_len accounts.new ≡ vec_len accounts.old + 1 }
     ensures capacity { vec_capacity accounts.old ≤ vec_capacity accounts.new }
@@ -308,6 +331,8 @@ fn fund(
     requires once { FirmsOnce accounts.old }
     requires near { AreWithin (3 * SUM_LIMIT) accounts.old }
     requires amount { amount < SUM_LIMIT }
+
+    // The account of the firm, if it has one, has so much more.
     ensures { accounts.new ≡ map (funded firm.now amount) accounts.old }
 {
     match account_near(accounts, names, guess, firm) {
@@ -332,6 +357,8 @@ fn draw(
     requires once { FirmsOnce accounts.old }
     requires near { AreWithin (3 * SUM_LIMIT) accounts.old }
     requires amount { amount < SUM_LIMIT }
+
+    // The account of the firm, if it has one, has so much less.
     ensures { accounts.new ≡ map (drawn firm.now amount) accounts.old }
 {
     match account_near(accounts, names, guess, firm) {
@@ -380,12 +407,17 @@ fn discharge_accounts(
     cut: &Cut,
     discharges: &[u64],
 )
+    // The accounts may stand, and the index has their firms.
     requires names { names.now.names ≡ map (λ a. a.firm) accounts.old }
     requires once { FirmsOnce accounts.old }
     requires small { AreSmall accounts.old }
+
+    // The cut is well formed, with a discharge for each claim, and their total is small.
     requires one_each { length discharges.now ≡ length cut.now.claims }
     requires formed { WellFormed cut.now }
     requires total { total_of discharges.now < SUM_LIMIT }
+
+    // Each account is settled.
     ensures { accounts.new ≡ map (settled_account (record { cut = cut.now; discharges = discharges.now })) accounts.old }
 {
     let parties = cut.parties();

@@ -66,8 +66,11 @@ impl ClaimTable {
     ///
     /// The only error is that memory is missing. It comes only where there was less room.
     pub fn reserve(&mut self, claims: usize) -> Result<(), AllocError>
+        // The claims and marks are as they were.
         ensures facts { self.new.facts ≡ self.old.facts }
         ensures marks { self.new.marks ≡ self.old.marks }
+
+        // There is the room, and no less than before. An error comes only where there was less.
         ensures room { OnOk result (claims ≤ self.new.room) }
         ensures kept { self.old.room ≤ self.new.room }
         ensures needed { OnErr result (self.old.room < claims) }
@@ -149,6 +152,8 @@ impl ClaimTable {
     pub fn apply(&mut self, entry: &Entry)
         requires room { 0 < self.old.room }
         requires stand { MayStand (claims_with entry.now self.old.facts) }
+
+        // The claims and marks with the entry, and the room that is left.
         ensures facts { self.new.facts ≡ claims_with entry.now self.old.facts }
         ensures marks { self.new.marks ≡ claim_marks_with entry.now self.old.marks }
         ensures room { self.old.room ≤ self.new.room + 1 }
@@ -187,6 +192,8 @@ impl ClaimTable {
     pub fn discharge(&mut self, cut: &Cut, discharges: &[u64])
         requires one_each { length discharges.now ≡ length cut.now.claims }
         requires formed { WellFormed cut.now }
+
+        // The claims are settled. All else is as it was.
         ensures facts { self.new.facts ≡ map (settled_claim (record { cut = cut.now; discharges = discharges.now })) self.old.facts }
         ensures marks { self.new.marks ≡ self.old.marks }
         ensures room { self.new.room ≡ self.old.room }
@@ -239,6 +246,8 @@ impl ClaimTable {
     fn add_claim(&mut self, key: &Key, debtor: &Name, amount: u64, due: &Day)
         requires room { 0 < self.old.room }
         requires stand { MayStand (self.old.facts ++ new_claim key.now debtor.now amount due.now ∷ []) }
+
+        // The claim stands at the end, without a mark.
         ensures facts { self.new.facts ≡ self.old.facts ++ new_claim key.now debtor.now amount due.now ∷ [] }
         ensures marks { self.new.marks ≡ self.old.marks ++ false ∷ [] }
         ensures room { self.old.room ≤ self.new.room + 1 }
@@ -327,6 +336,8 @@ impl ClaimTable {
         requires key { claim.key ≡ (get_or self.old.facts place claim).key }
         requires debtor { claim.debtor ≡ (get_or self.old.facts place claim).debtor }
         requires small { sum_by (λ c. c.part) (set self.old.facts place claim) < 2 ^ 64 }
+
+        // The claim stands at its place. All else is as it was.
         ensures facts { self.new.facts ≡ set self.old.facts place claim }
         ensures marks { self.new.marks ≡ self.old.marks }
         ensures room { self.new.room ≡ self.old.room }

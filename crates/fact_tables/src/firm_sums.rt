@@ -47,8 +47,11 @@ impl FirmSums {
     ///
     /// The only error is that memory is missing. It comes only where there was less room.
     pub(crate) fn reserve(&mut self, firms: usize) -> Result<(), AllocError>
+        // The firms and sums are as they were.
         ensures firms { self.new.firms ≡ self.old.firms }
         ensures sums { self.new.sums ≡ self.old.sums }
+
+        // There is the room, and no less than before. An error comes only where there was less.
         ensures room { OnOk result (firms ≤ self.new.room) }
         ensures kept { self.old.room ≤ self.new.room }
         ensures needed { OnErr result (self.old.room < firms) }
@@ -70,6 +73,8 @@ impl FirmSums {
     /// Begins the sum of a firm with 0, where it has none. There is room for it, so this takes no memory.
     pub(crate) fn begin(&mut self, firm: &Name)
         requires { 0 < self.old.room }
+
+        // The firm has a sum, and each sum is as it was. One place is taken at most.
         ensures begun { has_sum self.new firm.now ≡ true }
         ensures known { (other : List ℕ) → has_sum self.old other ≡ true → has_sum self.new other ≡ true }
         ensures sums { (other : List ℕ) → sum_of self.new other ≡ sum_of self.old other }
@@ -87,6 +92,8 @@ impl FirmSums {
         requires known { has_sum self.old firm.now ≡ true }
         requires enough { less ≤ sum_of self.old firm.now }
         requires fits { sum_of self.old firm.now - less + more < 2 ^ 64 }
+
+        // The sum of this firm has changed. All else is as it was.
         ensures known { (other : List ℕ) → has_sum self.new other ≡ has_sum self.old other }
         ensures sums { (other : List ℕ) → sum_of self.new other
             ≡ (if same_name firm.now other then sum_of self.old other - less + more else sum_of self.old other) }

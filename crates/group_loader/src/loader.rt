@@ -98,10 +98,12 @@ impl<D: Disk> Loader<D> {
         requires apart { is_publication call.act ≡ false }
         requires other { is_close call.act ≡ false }
 
-        // It has its entry with the reply that is due, or this is why it has none.
+        // It has its entry with the reply that is due.
         ensures due { IfOk result (λ got. got ≡ due_reply self.old.books.members call) }
         ensures entry { IfOk result (λ got. self.new.books.members ≡ self.old.books.members ++ answered call got ∷ []) }
         ensures fits { OnOk result (is_full self.old.books.members call ≡ false) }
+
+        // Or this is why it has none. The history and the group are as they were.
         ensures error { IfErr result (IsLoadError self.old.books.members call) }
         ensures untouched { OnErr result ((self.new.books.members ≡ self.old.books.members) × (self.new.group ≡ self.old.group)) }
         ensures left { IfErr result (IsLeftBy self.old self.new) }
@@ -231,6 +233,8 @@ fn make_room(books: &mut LimitedBooks, body: &mut Vec<u8>, call: &Call) -> Resul
 fn hold(group: &mut Group, body: &mut Vec<u8>, call: &Call, due: Reply) -> Result<(), AllocError>
     requires keepable { is_keepable call.now ≡ true }
     requires spare { body_length_of call.now.act + pool_bytes call.now.pool ≤ vec_capacity body.old }
+
+    // The record of an accepted call is in the group. Else the group is as it was.
     ensures held { OnOk result (is_no_refusal due ≡ true → Holding group.old group.new call.now) }
     ensures same { OnOk result (is_no_refusal due ≡ false → group.new ≡ group.old) }
     ensures error { OnErr result (group.new ≡ group.old) }

@@ -93,6 +93,8 @@ impl Intake {
     /// What is known of each intake, as the batches of the lines that were read. It does nothing when it is called.
     pub fn batches(&self)
         ensures batches { HasBatches self.now }
+
+        // How large the counts of an intake may be.
         ensures within { self.now.read ≤ length self.now.taken }
         ensures held { length self.now.taken ≤ self.now.limit + 1 }
         ensures numbered { self.now.lines ≤ length self.now.taken }

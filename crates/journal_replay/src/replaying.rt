@@ -43,6 +43,8 @@ fn replay_all(
 ) -> Result<(), ReplayStop>
     requires keepable { AreKeepable records.items }
     requires empty { books.old.members ≡ [] }
+
+    // The books have the calls of all records, or this is why not.
     ensures history { OnOk result (books.new.members ≡ history_of records.items) }
     ensures sound { OnOk result (AreSound records.items) }
     ensures stopped { IfErr result (StopsFirst records.items) }
@@ -86,6 +88,8 @@ fn replay_act(books: &mut LimitedBooks, offset: u64, call: Call) -> Result<(), R
     requires valid { is_valid call.act ≡ true }
     requires apart { is_publication call.act ≡ false }
     requires other { is_close call.act ≡ false }
+
+    // The call is the last member, or this is why not.
     ensures done { OnOk result (IsReplayed books.old.members books.new.members call) }
     ensures stopped { IfErr result (Tells books.old.members offset call) }
 {
@@ -101,12 +105,16 @@ fn put_reply(
     call: Call,
     reply: Reply,
 ) -> Result<(), ReplayStop>
+    // The call publishes nothing and opens no round.
     requires valid { is_valid call.act ≡ true }
     requires apart { is_publication call.act ≡ false }
     requires no_opening { is_opening reply ≡ false }
+
+    // The reply is the one that is due, and there is the room.
     requires due { reply ≡ due_reply books.old.members call }
     requires room { room_for (state_in books.old.members call.pool) call.act ≤ room_in call.pool books.old.rooms }
 
+    // The call is the last member, or this is why not.
     ensures done { OnOk result (IsReplayed books.old.members books.new.members call) }
     ensures stopped { IfErr result (Tells books.old.members offset call) }
 {
@@ -149,12 +157,16 @@ fn replay_opening(
     call: Call,
     reply: Reply,
 ) -> Result<(), ReplayStop>
+    // The call is a Close that opens a round.
     requires valid { is_valid call.act ≡ true }
     requires closes { is_close call.act ≡ true }
     requires opens { is_opening reply ≡ true }
+
+    // The reply is the one that is due, and there is the room.
     requires due { reply ≡ due_reply books.old.members call }
     requires room { room_for (state_in books.old.members call.pool) call.act ≤ room_in call.pool books.old.rooms }
 
+    // The call is the last member, or this is why not.
     ensures done { OnOk result (IsReplayed books.old.members books.new.members call) }
     ensures stopped { IfErr result (Tells books.old.members offset call) }
 {

@@ -16,6 +16,8 @@ fn put_publication(book: &mut Book, entry: Entry) -> Result<Option<Cut>, AllocEr
     requires valid { is_valid entry.act ≡ true }
     requires publishes { is_publication entry.act ≡ true }
     requires next { MayFollowInPool book.old.history entry }
+
+    // With memory, the entry stands at the end, and this is the cut of the round it publishes.
     ensures history { OnOk result (book.new.history ≡ book.old.history ++ entry ∷ []) }
     ensures cut { IfOk result (λ cut. cut ≡ cut_ended (open_cut_of book.old.history) entry.reply) }
 {
@@ -29,6 +31,8 @@ fn put_opening(alloc: Global, book: &mut Book, entry: Entry, round: u32) -> Resu
     requires closes { is_close entry.act ≡ true }
     requires opens { entry.reply ≡ reply.Opened round }
     requires next { MayFollowInPool book.old.history entry }
+
+    // With memory, the entry stands at the end.
     ensures { OnOk result (book.new.history ≡ book.old.history ++ entry ∷ []) }
 {
     let _ = round;
@@ -47,6 +51,8 @@ fn put_other(book: &mut Book, entry: Entry) -> Result<(), AllocError>
     requires apart { is_publication entry.act ≡ false }
     requires no_opening { is_opening entry.reply ≡ false }
     requires next { MayFollowInPool book.old.history entry }
+
+    // With memory, the entry stands at the end.
     ensures { OnOk result (book.new.history ≡ book.old.history ++ entry ∷ []) }
 {
     book.reserve(&entry.act)?;

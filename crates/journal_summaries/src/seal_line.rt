@@ -19,6 +19,8 @@ use std::alloc::{AllocError, Global};
 // Puts the body of an act by caller 1 into a buffer. The first four bytes are the caller's, and no others tell it.
 fn put_body(body: &mut Vec<u8>, pool: &Name, act: &Act) -> Result<u64, AllocError>
     requires { is_valid act.now ≡ true }
+
+    // With memory, the body is in the buffer, and this is its length.
     ensures body { OnOk result (body.new.items ≡ body_of (called 1 pool.now act.now)) }
     ensures length { IfOk result (λ n. n ≡ length (body_of (called 1 pool.now act.now))) }
     ensures least { IfOk result (λ n. 5 ≤ n) }

@@ -101,6 +101,7 @@ impl LimitedBooks {
         // Each round was opened by an entry.
         ensures openings { (pool : List ℕ) → (state_in self.now.members pool).openings ≤ result.entries }
 
+        // The history is legal, its acts are valid, and each was within the limits when asked.
         ensures legal { IsLegal self.now.members }
         ensures valid { AreValid self.now.members }
         ensures within { IsWithinLimits self.now.members }
@@ -191,6 +192,8 @@ impl LimitedBooks {
         requires valid { is_valid call.now.act ≡ true }
         requires due { reply ≡ due_reply self.now.members call.now }
         requires no_opening { is_opening reply ≡ false }
+
+        // It is within the limits, or this is why not.
         ensures fits { IfOk result (λ _. is_full self.now.members call.now ≡ false) }
         ensures full { IfErr result (IsFull self.now.members call.now) }
     {
@@ -240,13 +243,17 @@ impl LimitedBooks {
     /// Puts an entry of a pool at the end that publishes nothing and opens no round, as `Books::apply` does. Its call is within
     /// the limits. It takes no memory.
     pub fn apply(&mut self, pool: Name, entry: Entry)
+        // There is room for the entry, which is valid, publishes nothing and opens no round.
         requires room { room_for (state_in self.old.members pool) entry.act ≤ room_in pool self.old.rooms }
         requires valid { is_valid entry.act ≡ true }
         requires apart { is_publication entry.act ≡ false }
         requires no_opening { is_opening entry.reply ≡ false }
+
+        // It may stand next, and its call is within the limits.
         requires next { MayFollow self.old.members (member_of pool entry) }
         requires fits { Fits self.old.members (call_of (member_of pool entry)) }
 
+        // The members with the entry, and the room that is left, in its pool and in the others.
         ensures members { self.new.members ≡ self.old.members ++ member_of pool entry ∷ [] }
         ensures room { room_in pool self.old.rooms ≤ room_in pool self.new.rooms + 1 }
         ensures kept { KeepsRoom (entries_in pool self.old.members) entry (room_in pool self.new.rooms) }
@@ -263,13 +270,17 @@ impl LimitedBooks {
     /// Puts the entry of a Close of a pool at the end that opens a round, as `Books::apply_close` does, with the cut of that
     /// round. Its call is within the limits. It takes no memory.
     pub fn apply_close(&mut self, pool: Name, entry: Entry, cut: Cut)
+        // There is room for the entry, which is valid and opens a round.
         requires room { room_for (state_in self.old.members pool) entry.act ≤ room_in pool self.old.rooms }
         requires valid { is_valid entry.act ≡ true }
         requires opens { is_opening entry.reply ≡ true }
+
+        // It may stand next, this is the cut of the round, and the call is within the limits.
         requires next { MayFollow self.old.members (member_of pool entry) }
         requires cut { IsCutDue self.old.members (call_of (member_of pool entry)) cut }
         requires fits { Fits self.old.members (call_of (member_of pool entry)) }
 
+        // The members with the entry, and the room that is left, in its pool and in the others.
         ensures members { self.new.members ≡ self.old.members ++ member_of pool entry ∷ [] }
         ensures room { room_in pool self.old.rooms ≤ room_in pool self.new.rooms + 1 }
         ensures kept { KeepsRoom (entries_in pool self.old.members) entry (room_in pool self.new.rooms) }
@@ -289,17 +300,23 @@ impl LimitedBooks {
     /// it is accepted. A call that is refused is within the limits; the room for one that is accepted was kept. It takes no
     /// memory.
     pub fn apply_publish(&mut self, pool: Name, entry: Entry) -> Option<Cut>
+        // There is room for the entry, which is valid and a publication.
         requires room { room_needed (state_in self.old.members pool) entry.caller entry.act ≤ room_in pool self.old.rooms }
         requires valid { is_valid entry.act ≡ true }
         requires publishes { is_publication entry.act ≡ true }
+
+        // It may stand next, and where its call is refused it is within the limits.
         requires next { MayFollow self.old.members (member_of pool entry) }
         requires fits { is_no_refusal (due_reply self.old.members (call_of (member_of pool entry))) ≡ false
             → Fits self.old.members (call_of (member_of pool entry)) }
 
+        // The members with the entry, and the room that is left, in its pool and in the others.
         ensures members { self.new.members ≡ self.old.members ++ member_of pool entry ∷ [] }
         ensures room { room_in pool self.old.rooms ≤ room_in pool self.new.rooms + 1 }
         ensures kept { KeepsRoom (entries_in pool self.old.members) entry (room_in pool self.new.rooms) }
         ensures others { KeepsRooms pool self.old.rooms self.new.rooms }
+
+        // The cut of a round that was published is given.
         ensures cut { GivesCut (open_round_in self.old.members pool) entry result }
     {
         let used = self.used();

@@ -90,6 +90,8 @@ pub(crate) fn begin<K: Sink, W: Witness<K, D>, D: Disk>(
     ensures empty { IfOk result (λ b. b.room.buffer.items ≡ []) }
     ensures spare { IfOk result (λ b. OUTPUT_BYTES ≤ vec_capacity b.room.buffer) }
     ensures list { IfOk result (λ b. GROUP_LINES ≤ vec_capacity b.room.answers) }
+
+    // Where none has begun, the reason was written or the sink failed. Else it did not fail.
     ensures kept { IfOk result (λ _. K.faults sink.new ≡ K.faults sink.old) }
     ensures wrote { IfErr result (λ e. WroteInOrder D.seen e.disk (λ taken. IsLoadNotBegunDue D.seen taken disk e.disk) (K.held sink.old)
         (K.held sink.new) (W.shown witness.old) (W.shown witness.new) e.status) }

@@ -20,6 +20,8 @@ pub fn spread(alloc: Global, cut: &Cut, net: &Net, flows: &[u64]) -> Result<Vec<
     requires net { IsNetOf cut.now net.now }
     requires one_each { length flows.now ≡ length net.now.arcs }
     requires within { (a : ℕ) → a < length net.now.arcs → slice_index flows.now a ≤ slice_index (arc_amounts net.now.arcs) a }
+
+    // The flows are spread, and the discharges are lawful and greatest where the flows are.
     ensures spread { IfOk result (λ d. IsSpread cut.now net.now flows.now d.items) }
     ensures total { IfOk result (λ d. total_of d.items ≡ total_of flows.now) }
     ensures lawful { IfOk result (λ d. IsLawful (obligations_of_net net.now) flows.now → IsLawful (obligations cut.now) d.items) }
@@ -42,6 +44,8 @@ fn fill_all(
     requires index { index.now ≡ pairs_of net.now.arcs }
     requires one_each { length left.old ≡ length net.now.arcs }
     requires within { (a : ℕ) → a < length net.now.arcs → slice_index left.old a ≤ slice_index (arc_amounts net.now.arcs) a }
+
+    // The flows that were left are spread over the claims.
     ensures { IfOk result (λ d. IsSpread cut.now net.now left.old d.items) }
 {
     let claims = cut.claims();

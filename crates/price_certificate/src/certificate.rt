@@ -18,6 +18,8 @@ use std::alloc::{AllocError, Global};
 pub fn outcome_of(alloc: Global, cut: &Cut, net: &Net, flow: Flow) -> Result<Outcome, AllocError>
     requires net { IsNetOf cut.now net.now }
     requires flow { IsSolution net.now flow }
+
+    // The outcome is proved greatest, and made of the flows and the prices.
     ensures proved { IfOk result (λ outcome. Proves (obligations cut.now) outcome.discharges outcome.prices) }
     ensures oldest_first { IfOk result (λ outcome. IsOldestFirst (obligations cut.now) outcome.discharges) }
     ensures spread { IfOk result (λ outcome. IsSpread cut.now net.now flow.flows outcome.discharges) }

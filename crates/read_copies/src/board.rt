@@ -47,6 +47,8 @@ fn try_publish<R: Wait>(
     requires settled { drop writer.behind writer.log.items ≡ [] }
     requires board { showing.told.board ≡ writer.desk.shown.value.board }
     requires shown { IsShown (brought_up writer.desk.shown.value showing) }
+
+    // The showing is shown; or it comes back, and what is shown stays as it was.
     ensures settled { drop result.0.behind result.0.log.items ≡ [] }
     ensures ok { OnOk result.1
         ((result.0.desk.shown.value ≡ brought_up writer.desk.shown.value showing)
@@ -68,6 +70,8 @@ fn publish<R: Wait>(rt: &R, writer: TableWriter, showing: Showing) -> TableWrite
     requires settled { drop writer.behind writer.log.items ≡ [] }
     requires board { showing.told.board ≡ writer.desk.shown.value.board }
     requires shown { IsShown (brought_up writer.desk.shown.value showing) }
+
+    // The table was brought up by the showing.
     ensures settled { drop result.behind result.log.items ≡ [] }
     ensures table { result.desk.shown.value ≡ brought_up writer.desk.shown.value showing }
 {
@@ -90,6 +94,8 @@ fn publish_in<R: Wait>(rt: &R, writer: &mut TableWriter, showing: Showing)
     requires settled { drop writer.old.behind writer.old.log.items ≡ [] }
     requires board { showing.told.board ≡ writer.old.desk.shown.value.board }
     requires shown { IsShown (brought_up writer.old.desk.shown.value showing) }
+
+    // The table was brought up by the showing.
     ensures settled { drop writer.new.behind writer.new.log.items ≡ [] }
     ensures table { writer.new.desk.shown.value ≡ brought_up writer.old.desk.shown.value showing }
 {
@@ -150,6 +156,8 @@ fn seat_all(
     requires knows { KnowsBoard told.now.board (view writer.old.desk.place) }
     requires room { readers ≤ vec_capacity list.old }
     requires none { list.old.items ≡ [] }
+
+    // The writer shows the same, and each reader has seen what was told.
     ensures table { (writer.new.desk.shown ≡ writer.old.desk.shown)
         × (writer.new.log ≡ writer.old.log) × (writer.new.behind ≡ writer.old.behind) }
     ensures length { OnOk result (length list.new.items ≡ readers) }
@@ -204,9 +212,13 @@ impl Board {
     /// missing; then the table is as before, and a later call shows the whole.
     pub fn show<R: Wait>(&mut self, rt: &R, book: &Book) -> Result<(), AllocError>
         requires { IsPrefix self.old.table.history book.now.history }
+
+        // It is the same board, and what it shows stands for a history.
         ensures readers { self.new.readers ≡ self.old.readers }
         ensures board { self.new.table.board ≡ self.old.table.board }
         ensures shown { IsShown self.new.table }
+
+        // The history is that of the book, or the table is as before.
         ensures ok { OnOk result (self.new.table.history ≡ book.now.history) }
         ensures err { OnErr result (self.new.table ≡ self.old.table) }
     {

@@ -100,6 +100,8 @@ impl BoardReader {
     pub fn try_read(&mut self, firm: Name) -> Option<(u64, Option<Row>)>
         ensures board { self.new.board ≡ self.old.board }
         ensures begins { IsPrefix self.old.history self.new.history }
+
+        // What was read is that of the history; after None the reader is as it was.
         ensures entries { IfSome result (λ r. r.0 ≡ length self.new.history) }
         ensures row { IfSome result (λ r. r.1 ≡ row_in (ledger_of self.new.history) firm) }
         ensures none { IfNone result (self.new ≡ self.old) }

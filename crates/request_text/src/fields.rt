@@ -43,7 +43,7 @@ fn day_at(field: &[u8]) -> Option<Day>
 {
     match Day::read(field) {
         Some(day) => {
-            let _ = day.number();
+            let _number = day.number();
             Some(day)
         }
         None => None,

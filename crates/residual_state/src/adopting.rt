@@ -47,6 +47,8 @@ pub fn adopt(
 fn is_solution(state: &State, flows: &[u64], prices: &[i64], left: &mut [i128]) -> bool
     requires state { IsState state.now }
     requires left { left.old ≡ state.now.excess.items }
+
+    // Whether they can be adopted. No node has an excess left then.
     ensures solution { IsTrue result ↔ CanAdopt state.now flows.now prices.now }
     ensures one_each { length left.new ≡ length left.old }
     ensures zero { IsTrue result → (v : ℕ) → v < length left.new → excess_of left.new v ≡ pos 0 }
@@ -83,8 +85,12 @@ fn move_changes(excess: &mut [i128], edges: &[Edge], before: &[u64], after: &[u6
     requires among { AreAmong (length excess.old) edges.now }
     requires before { length before.now ≡ length edges.now }
     requires after { length after.now ≡ length edges.now }
+
+    // There are few enough arcs, and the excesses are small enough, to be added up.
     requires few { length edges.now < 2 ^ 32 }
     requires small { (v : ℕ) → v < length excess.old → unsigned_abs (excess_of excess.old v) ≤ 2 ^ 100 }
+
+    // Each excess is changed by what the arcs of its node have more or less than before.
     ensures { IsRebalanced edges.now before.now after.now excess.old excess.new (length edges.now) }
 {
     for arc in 0..edges.len() {

@@ -41,9 +41,13 @@ pub fn state_at_start(
 ) -> Result<State, AllocError>
     requires few_parties { length parties.now ≤ MOST_FIRMS }
     requires few_claims { length claims.items ≤ MOST_CLAIMS }
+
+    // Each claim is one between the parties, and no window is too wide.
     requires claims { All (IsClaimEdge (length parties.now)) claims.items }
     requires spends { All (λ f. f.spend ≤ MOST_WINDOW) parties.now }
     requires rooms { All (λ f. f.room ≤ MOST_WINDOW) parties.now }
+
+    // With memory, it is a state on these arcs.
     ensures { IfOk result (IsStateOf (weighed_edges parties.now claims.items)) }
 {
     let nodes = parties.len() + 1;

@@ -63,6 +63,8 @@ fn add_due(
     requires facts { AreFacts claims.now accounts.now }
     requires no_parties { parties.old.items ≡ [] }
     requires no_claims { due.old.items ≡ [] }
+
+    // The parties and the claims of the cut.
     ensures parties { OnOk result (parties.new.items ≡ parties_in accounts.now kind (claims_due horizon claims.now)) }
     ensures due { OnOk result (due.new.items ≡ claims_in (claims_due horizon claims.now)) }
 {
@@ -84,11 +86,16 @@ fn add_claims(
     horizon: Day,
     claims: &[ClaimFact],
 ) -> Result<(), AllocError>
+    // The facts may stand, and there are no parties and no claims yet.
     requires facts { AreFacts claims.now accounts.now }
     requires no_parties { parties.old.items ≡ [] }
     requires no_claims { due.old.items ≡ [] }
+
+    // The indexes are those of the parties and of the accounts.
     requires names { names.old.names ≡ [] }
     requires firms { firms.now.names ≡ map (λ a. a.firm) accounts.now }
+
+    // The parties and the claims of the cut.
     ensures parties { OnOk result (parties.new.items ≡ parties_in accounts.now kind (claims_due horizon claims.now)) }
     ensures due { OnOk result (due.new.items ≡ claims_in (claims_due horizon claims.now)) }
 {
@@ -114,6 +121,8 @@ fn add_claim(
     requires few { vec_len parties.old + 1 < 2 ^ 32 }
     requires names { names.old.names ≡ map (λ p. p.firm) parties.old.items }
     requires firms { firms.now.names ≡ map (λ a. a.firm) accounts.now }
+
+    // The claim is added, and its firms are among the parties.
     ensures names { OnOk result (names.new.names ≡ map (λ p. p.firm) parties.new.items) }
     ensures parties { OnOk result (parties.new.items ≡ with_parties_of accounts.now kind claim.now parties.old.items) }
     ensures due { OnOk result (due.new.items ≡ due.old.items ++ placed parties.new.items claim.now ∷ []) }

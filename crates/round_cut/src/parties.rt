@@ -39,6 +39,8 @@ pub fn place_of(
     requires few { vec_len parties.old < 2 ^ 32 }
     requires names { names.old.names ≡ map (λ p. p.firm) parties.old.items }
     requires firms { firms.now.names ≡ map (λ a. a.firm) accounts.now }
+
+    // The firm is among the parties, at this place.
     ensures names { OnOk result (names.new.names ≡ map (λ p. p.firm) parties.new.items) }
     ensures parties { OnOk result (parties.new.items ≡ with_party (party_in accounts.now kind firm.now) parties.old.items) }
     ensures place { IfOk result (λ place. place ≡ position_or_len (is_party firm.now) parties.new.items) }

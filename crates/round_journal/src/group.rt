@@ -75,6 +75,8 @@ impl Group {
 pub(crate) fn push_record(bytes: &mut Vec<u8>, body: &[u8])
     requires room { vec_len bytes.old + RECORD_HEAD + length body.now ≤ vec_capacity bytes.old }
     requires short { length body.now < 2 ^ 32 }
+
+    // The piece has one record more, and no less memory.
     ensures done { (bodies : List (List ℕ)) → IsGroup bodies bytes.old.items → IsGroup (bodies ++ body.now ∷ []) bytes.new.items }
     ensures len { length bytes.new.items ≡ length bytes.old.items + RECORD_HEAD + length body.now }
     ensures room { vec_capacity bytes.old ≤ vec_capacity bytes.new }

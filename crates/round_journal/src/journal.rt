@@ -94,6 +94,8 @@ impl<D: Disk> Journal<D> {
     pub fn append(&mut self, body: &[u8]) -> Result<(), Device>
         requires short { length body.now ≤ MOST_BODY + POOL_BYTES }
         requires near { self.old.gate + RECORD_HEAD + length body.now ≤ MOST_JOURNAL_BYTES }
+
+        // What came of it, what a crash may leave, and the cause of an error.
         ensures done { OnOk result (HasAppended D.seen self.old self.new (body.now ∷ [])) }
         ensures failed { OnErr result (HasNotAppended D.seen self.old self.new (body.now ∷ [])) }
         ensures tried { HasTried D.seen self.old self.new (body.now ∷ []) }
@@ -127,6 +129,8 @@ impl<D: Disk> Journal<D> {
         ensures done { OnOk result ((bodies : List (List ℕ)) → IsGroup bodies group.now → HasAppended D.seen self.old self.new bodies) }
         ensures failed { OnErr result ((bodies : List (List ℕ)) → IsGroup bodies group.now
             → HasNotAppended D.seen self.old self.new bodies) }
+
+        // What a crash may leave, and the cause of an error.
         ensures tried { (bodies : List (List ℕ)) → IsGroup bodies group.now → HasTried D.seen self.old self.new bodies }
         ensures cause { IfErr result (IsFaultOf (D.seen self.old.disk) (D.seen self.new.disk)) }
     {

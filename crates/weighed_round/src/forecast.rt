@@ -67,6 +67,8 @@ fn tell_whole<K: Sink>(
     requires printable { IsPrintable cut.now outcome.now }
     requires empty { buffer.old.items ≡ [] }
     requires spare { OUTPUT_BYTES ≤ vec_capacity buffer.old }
+
+    // The text was taken, or the status tells that the sink failed.
     ensures written { IsWritten (K.held sink.old) (K.held sink.new) statuses.Done (statement_bytes cut.now outcome.now) result }
     ensures failed { TellsSinkFault (K.faults sink.old) (K.faults sink.new) result }
 {
@@ -91,6 +93,8 @@ pub fn print_forecast<K: Sink>(
     requires few { (state_of book.now.history).openings < MOST_ROUNDS }
     requires empty { buffer.old.items ≡ [] }
     requires spare { OUTPUT_BYTES ≤ vec_capacity buffer.old }
+
+    // What was due was taken, or the status tells that the sink failed.
     ensures wrote { Wrote (IsForecastDue kind horizon book.now.history) (K.held sink.old) (K.held sink.new) result }
     ensures write_fault { TellsSinkFault (K.faults sink.old) (K.faults sink.new) result }
 {

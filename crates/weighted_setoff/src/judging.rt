@@ -16,6 +16,8 @@ pub fn weighted_total(weights: &[u32], discharges: &[u64]) -> u64
     requires few { length discharges.now ≤ MOST_CLAIMS }
     requires weights { (c : ℕ) → c < length discharges.now → slice_index weights.now c ≤ MOST_WEIGHT }
     requires discharges { (c : ℕ) → c < length discharges.now → slice_index discharges.now c ≤ MOST_AMOUNT }
+
+    // The total by the weights.
     ensures { result ≡ weighted_total_of weights.now discharges.now }
 {
     let mut total: u64 = 0;
@@ -30,10 +32,14 @@ pub(crate) fn bound_of_claims(claims: &[CutClaim], weights: &[u32], prices: &[i6
     requires one_each { length weights.now ≡ length claims.now }
     requires few { length claims.now ≤ MOST_CLAIMS }
     requires amounts { All (λ c. c.amount ≤ MOST_AMOUNT) claims.now }
+
+    // Each debtor and creditor has a price, and weights and prices are small.
     requires creditors { All (λ c. c.creditor < length prices.now) claims.now }
     requires debtors { All (λ c. c.debtor < length prices.now) claims.now }
     requires weights { (c : ℕ) → c < length claims.now → slice_index weights.now c ≤ MOST_WEIGHT }
     requires prices { (f : ℕ) → f < length prices.now → unsigned_abs (price_at prices.now f) ≤ MOST_PRICE }
+
+    // What the claims add, and how large it can be.
     ensures value { (parties : List Party) →
         result ≡ weighted_claims_bound (length claims.now) (obligations_of parties claims.now) weights.now prices.now }
     ensures limit { result < 2 ^ 77 }
@@ -55,6 +61,8 @@ fn factor_of(weight: u32, debtor: i64, creditor: i64) -> u64
     requires weight { weight ≤ MOST_WEIGHT }
     requires debtor { unsigned_abs debtor ≤ MOST_PRICE }
     requires creditor { unsigned_abs creditor ≤ MOST_PRICE }
+
+    // The factor, and how large it can be.
     ensures value { result ≡ above_zero ((pos weight +ℤ debtor) -ℤ creditor) }
     ensures limit { result ≤ 294921 }
 {
