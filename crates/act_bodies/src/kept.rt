@@ -19,7 +19,7 @@ pub fn can_be_kept(call: &Call) -> bool
 fn has_name(pool: &Name) -> bool
     ensures { result ≡ is_name pool.now }
 {
-    let _ = pool.bytes();
+    let _name = pool.bytes();
     true
 }
 
