@@ -20,7 +20,7 @@ within() {
   awk -v name="$1" 'index($0, name) { gsub(/,/, "", $1); print $1; found = 1; exit } END { if (!found) print 0 }' "$folder/counts"
 }
 
-awk -v cut="$(within build_cut)" -v certified="$(within certifying::certified)" -v solved="$(within certifying::solved)" \
+awk -v cut="$(within build_cut)" -v certified="$(within certifying::certified)" -v solved="$(within certifying::solve_net)" \
   -v book="$(within apply_publish)" -v printed="$(within statement::print_statement)" -v all="$(within 'PROGRAM TOTALS')" 'BEGIN {
   round = cut + certified + book + printed
   if (!cut || !solved || !book || !printed) { print "bench: a step was not found in the profile" > "/dev/stderr"; exit 1 }

@@ -261,7 +261,7 @@ fn trial_at(values: &ArgMatches) -> Option<Command>
 }
 
 // The command of a first word and of values.
-fn given(name: &str, values: &ArgMatches) -> Option<Command>
+fn command_by_name(name: &str, values: &ArgMatches) -> Option<Command>
     ensures found { IfSome result (λ c. IsCommand c × IsGiven c name.now (first_value (found_of values.now))) }
     ensures none { IfNone result ((c : CommandOf) → IsCommand c → IsGiven c name.now (first_value (found_of values.now)) → ⊥) }
 {
@@ -299,7 +299,7 @@ fn cause_of(error: &Error) -> WordsError
 }
 
 // What `clap` makes of the words.
-fn parsed<'a>(alloc: Global, words: &'a [String]) -> Result<ArgMatches<'a>, WordsError>
+fn parse_words<'a>(alloc: Global, words: &'a [String]) -> Result<ArgMatches<'a>, WordsError>
     ensures taken { IfOk result (λ _. fault_of program (map (λ w. string_bytes w) words.entry.now) ≡ []) }
     ensures found { IfOk result (λ m. subcommand_rows_of m ≡ subcommand_of program (map (λ w. string_bytes w) words.entry.now)) }
     ensures unknown { IfErr result (λ e. e ≡ WordsError.Unknown → AreNoWords (map (λ w. string_bytes w) words.entry.now)) }
@@ -311,12 +311,12 @@ fn parsed<'a>(alloc: Global, words: &'a [String]) -> Result<ArgMatches<'a>, Word
 }
 
 // The command that `clap` found.
-fn found_in(matches: &ArgMatches) -> Option<Command>
+fn find_command(matches: &ArgMatches) -> Option<Command>
     ensures found { IfSome result (λ c. IsCommand c × IsFoundIn c (subcommand_rows_of matches.now)) }
     ensures none { IfNone result ((c : CommandOf) → IsCommand c → IsFoundIn c (subcommand_rows_of matches.now) → ⊥) }
 {
     let (name, values) = matches.subcommand()?;
-    given(name, values)
+    command_by_name(name, values)
 }
 
 /// The command that the words are.
@@ -329,8 +329,8 @@ pub fn command_of(alloc: Global, words: &[String]) -> Result<Command, WordsError
     if has_option(words) {
         return Err(WordsError::Unknown);
     }
-    let matches = parsed(alloc, words)?;
-    match found_in(&matches) {
+    let matches = parse_words(alloc, words)?;
+    match find_command(&matches) {
         Some(command) => Ok(command),
         None => Err(WordsError::Unknown),
     }

@@ -46,7 +46,7 @@ impl<'a, R: Files<File = File>> FileDisk<'a, R> {
     }
 
     // An answer of the file, of which an error is one fault more.
-    fn counted<T>(&mut self, answer: io::Result<T>) -> Result<T, DiskFailed>
+    fn count_fault<T>(&mut self, answer: io::Result<T>) -> Result<T, DiskFailed>
         ensures { IsCounted self.old self.new result }
     {
         match answer {
@@ -70,27 +70,27 @@ impl<R: Files<File = File>> Disk for FileDisk<'_, R> {
     /// memory that is missing for what is read.
     fn len(&mut self) -> Result<u64, DiskFailed> {
         let answer = self.file.len();
-        self.counted(answer)
+        self.count_fault(answer)
     }
 
     /// Reads from a locked file, and else from what was read of it. An end before `into` is full is a fault, and so are an error of
     /// the system and memory that is missing for what is read.
     fn read_at(&mut self, at: u64, into: &mut [u8]) -> Result<(), DiskFailed> {
         let answer = self.file.read_at(at, into);
-        self.counted(answer)
+        self.count_fault(answer)
     }
 
     /// Writes to the file. An error of the system is a fault, and so is a write that takes nothing.
     fn write_at(&mut self, at: u64, piece: &[u8]) -> Result<(), DiskFailed> {
         let answer = self.file.write_at(at, piece);
-        self.counted(answer)
+        self.count_fault(answer)
     }
 
     /// Brings the bytes of the file and its length to the medium, and, once, its name in the folder. An error of the
     /// system is a fault, but for one that says of the folder that it knows no such sync.
     fn sync(&mut self) -> Result<(), DiskFailed> {
         let answer = self.file.sync();
-        self.counted(answer)
+        self.count_fault(answer)
     }
 
     fn faults(&self) -> u64 {

@@ -10,7 +10,7 @@ ghost use Rattle.disk_model.specs.declared.step.Step.TheVariants.{Waited, Synced
 use crate::disk::Disk;
 use crate::disk_failed::DiskFailed;
 use crate::overlay::overlay_with;
-use crate::replay::replayed;
+use crate::replay::replay_steps;
 use crate::step::Step;
 use fault_count::next_count;
 use std::alloc::{AllocError, Global};
@@ -88,7 +88,7 @@ impl MemoryDisk {
         ensures { IfOk result (λ image. (seen_of self.now).image moment image.items) }
     {
         let start = first_bytes(&self.first, &self.bytes);
-        replayed(alloc, start, &self.steps[..moment as usize], pick)
+        replay_steps(alloc, start, &self.steps[..moment as usize], pick)
     }
 
     // A call that changes no byte. It ends with a sync or with nothing.

@@ -9,7 +9,7 @@ use std::alloc::{AllocError, Global};
 
 /// The image in which those writes since the last sync stand whose bits are picked. The other writes widen it by
 /// zeros.
-pub(crate) fn replayed(
+pub(crate) fn replay_steps(
     alloc: Global,
     start: &[u8],
     steps: &[Step],
@@ -64,14 +64,14 @@ fn next_image(
                 overlay_with(&mut image, *at as usize, piece)?;
                 Ok(image)
             } else {
-                widened(image, *at as usize, piece.len())
+                widen_image(image, *at as usize, piece.len())
             }
         }
     }
 }
 
 // The bytes, and zeros up to the end of a write that does not stand.
-fn widened(mut image: Vec<u8>, at: usize, count: usize) -> Result<Vec<u8>, AllocError>
+fn widen_image(mut image: Vec<u8>, at: usize, count: usize) -> Result<Vec<u8>, AllocError>
     requires { at ≤ length image.items }
     ensures torn { IfOk result (λ next. Torn at count image.items next.items) }
     ensures long { IfOk result (λ next. length next.items ≡ max (length image.items) (at + count)) }

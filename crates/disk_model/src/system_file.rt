@@ -91,7 +91,7 @@ impl<'a, R: Files<File = File>> SystemFile<'a, R> {
     fn make(&mut self) -> io::Result<()> {
         self.own()?;
         if self.held.file().is_none() {
-            let file = created(self.rt, &self.path)?;
+            let file = create_file(self.rt, &self.path)?;
             self.hold(Held::Locked(file));
         }
         Ok(())
@@ -159,7 +159,7 @@ impl Held {
 
 // The bytes of a file that is there, as one reading finds them. It is not locked.
 fn read_now<R: Files<File = File>>(rt: &R, path: &String) -> io::Result<Held> {
-    match opened(rt, path, false)? {
+    match open_file(rt, path, false)? {
         Some(file) => Ok(Held::Bytes(bytes_of(*path.allocator(), file)?)),
         None => Ok(Held::Missing),
     }
@@ -177,7 +177,7 @@ fn bytes_of(alloc: Global, file: File) -> io::Result<Vec<u8>> {
 
 // A file that is there, open and locked. A lock that another holds is an error.
 fn locked_now<R: Files<File = File>>(rt: &R, path: &str) -> io::Result<Held> {
-    match opened(rt, path, true)? {
+    match open_file(rt, path, true)? {
         Some(file) => {
             file.try_lock()?;
             Ok(Held::Locked(file))
@@ -187,7 +187,7 @@ fn locked_now<R: Files<File = File>>(rt: &R, path: &str) -> io::Result<Held> {
 }
 
 // Opens a file that is there, for reading or for writing, too.
-fn opened<R: Files<File = File>>(rt: &R, path: &str, writes: bool) -> io::Result<Option<File>> {
+fn open_file<R: Files<File = File>>(rt: &R, path: &str, writes: bool) -> io::Result<Option<File>> {
     if !is_there(rt, path)? {
         return Ok(None);
     }
@@ -210,7 +210,7 @@ fn is_there<R: Files>(rt: &R, path: &str) -> io::Result<bool> {
 }
 
 // Makes a file that is missing, and locks it.
-fn created<R: Files<File = File>>(rt: &R, path: &str) -> io::Result<File> {
+fn create_file<R: Files<File = File>>(rt: &R, path: &str) -> io::Result<File> {
     let mut options = options(true);
     let _ = options.create_new(true);
     let file = options.open(rt, path)?;

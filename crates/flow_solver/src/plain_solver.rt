@@ -34,13 +34,13 @@ impl PlainSolver {
 
 impl Solver for PlainSolver {
     fn solve(&self, alloc: Global, net: &Net) -> Result<Flow, AllocError> {
-        let state = solved(alloc, net)?;
+        let state = solve_net(alloc, net)?;
         Ok(flow_at_rest(net, state))
     }
 }
 
 // The state when no node has an excess above 0.
-fn solved(alloc: Global, net: &Net) -> Result<State, AllocError>
+fn solve_net(alloc: Global, net: &Net) -> Result<State, AllocError>
     ensures state { IfOk result (IsStateOf (unweighed net.now)) }
     ensures rest { IfOk result (λ state. (v : ℕ) → v < length state.excess.items → excess_of state.excess.items v ≤ℤ pos 0) }
 {

@@ -28,12 +28,12 @@ pub fn read_alone(alloc: Global, number: u64, text: &[u8]) -> Line
     };
     match batch.requests() {
         [] => Line::Fence,
-        [request, ..] => numbered(number, request),
+        [request, ..] => number_request(number, request),
     }
 }
 
 // The same request, of the line of this number.
-fn numbered(number: u64, request: &Request) -> Line
+fn number_request(number: u64, request: &Request) -> Line
     requires valid { is_request request.now.act ≡ true }
     ensures { result ≡ line.Asks (record request.now { line = number }) }
 {

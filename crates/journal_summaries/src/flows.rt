@@ -20,7 +20,7 @@ pub(crate) struct Flow {
 }
 
 // What a FUND puts into the account of a firm, and what a DRAW takes out of it.
-fn moved(firm: &Name, act: &Act) -> Flow
+fn flow_of_act(firm: &Name, act: &Act) -> Flow
     ensures added { result.added ≡ amount_or 0 (gained_by firm.now act.now) }
     ensures taken { result.taken ≡ amount_or 0 (spent_by firm.now act.now) }
 {
@@ -44,7 +44,7 @@ fn moved(firm: &Name, act: &Act) -> Flow
 }
 
 // A discharge, where the claim's party stands at the place.
-fn counted(party: u32, place: usize, discharge: u64) -> u64
+fn discharge_at(party: u32, place: usize, discharge: u64) -> u64
     ensures { result ≡ (if party == place then discharge else 0) }
 {
     if party as usize == place {
@@ -63,7 +63,7 @@ fn flow_towards(cut: &Cut, discharges: &[u64], place: usize) -> u64
     let claims = cut.claims();
     let mut sum = 0;
     for i in 0..claims.len() {
-        sum += counted(claims[i].creditor, place, discharges[i]);
+        sum += discharge_at(claims[i].creditor, place, discharges[i]);
     }
     sum
 }
@@ -77,13 +77,13 @@ fn flow_by(cut: &Cut, discharges: &[u64], place: usize) -> u64
     let claims = cut.claims();
     let mut sum = 0;
     for i in 0..claims.len() {
-        sum += counted(claims[i].debtor, place, discharges[i]);
+        sum += discharge_at(claims[i].debtor, place, discharges[i]);
     }
     sum
 }
 
 // What a round discharges towards a firm and by it.
-fn settled(firm: &Name, cut: &Cut, discharges: &[u64]) -> Flow
+fn flow_of_round(firm: &Name, cut: &Cut, discharges: &[u64]) -> Flow
     requires formed { WellFormed cut.now }
     requires lawful { IsLawful (obligations cut.now) discharges.now }
     ensures added { result.added ≡ discharged_to firm.now (record { cut = cut.now; discharges = discharges.now }) }
@@ -116,7 +116,7 @@ pub(crate) fn flow_of(firm: &Name, entry: &Entry, cut: &Option<Cut>) -> Flow
     ensures taken { result.taken ≡ taken firm.now cut.now entry.now }
 {
     match cut {
-        None => moved(firm, &entry.act),
-        Some(cut) => settled(firm, cut, discharges_in(&entry.act)),
+        None => flow_of_act(firm, &entry.act),
+        Some(cut) => flow_of_round(firm, cut, discharges_in(&entry.act)),
     }
 }

@@ -103,7 +103,7 @@ fn advise(alloc: Global, state: &mut State, advice: &mut Advice) -> Result<(), A
     requires { IsState state.old }
     ensures { OnOk result (IsNoWorse state.old state.new) }
 {
-    let prices = advice.raised(alloc, &state.flows, &state.prices, &state.excess)?;
+    let prices = advice.raise_prices(alloc, &state.flows, &state.prices, &state.excess)?;
     reprice(alloc, state, prices)?;
     let pushes = advice.pushes(&state.flows, &state.prices, &state.excess)?;
     carry_all(state, pushes);

@@ -27,9 +27,7 @@ pub(crate) fn take_parts(
     if turns == 0 || halves.len() / DENSE_HALVES > windows.len() || surplus_of(&state.excess) == 0 {
         return Ok(());
     }
-    if let Some(Solution { flows, prices }) = found_in_parts(
-        alloc, state, halves, windows, turns,
-    )? {
+    if let Some(Solution { flows, prices }) = find_in_parts(alloc, state, halves, windows, turns)? {
         let _ = adopt(alloc, state, flows, prices)?;
     }
     Ok(())
@@ -37,7 +35,7 @@ pub(crate) fn take_parts(
 
 // A whole solution that is put together of those of the parts, where many claims are between parts, or else of series, or one from
 // risen prices.
-fn found_in_parts(
+fn find_in_parts(
     alloc: Global,
     state: &State,
     halves: &Halves,
@@ -51,17 +49,17 @@ fn found_in_parts(
     };
     let parts = Parts::of(alloc, &net)?;
     if parts.are_apart(&net) {
-        return found_apart(alloc, &net, &parts, turns);
+        return find_apart(alloc, &net, &parts, turns);
     }
-    let in_series = found_in_series(alloc, &net, &parts)?;
+    let in_series = find_in_series(alloc, &net, &parts)?;
     if in_series.is_some() {
         return Ok(in_series);
     }
-    found_risen(alloc, state, &net, &parts)
+    find_risen(alloc, state, &net, &parts)
 }
 
 // A whole solution by that of the series, where there are many.
-fn found_in_series(
+fn find_in_series(
     alloc: Global,
     net: &Unused,
     parts: &Parts,
@@ -70,14 +68,14 @@ fn found_in_series(
         return Ok(None);
     }
     let inner = Inner::of(alloc, net, parts)?;
-    match solved_by_series(alloc, &inner)? {
+    match solve_by_series(alloc, &inner)? {
         Some(found) => put_together(alloc, net, parts, &inner, &found),
         None => Ok(None),
     }
 }
 
 // A whole solution that a simplex finds from risen prices, where few claims lead back.
-fn found_risen(
+fn find_risen(
     alloc: Global,
     state: &State,
     net: &Unused,
@@ -97,14 +95,14 @@ fn found_risen(
 }
 
 // A whole solution that is put together of those of the parts.
-fn found_apart(
+fn find_apart(
     alloc: Global,
     net: &Unused,
     parts: &Parts,
     turns: u32,
 ) -> Result<Option<Solution>, AllocError> {
     let inner = Inner::of(alloc, net, parts)?;
-    match solved_inside(alloc, &inner, turns)? {
+    match solve_inside(alloc, &inner, turns)? {
         Some(found) => put_together(alloc, net, parts, &inner, &found),
         None => Ok(None),
     }
@@ -124,25 +122,25 @@ fn put_together(
 }
 
 // The solution inside the parts.
-fn solved_inside(alloc: Global, inner: &Inner, turns: u32) -> Result<Option<Solution>, AllocError> {
-    let by_series = solved_by_series(alloc, inner)?;
+fn solve_inside(alloc: Global, inner: &Inner, turns: u32) -> Result<Option<Solution>, AllocError> {
+    let by_series = solve_by_series(alloc, inner)?;
     if by_series.is_some() {
         return Ok(by_series);
     }
     let parties = parties_of(alloc, &inner.windows)?;
     let claims = Vec::from_slice(alloc, &inner.claims)?;
-    solved(alloc, &parties, claims, turns)
+    solve_claims(alloc, &parties, claims, turns)
 }
 
 // The solution by that of the net of series, where there are many.
-fn solved_by_series(alloc: Global, inner: &Inner) -> Result<Option<Solution>, AllocError> {
+fn solve_by_series(alloc: Global, inner: &Inner) -> Result<Option<Solution>, AllocError> {
     match Series::of(alloc, inner)? {
-        Some(series) => solved_over(alloc, inner, &series),
+        Some(series) => solve_over(alloc, inner, &series),
         None => Ok(None),
     }
 }
 
-fn solved_over(
+fn solve_over(
     alloc: Global,
     inner: &Inner,
     series: &Series,
@@ -163,7 +161,7 @@ fn solved_over(
 }
 
 // The solution for claims among parties, where they are such.
-fn solved(
+fn solve_claims(
     alloc: Global,
     parties: &[Party],
     claims: Vec<Edge>,

@@ -145,7 +145,7 @@ fn take_cold(
     if !now || turns == 0 || surplus_of(&state.excess) == 0 {
         return Ok(());
     }
-    if let Some(Solution { flows, prices }) = found_cold(alloc, state, halves, windows)? {
+    if let Some(Solution { flows, prices }) = find_cold(alloc, state, halves, windows)? {
         let _ = adopt(alloc, state, flows, prices)?;
     }
     Ok(())
@@ -187,14 +187,14 @@ fn take_solution(
     if surplus_of(&state.excess) == 0 {
         return Ok(());
     }
-    if let Some(Solution { flows, prices }) = found(alloc, state, halves, windows, turns)? {
+    if let Some(Solution { flows, prices }) = find_solution(alloc, state, halves, windows, turns)? {
         let _ = adopt(alloc, state, flows, prices)?;
     }
     Ok(())
 }
 
 // A whole solution, if it is found in so many turns.
-fn found(
+fn find_solution(
     alloc: Global,
     state: &State,
     halves: &Halves,
@@ -212,7 +212,7 @@ fn found(
 }
 
 // A whole solution, if it is found from where nothing is set off.
-fn found_cold(
+fn find_cold(
     alloc: Global,
     state: &State,
     halves: &Halves,

@@ -15,7 +15,7 @@ ghost use Rattle.claim_book.specs.Pools.{KeepsRooms, room_in};
 ghost use Rattle.limited_book.specs.Limited.{IsFull, round_after};
 
 use crate::full::{Full, within_limits};
-use crate::need::{Need, endings_in, endings_of, is_ending, more, moved, own_bytes, use_of};
+use crate::need::{Need, endings_in, endings_of, is_ending, more, own_bytes, replace_part, use_of};
 use crate::publication::publication_reply;
 use claim_book::record_bytes::{CLOSE_BODY, RECORD_HEAD};
 use claim_book::{
@@ -232,7 +232,7 @@ impl LimitedBooks {
         let reserved = self.reserved();
         let now = endings_in(&self.books, &call.pool);
         let later = endings_of(&call.pool, cut);
-        let rest = moved(reserved, now, later);
+        let rest = replace_part(reserved, now, later);
         let own = RECORD_HEAD + CLOSE_BODY + pool_bytes(&call.pool);
         within_limits(
             used.entries + 1 + rest.entries,
@@ -293,7 +293,7 @@ impl LimitedBooks {
         self.books.apply_close(pool, entry, cut);
         let later = endings_in(&self.books, &pool);
         self.used = more(used, own);
-        self.reserved = moved(reserved, now, later);
+        self.reserved = replace_part(reserved, now, later);
     }
 
     /// Puts the entry of a publication of a pool at the end, as `Books::apply_publish` does, and gives the cut of its round where
@@ -326,7 +326,7 @@ impl LimitedBooks {
         let cut = self.books.apply_publish(pool, entry);
         let later = endings_in(&self.books, &pool);
         self.used = more(used, own);
-        self.reserved = moved(reserved, now, later);
+        self.reserved = replace_part(reserved, now, later);
         cut
     }
 }

@@ -60,7 +60,7 @@ pub fn run_live<
     intake.batches();
     intake.begin();
     let Some(room) = room_for(alloc, intake) else {
-        return unserved(alloc, desk, intake);
+        return end_unserved(alloc, desk, intake);
     };
     match Shared::open(alloc, desk, 0) {
         Ok((shared, registrar, no_seats)) => {
@@ -78,7 +78,7 @@ pub fn run_live<
         }
         Err(Unmade { value }) => {
             room.free();
-            unserved(alloc, value, intake)
+            end_unserved(alloc, value, intake)
         }
     }
 }
@@ -95,7 +95,7 @@ fn room_for<D: Disk>(alloc: Global, intake: &Intake) -> Option<LiveRoom<D>>
 }
 
 // There is no line, or was no memory to serve one: the lines that had been taken are read, and not asked.
-fn unserved<D: Disk>(alloc: Global, desk: Desk<D>, intake: &mut Intake) -> LiveEnd<D>
+fn end_unserved<D: Disk>(alloc: Global, desk: Desk<D>, intake: &mut Intake) -> LiveEnd<D>
     requires { intake.old.fenced ≡ false }
     ensures end { result.end ≡ record { desk = desk; answers = None } }
     ensures passed { HasPassed intake.old intake.new result.stop }

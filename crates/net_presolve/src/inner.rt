@@ -1,5 +1,5 @@
 //! The claims inside parts as a net of their own.
-use crate::laying::laid;
+use crate::laying::lay_parts;
 use crate::parts::Parts;
 use crate::search::NONE;
 use crate::unused::Unused;
@@ -116,7 +116,7 @@ impl Inner {
         for (place, &node) in self.nodes.iter().enumerate() {
             put(&mut own, node as usize, at(inner, place, 0));
         }
-        laid(alloc, net, parts, &own)
+        lay_parts(alloc, net, parts, &own)
     }
 }
 

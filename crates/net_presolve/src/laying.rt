@@ -7,7 +7,7 @@ use std::alloc::{AllocError, Global};
 
 // The price of each party, by those that the nodes have inside their parts. Each part is raised so far that no half that leads into it
 // from another gains.
-pub(crate) fn laid(
+pub(crate) fn lay_parts(
     alloc: Global,
     net: &Unused,
     parts: &Parts,

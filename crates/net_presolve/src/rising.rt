@@ -14,7 +14,7 @@ use std::alloc::{AllocError, Global};
 /// The only error is running out of memory.
 pub fn risen(alloc: Global, net: &Unused, parts: &Parts) -> Result<Option<Vec<i32>>, AllocError> {
     if net.windows.iter().all(|&spend| spend == 0) {
-        return risen_over(alloc, net, &parts.left);
+        return prices_in_order(alloc, net, &parts.left);
     }
     let windows = vec![in alloc; 0u64; net.ground()]?;
     let shut = Unused {
@@ -23,11 +23,15 @@ pub fn risen(alloc: Global, net: &Unused, parts: &Parts) -> Result<Option<Vec<i3
         windows: &windows,
     };
     let parts = Parts::of(alloc, &shut)?;
-    risen_over(alloc, &shut, &parts.left)
+    prices_in_order(alloc, &shut, &parts.left)
 }
 
 // The same by the order in which the nodes were left.
-fn risen_over(alloc: Global, net: &Unused, left: &[u32]) -> Result<Option<Vec<i32>>, AllocError> {
+fn prices_in_order(
+    alloc: Global,
+    net: &Unused,
+    left: &[u32],
+) -> Result<Option<Vec<i32>>, AllocError> {
     let mut turns = vec![in alloc; NONE; left.len()]?;
     for (turn, &node) in left.iter().enumerate() {
         put(&mut turns, node as usize, short(turn));

@@ -76,7 +76,7 @@ impl Series {
                     self.circles.push(short(place))?;
                 } else {
                     self.firsts.push(short(place))?;
-                    self.claims.push(renumbered(whole, numbers))?;
+                    self.claims.push(renumber_arc(whole, numbers))?;
                 }
             }
         }
@@ -268,7 +268,7 @@ fn whole_of(outs: &[u32], claims: &[Edge], first: u32, marks: &mut [u32]) -> Edg
 }
 
 // The arc between the parties of these numbers.
-fn renumbered(arc: Edge, numbers: &[u32]) -> Edge {
+fn renumber_arc(arc: Edge, numbers: &[u32]) -> Edge {
     Edge {
         tail: at(numbers, arc.tail, NONE) as usize,
         head: at(numbers, arc.head, NONE) as usize,

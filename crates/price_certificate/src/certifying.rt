@@ -21,7 +21,7 @@ pub fn certified<S: Solver>(alloc: Global, solver: &S, cut: Cut) -> Result<Check
     ensures proved { IfOk result (λ checked. Proves (obligations cut) checked.outcome.discharges checked.outcome.prices) }
     ensures oldest_first { IfOk result (λ checked. IsOldestFirst (obligations cut) checked.outcome.discharges) }
 {
-    let outcome = found(alloc, solver, &cut)?;
+    let outcome = find_outcome(alloc, solver, &cut)?;
     let checker = Checker::for_cut(alloc, &cut)?;
     match checker.certify(cut, outcome) {
         Ok(checked) => Ok(checked),
@@ -30,19 +30,19 @@ pub fn certified<S: Solver>(alloc: Global, solver: &S, cut: Cut) -> Result<Check
 }
 
 // The outcome of a cut by what the solver finds of its net.
-fn found<S: Solver>(alloc: Global, solver: &S, cut: &Cut) -> Result<Outcome, AllocError>
+fn find_outcome<S: Solver>(alloc: Global, solver: &S, cut: &Cut) -> Result<Outcome, AllocError>
     requires { WellFormed cut.now }
     ensures proved { IfOk result (λ outcome. Proves (obligations cut.now) outcome.discharges outcome.prices) }
     ensures oldest_first { IfOk result (λ outcome. IsOldestFirst (obligations cut.now) outcome.discharges) }
 {
     let net = Net::of(alloc, cut)?;
-    let flow = solved(alloc, solver, &net)?;
+    let flow = solve_net(alloc, solver, &net)?;
     outcome_of(alloc, cut, &net, flow)
 }
 
 // What the solver finds for a net. It is never inlined, so that a profile shows what solving takes.
 #[inline(never)]
-fn solved<S: Solver>(alloc: Global, solver: &S, net: &Net) -> Result<Flow, AllocError>
+fn solve_net<S: Solver>(alloc: Global, solver: &S, net: &Net) -> Result<Flow, AllocError>
     ensures { IfOk result (λ flow. IsSolution net.now flow) }
 {
     solver.solve(alloc, net)

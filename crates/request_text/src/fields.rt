@@ -103,10 +103,10 @@ fn file_act(args: &[&[u8]]) -> Result<Act, LineCause>
     let [creditor, invoice, debtor, amount, due] = args else {
         return Err(LineCause::Fields);
     };
-    filed(creditor, invoice, debtor, amount, due)
+    file_of_fields(creditor, invoice, debtor, amount, due)
 }
 
-fn filed(
+fn file_of_fields(
     creditor: &[u8],
     invoice: &[u8],
     debtor: &[u8],
@@ -156,7 +156,7 @@ fn confirm_act(args: &[&[u8]]) -> Result<Act, LineCause>
     ensures bad { IfErr result (HasArgsCause (forms_of verbs.Confirm) (map (λ f. f.now) args.now)) }
 {
     if let [creditor, invoice, debtor, amount] = args {
-        return confirmed(creditor, invoice, debtor, amount);
+        return confirm_of_fields(creditor, invoice, debtor, amount);
     }
     let (key, debtor) = key_and_debtor(args)?;
     Ok(Act::Confirm {
@@ -167,7 +167,7 @@ fn confirm_act(args: &[&[u8]]) -> Result<Act, LineCause>
 }
 
 // The act of a CONFIRM's fields with an amount.
-fn confirmed(
+fn confirm_of_fields(
     creditor: &[u8],
     invoice: &[u8],
     debtor: &[u8],
@@ -439,18 +439,18 @@ fn lane_at(field: &[u8]) -> Option<u32>
 }
 
 // What the fields of a line ask of a lane.
-fn asked_of(fields: &[&[u8]]) -> Result<(u32, Name, Act), LineCause>
+fn read_fields(fields: &[&[u8]]) -> Result<(u32, Name, Act), LineCause>
     ensures found { IfOk result (λ asked. AreFields (map (λ f. f.now) fields.now) asked.0 asked.1 asked.2) }
     ensures bad { IfErr result (HasCause (map (λ f. f.now) fields.now)) }
 {
     let [lane, after @ ..] = fields else {
         return Err(LineCause::Lane);
     };
-    asked_after(lane, after)
+    read_lane_fields(lane, after)
 }
 
 // What a field and the fields after it ask of the lane that it is.
-fn asked_after(lane: &[u8], after: &[&[u8]]) -> Result<(u32, Name, Act), LineCause>
+fn read_lane_fields(lane: &[u8], after: &[&[u8]]) -> Result<(u32, Name, Act), LineCause>
     ensures found { IfOk result (λ asked. AreFields (lane.now ∷ map (λ f. f.now) after.now) asked.0 asked.1 asked.2) }
     ensures bad { IfErr result (HasCause (lane.now ∷ map (λ f. f.now) after.now)) }
 {
@@ -474,5 +474,5 @@ pub(crate) fn read_line(
     joined_fields_are_cut_again();
     ended_lines_are_lines();
     let fields = fields_of(alloc, line)?;
-    Ok(asked_of(fields.as_slice()))
+    Ok(read_fields(fields.as_slice()))
 }

@@ -69,7 +69,7 @@ impl Drain {
     }
 
     // The flows, and the excess that is left.
-    pub(crate) fn drained(self) -> (Vec<u64>, Vec<i64>) {
+    pub(crate) fn flows_and_excess(self) -> (Vec<u64>, Vec<i64>) {
         (self.flows, self.excess)
     }
 

@@ -93,7 +93,7 @@ impl Simplex {
             if most <= self.candidates.work {
                 return Ok(false);
             }
-            let Some(entering) = self.entering(edges, most) else {
+            let Some(entering) = self.next_entering(edges, most) else {
                 return Ok(self.candidates.is_over());
             };
             self.pivot(halves, entering)?;
@@ -112,7 +112,7 @@ impl Simplex {
     }
 
     // The next arc that enters. None where the work is done.
-    fn entering(&mut self, edges: &[Edge], most: u64) -> Option<Entering> {
+    fn next_entering(&mut self, edges: &[Edge], most: u64) -> Option<Entering> {
         for _ in self.begun..self.arcs.len().saturating_add(self.excess.len()) {
             let place = self.begun;
             self.begun = place.wrapping_add(1);

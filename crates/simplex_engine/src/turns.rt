@@ -48,10 +48,10 @@ pub fn seek_cold(
         return Ok(None);
     }
     if many / SPARSE_HALVES <= nodes {
-        return tried_cold(alloc, start, halves, SPARSE_TRIAL);
+        return try_cold(alloc, start, halves, SPARSE_TRIAL);
     }
     if is_far(start) {
-        tried_cold(alloc, start, halves, FULL_TRIAL)
+        try_cold(alloc, start, halves, FULL_TRIAL)
     } else {
         Ok(None)
     }
@@ -74,7 +74,7 @@ fn is_far(start: &Start) -> bool {
 }
 
 // A solution from where nothing is set off, if the trial comes to its end.
-fn tried_cold(
+fn try_cold(
     alloc: Global,
     start: &Start,
     halves: &Halves,
@@ -367,7 +367,7 @@ fn drained_simplex(
     drain: Drain,
     prices: &[i32],
 ) -> Result<Simplex, AllocError> {
-    let (flows, excess) = drain.drained();
+    let (flows, excess) = drain.flows_and_excess();
     Simplex::new(alloc, start.edges, halves, flows, prices, excess)
 }
 

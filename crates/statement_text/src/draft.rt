@@ -164,7 +164,7 @@ impl Draft {
     }
 
     /// The claim of this key, debtor and amount, with its firms by their places, or why it may not stand next.
-    pub(crate) fn placed(
+    pub(crate) fn place_claim(
         &self,
         key: &Key,
         debtor: &Name,

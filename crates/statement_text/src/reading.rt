@@ -57,7 +57,7 @@ fn take_claim(
     ensures bad { IfErr result (OnBadLine (λ n. (n ≡ number) × IsNoNext draft (Line.Claim key debtor amount discharge))) }
     ensures cause { IfErr result (OnCause (λ n cause. (n ≡ number) × HasLineCause draft (Line.Claim key debtor amount discharge) cause)) }
 {
-    match draft.placed(&key, &debtor, amount) {
+    match draft.place_claim(&key, &debtor, amount) {
         Err(cause) => {
             drop(draft);
             Err(StatementError::BadLine {
@@ -126,7 +126,7 @@ fn take_text(alloc: Global, draft: Draft, number: u64, text: &[u8]) -> Result<St
 }
 
 // The statement of a draft whose END line is read, where no line follows it; the number is that of the line after END.
-fn finished(draft: Draft, number: u64, rest: &[u8]) -> Result<(Cut, Outcome), StatementError>
+fn finish_draft(draft: Draft, number: u64, rest: &[u8]) -> Result<(Cut, Outcome), StatementError>
     ensures found { IfOk result (λ read. (read.0 ≡ draft.cut) × (read.1 ≡ draft.outcome) × (lines rest.now ≡ [])) }
     ensures bad { IfErr result
         (OnBadLine (λ n. (n ≡ number) × ((text : List ℕ) × (others : List (List ℕ)) × (lines rest.now ≡ text ∷ others)))) }
@@ -161,7 +161,7 @@ fn read_rest(alloc: Global, head: Draft, text: &[u8]) -> Result<(Cut, Outcome), 
     while let Some((line, after)) = next_line(rest) {
         match take_text(alloc, draft, number, line) {
             Ok(Step::More(next)) => draft = next,
-            Ok(Step::Last(whole)) => return finished(whole, number.saturating_add(1), after),
+            Ok(Step::Last(whole)) => return finish_draft(whole, number.saturating_add(1), after),
             Err(e) => return Err(e),
         }
         rest = after;

@@ -10,7 +10,7 @@ overflow_add-sum c =
     let i = c.loop-i.i in
     let at = (get_or c.claims-claims.result.now i c.index-claims-i.result).creditor in
     let lt = subst (λ (cs : List CutClaim). i < length cs) c.claims-claims.ensures c.loop-i-test.true in
-    omega (arith, sum_fits c.args.cut.now c.args.discharges.now (creditors c.args.cut.now.claims) c.requires.formed c.requires.lawful i at c.args.place c.loop-i.sum c.counted-sum.result lt c.loop-i.invariant.sum c.counted-sum.ensures)
+    omega (arith, sum_fits c.args.cut.now c.args.discharges.now (creditors c.args.cut.now.claims) c.requires.formed c.requires.lawful i at c.args.place c.loop-i.sum c.discharge_at-sum.result lt c.loop-i.invariant.sum c.discharge_at-sum.ensures)
 
 pub loop-i-preserved : goal.loop-i-preserved
 loop-i-preserved c =
@@ -21,4 +21,4 @@ loop-i-preserved c =
     let lt = subst (λ (cs : List CutClaim). i < length cs) c.claims-claims.ensures c.loop-i-test.true in
     let is = subst (λ (cs : List CutClaim). claim ≡ get_or cs i claim) c.claims-claims.ensures c.index-claims-i.is in
     let party = ap (λ (x : CutClaim). x.creditor) (sym c.index-claims-i.is) ∙ sym (column (λ x. x.creditor) claims i claim is lt) in
-    record { sum = flow_next c.args.discharges.now (creditors claims) i at c.args.place c.loop-i.sum c.counted-sum.result c.loop-i.invariant.sum party c.counted-sum.ensures }
+    record { sum = flow_next c.args.discharges.now (creditors claims) i at c.args.place c.loop-i.sum c.discharge_at-sum.result c.loop-i.invariant.sum party c.discharge_at-sum.ensures }

@@ -17,12 +17,12 @@ returns-in_default-clause-ran g c =
     let source = c.args.source.now in
     let left = g.S.Source.left source in
     let faults = g.S.Source.faults source in
-    let told = c.unserved.ensures.passed in
-    let new = c.unserved.new.intake in
-    let why = c.unserved.result.stop in
+    let told = c.end_unserved.ensures.passed in
+    let new = c.end_unserved.new.intake in
+    let why = c.end_unserved.result.stop in
     let ran = has_run g.D.Disk.seen g.S.Source.left g.S.Source.faults old start source source c.args.intake.now c.begin.new.self new None why c.requires c.batches.ensures.batches c.begin.ensures.begun c.begin.ensures.reads
     (told.taken left faults) told.batch (not_run g.D.Disk.seen old start cleared c.books-books.ensures.keeps start refl told.batch) (told.ends left faults) (λ none. (told.numbered, told.lines_are)) in
-    subst (λ (e : BatchEnd g.row.D.Denot). HasRunLive g.D.Disk.seen g.S.Source.left g.S.Source.faults old e.desk source source c.args.intake.now new e.answers why) (sym c.unserved.ensures.end) ran
+    subst (λ (e : BatchEnd g.row.D.Denot). HasRunLive g.D.Disk.seen g.S.Source.left g.S.Source.faults old e.desk source source c.args.intake.now new e.answers why) (sym c.end_unserved.ensures.end) ran
 
 pub returns-in-Err-clause-ran : goal.returns-in-Err-clause-ran
 returns-in-Err-clause-ran g c =
@@ -32,12 +32,12 @@ returns-in-Err-clause-ran g c =
     let source = c.args.source.now in
     let left = g.S.Source.left source in
     let faults = g.S.Source.faults source in
-    let told = c.unserved-in-Err.ensures.passed in
-    let new = c.unserved-in-Err.new.intake in
-    let why = c.unserved-in-Err.result.stop in
+    let told = c.end_unserved-in-Err.ensures.passed in
+    let new = c.end_unserved-in-Err.new.intake in
+    let why = c.end_unserved-in-Err.result.stop in
     let ran = has_run g.D.Disk.seen g.S.Source.left g.S.Source.faults old c.in-Err.field-0.value source source c.args.intake.now c.begin.new.self new None why c.requires c.batches.ensures.batches c.begin.ensures.begun c.begin.ensures.reads
     (told.taken left faults) told.batch (not_run g.D.Disk.seen old start cleared c.books-books.ensures.keeps c.in-Err.field-0.value c.in-Err.ensures.err told.batch) (told.ends left faults) (λ none. (told.numbered, told.lines_are)) in
-    subst (λ (e : BatchEnd g.row.D.Denot). HasRunLive g.D.Disk.seen g.S.Source.left g.S.Source.faults old e.desk source source c.args.intake.now new e.answers why) (sym c.unserved-in-Err.ensures.end) ran
+    subst (λ (e : BatchEnd g.row.D.Denot). HasRunLive g.D.Disk.seen g.S.Source.left g.S.Source.faults old e.desk source source c.args.intake.now new e.answers why) (sym c.end_unserved-in-Err.ensures.end) ran
 
 pub returns-in-Ok-clause-ran : goal.returns-in-Ok-clause-ran
 returns-in-Ok-clause-ran g c =

@@ -9,4 +9,4 @@ pub returns-clause-bad : goal.returns-clause-bad
 returns-clause-bad c =
     let none : Bor (List ℕ) = record { ref_ptr = (0, 0); now = [] } in
     let all = ap (map (λ (f : Bor (List ℕ)). f.now)) (five none c.args.args.now (omega (arith, c.in-len5.len_at_least)) (omega (arith, c.in-len5.len_below))) in
-    subst (λ (args : List (List ℕ)). IfErr c.filed.result (HasArgsCause (forms_of verbs.File) args)) (sym all) c.filed.ensures.bad
+    subst (λ (args : List (List ℕ)). IfErr c.file_of_fields.result (HasArgsCause (forms_of verbs.File) args)) (sym all) c.file_of_fields.ensures.bad

@@ -14,7 +14,7 @@ returns-in-Ok-Last-clause-found c =
       read = c.loop-line.invariant.read ∙ ap (λ (ls : List (List ℕ)). texts_of d ++ ls) c.in-Some.ensures.0;
       numbered = c.loop-line.invariant.numbered;
     } in
-    finish_found _ d c.in-Ok-Last.whole c.in-Some.line.now (lines c.in-Some.after.now) c.loop-line.number c.finished.result so_far step.0 step.1 c.finished.ensures.found
+    finish_found _ d c.in-Ok-Last.whole c.in-Some.line.now (lines c.in-Some.after.now) c.loop-line.number c.finish_draft.result so_far step.0 step.1 c.finish_draft.ensures.found
 
 pub returns-in-Ok-Last-clause-bad : goal.returns-in-Ok-Last-clause-bad
 returns-in-Ok-Last-clause-bad c =
@@ -26,7 +26,7 @@ returns-in-Ok-Last-clause-bad c =
       numbered = c.loop-line.invariant.numbered;
     } in
     let next : c.saturating_add.result ≡ c.loop-line.number + 1 = omega (arith, c.loop-line.invariant.counted, c.in-Some.ensures.1, c.saturating_add.ensures) in
-    finish_bad _ d c.in-Some.line.now (lines c.in-Some.after.now) c.loop-line.number c.saturating_add.result c.finished.result so_far step.1 next c.finished.ensures.bad
+    finish_bad _ d c.in-Some.line.now (lines c.in-Some.after.now) c.loop-line.number c.saturating_add.result c.finish_draft.result so_far step.1 next c.finish_draft.ensures.bad
 
 pub returns-in-Err-clause-bad : goal.returns-in-Err-clause-bad
 returns-in-Err-clause-bad c =
@@ -75,7 +75,7 @@ returns-in-Ok-Last-clause-cause c =
       numbered = c.loop-line.invariant.numbered;
     } in
     let next : c.saturating_add.result ≡ c.loop-line.number + 1 = omega (arith, c.loop-line.invariant.counted, c.in-Some.ensures.1, c.saturating_add.ensures) in
-    finish_cause _ d c.in-Some.line.now (lines c.in-Some.after.now) c.loop-line.number c.saturating_add.result c.finished.result so_far step.1 next c.finished.ensures.bad c.finished.ensures.cause
+    finish_cause _ d c.in-Some.line.now (lines c.in-Some.after.now) c.loop-line.number c.saturating_add.result c.finish_draft.result so_far step.1 next c.finish_draft.ensures.bad c.finish_draft.ensures.cause
 
 pub returns-in-Err-clause-cause : goal.returns-in-Err-clause-cause
 returns-in-Err-clause-cause c =

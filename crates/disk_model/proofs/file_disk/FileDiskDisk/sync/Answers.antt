@@ -6,7 +6,7 @@ use Rattle.disk_model.proofs.Moments.{untold_passes}
 use Rattle.disk_model.proofs.file_disk.FileDiskDisk.sync.Goals as goal
 
 pub returns-clause-crash : goal.returns-clause-crash
-returns-clause-crash g c = untold_passes c.args.self.now c.counted.new.self (IsPresent (untold c.args.self.now))
+returns-clause-crash g c = untold_passes c.args.self.now c.count_fault.new.self (IsPresent (untold c.args.self.now))
 
 pub returns-clause-cause : goal.returns-clause-cause
-returns-clause-cause g c = subst (λ (count : ℕ). IsCounted count c.counted.new.self c.counted.result) c.self.view_is c.counted.ensures
+returns-clause-cause g c = subst (λ (count : ℕ). IsCounted count c.count_fault.new.self c.count_fault.result) c.self.view_is c.count_fault.ensures

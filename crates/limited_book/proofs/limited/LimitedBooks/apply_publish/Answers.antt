@@ -26,6 +26,6 @@ invariant_of-self c =
       own_bytes_are = c.use_of-own.ensures.bytes;
       used_entries_then = c.more-self-inside.ensures.entries;
       used_bytes_then = c.more-self-inside.ensures.bytes;
-      reserved_entries_then = omega (arith, c.moved-self-inside.ensures.entries, c.reserved-reserved.ensures.entries, now_entries, later_entries);
-      reserved_bytes_then = omega (arith, c.moved-self-inside.ensures.bytes, c.reserved-reserved.ensures.bytes, now_bytes, later_bytes);
+      reserved_entries_then = omega (arith, c.replace_part-self-inside.ensures.entries, c.reserved-reserved.ensures.entries, now_entries, later_entries);
+      reserved_bytes_then = omega (arith, c.replace_part-self-inside.ensures.bytes, c.reserved-reserved.ensures.bytes, now_bytes, later_bytes);
     })

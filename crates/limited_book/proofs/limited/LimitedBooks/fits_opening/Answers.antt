@@ -26,8 +26,8 @@ returns-clause-fits c =
     let entries = opening_entries members call c.requires.opens _ _ _ _ c.used-used.ensures.entries c.reserved-reserved.ensures.entries now_entries c.endings_of-later.ensures.entries in
     let own : RECORD_HEAD + CLOSE_BODY + c.pool_bytes.result ≡ RECORD_HEAD + CLOSE_BODY + pool_bytes call.pool = ap (λ (n : ℕ). RECORD_HEAD + CLOSE_BODY + n) c.pool_bytes.ensures.bytes in
     let bytes = opening_bytes members call c.requires.opens c.args.cut.now _ _ _ _ _ c.requires.cut c.used-used.ensures.bytes own c.reserved-reserved.ensures.bytes now_bytes c.endings_of-later.ensures.bytes in
-    let entries_are : c.used-used.result.entries + 1 + c.moved-rest.result.entries ≡ needed_entries_of members call = omega (arith, entries, c.moved-rest.ensures.entries) in
-    let bytes_are : c.used-used.result.bytes + (RECORD_HEAD + CLOSE_BODY + c.pool_bytes.result) + c.moved-rest.result.bytes ≡ needed_bytes_of members call = omega (arith, bytes, c.moved-rest.ensures.bytes) in
+    let entries_are : c.used-used.result.entries + 1 + c.replace_part-rest.result.entries ≡ needed_entries_of members call = omega (arith, entries, c.replace_part-rest.ensures.entries) in
+    let bytes_are : c.used-used.result.bytes + (RECORD_HEAD + CLOSE_BODY + c.pool_bytes.result) + c.replace_part-rest.result.bytes ≡ needed_bytes_of members call = omega (arith, bytes, c.replace_part-rest.ensures.bytes) in
     fits_so members call _ _ entries_are bytes_are c.within_limits.result c.within_limits.ensures.within
 
 pub returns-clause-full : goal.returns-clause-full
@@ -39,6 +39,6 @@ returns-clause-full c =
     let entries = opening_entries members call c.requires.opens _ _ _ _ c.used-used.ensures.entries c.reserved-reserved.ensures.entries now_entries c.endings_of-later.ensures.entries in
     let own : RECORD_HEAD + CLOSE_BODY + c.pool_bytes.result ≡ RECORD_HEAD + CLOSE_BODY + pool_bytes call.pool = ap (λ (n : ℕ). RECORD_HEAD + CLOSE_BODY + n) c.pool_bytes.ensures.bytes in
     let bytes = opening_bytes members call c.requires.opens c.args.cut.now _ _ _ _ _ c.requires.cut c.used-used.ensures.bytes own c.reserved-reserved.ensures.bytes now_bytes c.endings_of-later.ensures.bytes in
-    let entries_are : c.used-used.result.entries + 1 + c.moved-rest.result.entries ≡ needed_entries_of members call = omega (arith, entries, c.moved-rest.ensures.entries) in
-    let bytes_are : c.used-used.result.bytes + (RECORD_HEAD + CLOSE_BODY + c.pool_bytes.result) + c.moved-rest.result.bytes ≡ needed_bytes_of members call = omega (arith, bytes, c.moved-rest.ensures.bytes) in
+    let entries_are : c.used-used.result.entries + 1 + c.replace_part-rest.result.entries ≡ needed_entries_of members call = omega (arith, entries, c.replace_part-rest.ensures.entries) in
+    let bytes_are : c.used-used.result.bytes + (RECORD_HEAD + CLOSE_BODY + c.pool_bytes.result) + c.replace_part-rest.result.bytes ≡ needed_bytes_of members call = omega (arith, bytes, c.replace_part-rest.ensures.bytes) in
     full_so members call _ _ entries_are bytes_are c.within_limits.result c.within_limits.ensures.over

@@ -2,7 +2,7 @@ use Rattle.std.proofs.Common.{◌≡◌, ◌∙◌, ℕ, List, true, length, get
 use Rattle.disk_model.specs.declared.step.Step.{Step}
 use Rattle.disk_model.specs.Steps.{reads_then, begins_within, Stepped}
 use Rattle.disk_model.proofs.OneStep.{within_at, reads_more, image_more}
-use Rattle.disk_model.proofs.replay.replayed.Goals as goal
+use Rattle.disk_model.proofs.replay.replay_steps.Goals as goal
 
 pub next_image-requires-clause-within : goal.next_image-requires-clause-within
 next_image-requires-clause-within c =

@@ -8,7 +8,7 @@ use Rattle.setoff_model.specs.declared.name.Key.{Key}
 use Rattle.statement_text.specs.Drafts.{Drafted, MayBeClaim, IsClaimOf}
 use Rattle.statement_text.proofs.Same.{key_place, name_place}
 use Rattle.statement_text.proofs.Drafts.{is_new, was_there, may_be_claim, key_refused, creditor_refused, debtor_refused, same_refused}
-use Rattle.statement_text.proofs.draft.Draft.placed.Goals as goal
+use Rattle.statement_text.proofs.draft.Draft.place_claim.Goals as goal
 
 abbrev Refused : Drafted → Key → List ℕ → ℕ → Type 0
 Refused d key debtor amount = (c : CutClaim) → MayBeClaim d c → IsClaimOf d.cut.parties key debtor amount c → ⊥

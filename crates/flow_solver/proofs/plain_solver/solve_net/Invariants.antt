@@ -1,6 +1,6 @@
 use Rattle.residual_state.specs.States.{IsStateOf, surplus}
 use Rattle.flow_solver.specs.Starts.{unweighed}
-use Rattle.flow_solver.proofs.plain_solver.solved.Given as goal
+use Rattle.flow_solver.proofs.plain_solver.solve_net.Given as goal
 
 abbrev pub invariant-loop-state : goal.invariant-loop-state
 invariant-loop-state l = IsStateOf (unweighed l.net) l.state

@@ -1,6 +1,6 @@
 use Rattle.std.proofs.Common.{List, ℕ, Bor, ◌∷◌, ap, map}
 use Rattle.request_text.proofs.Causes.{lane_cause}
-use Rattle.request_text.proofs.fields.asked_after.Goals as goal
+use Rattle.request_text.proofs.fields.read_lane_fields.Goals as goal
 
 pub returns-in-Err-clause-bad : goal.returns-in-Err-clause-bad
 returns-in-Err-clause-bad c =

@@ -4,7 +4,7 @@ use Rattle.clap.specs.Words.{fault_of, is_simple_and_free, kind_of}
 use Rattle.clap.specs.Kinds.{HasKind, IsAmong, Kinds}
 use Rattle.command_words.proofs.Commands.{fault_refused}
 use Rattle.command_words.proofs.Walks.{is_free}
-use Rattle.command_words.proofs.reading.parsed.Goals as goal
+use Rattle.command_words.proofs.reading.parse_words.Goals as goal
 
 pub returns-in-Ok-clause-taken : goal.returns-in-Ok-clause-taken
 returns-in-Ok-clause-taken c =
