@@ -1,8 +1,7 @@
 //! The line of a chain.
-ghost use Rattle.std.specs.Prelude.{◌≡◌, ℕ, ◌<◌, ◌≤◌, ◌+◌, ◌++◌, OnOk, OnErr, codes, flat_map, length, slice_index, vec_capacity, vec_len};
+ghost use Rattle.std.specs.Prelude.{◌≡◌, ℕ, ◌<◌, ◌≤◌, ◌+◌, ◌++◌, codes, flat_map, length, slice_index, vec_capacity, vec_len};
 ghost use Rattle.setoff_model.specs.declared.limits.TheConstants.{OUTPUT_BYTES, LINE_BYTES};
-ghost use Rattle.bureau_edge.specs.Streams.{AppendsPart, CountsFaults};
-ghost use Rattle.printed_text.specs.Writing.{GoesThrough};
+ghost use Rattle.printed_text.specs.Writing.{Prints};
 ghost use Rattle.chain_explain.specs.Chains.{chain_view};
 ghost use Rattle.chain_text.specs.Texts.{chain_head, chain_line, claim_name};
 
@@ -44,12 +43,8 @@ fn print_head<K: Sink>(sink: &mut K, buffer: &mut Vec<u8>, chain: Chain) -> Resu
     requires spare { OUTPUT_BYTES ≤ vec_capacity buffer.old }
 
     // The text went through, or the sink failed and took some first bytes of it.
-    ensures ok { OnOk result (GoesThrough (K.held sink.old) (K.held sink.new) buffer.old.items buffer.new.items
-        (chain_head chain.closed chain.amount)) }
-    ensures part { OnErr result (AppendsPart (K.held sink.old) (K.held sink.new)
-        (buffer.old.items ++ chain_head chain.closed chain.amount)) }
-    ensures cause { CountsFaults (K.faults sink.old) (K.faults sink.new) result }
-    ensures room { OUTPUT_BYTES ≤ vec_capacity buffer.new }
+    ensures { Prints K.held K.faults sink.old sink.new buffer.old buffer.new
+        (chain_head chain.closed chain.amount) result }
 {
     make_room(sink, buffer)?;
     write_head(buffer, chain);
@@ -67,11 +62,8 @@ fn print_claim_name<K: Sink>(
     requires spare { OUTPUT_BYTES ≤ vec_capacity buffer.old }
 
     // The text went through, or the sink failed and took some first bytes of it.
-    ensures ok { OnOk result (GoesThrough (K.held sink.old) (K.held sink.new) buffer.old.items buffer.new.items
-        (claim_name cut.now.claims place)) }
-    ensures part { OnErr result (AppendsPart (K.held sink.old) (K.held sink.new) (buffer.old.items ++ claim_name cut.now.claims place)) }
-    ensures cause { CountsFaults (K.faults sink.old) (K.faults sink.new) result }
-    ensures room { OUTPUT_BYTES ≤ vec_capacity buffer.new }
+    ensures { Prints K.held K.faults sink.old sink.new buffer.old buffer.new
+        (claim_name cut.now.claims place) result }
 {
     make_room(sink, buffer)?;
     write_claim_name(buffer, cut, place);
@@ -89,12 +81,8 @@ fn print_claim_names<K: Sink>(
     requires spare { OUTPUT_BYTES ≤ vec_capacity buffer.old }
 
     // The text went through, or the sink failed and took some first bytes of it.
-    ensures ok { OnOk result (GoesThrough (K.held sink.old) (K.held sink.new) buffer.old.items buffer.new.items
-        (flat_map (λ place. claim_name cut.now.claims place) places.now)) }
-    ensures part { OnErr result (AppendsPart (K.held sink.old) (K.held sink.new)
-        (buffer.old.items ++ flat_map (λ place. claim_name cut.now.claims place) places.now)) }
-    ensures cause { CountsFaults (K.faults sink.old) (K.faults sink.new) result }
-    ensures room { OUTPUT_BYTES ≤ vec_capacity buffer.new }
+    ensures { Prints K.held K.faults sink.old sink.new buffer.old buffer.new
+        (flat_map (λ place. claim_name cut.now.claims place) places.now) result }
 {
     for i in 0..places.len() {
         print_claim_name(sink, buffer, cut, places[i])?;
@@ -107,10 +95,7 @@ fn print_end<K: Sink>(sink: &mut K, buffer: &mut Vec<u8>) -> Result<(), Failed>
     requires spare { OUTPUT_BYTES ≤ vec_capacity buffer.old }
 
     // The text went through, or the sink failed and took some first bytes of it.
-    ensures ok { OnOk result (GoesThrough (K.held sink.old) (K.held sink.new) buffer.old.items buffer.new.items (codes "\n")) }
-    ensures part { OnErr result (AppendsPart (K.held sink.old) (K.held sink.new) (buffer.old.items ++ codes "\n")) }
-    ensures cause { CountsFaults (K.faults sink.old) (K.faults sink.new) result }
-    ensures room { OUTPUT_BYTES ≤ vec_capacity buffer.new }
+    ensures { Prints K.held K.faults sink.old sink.new buffer.old buffer.new (codes "\n") result }
 {
     make_room(sink, buffer)?;
     put(buffer, b"\n");
@@ -129,12 +114,8 @@ pub(crate) fn print_chain<K: Sink>(
     requires spare { OUTPUT_BYTES ≤ vec_capacity buffer.old }
 
     // The text went through, or the sink failed and took some first bytes of it.
-    ensures ok { OnOk result (GoesThrough (K.held sink.old) (K.held sink.new) buffer.old.items buffer.new.items
-        (chain_line cut.now (chain_view chain places.now))) }
-    ensures part { OnErr result (AppendsPart (K.held sink.old) (K.held sink.new)
-        (buffer.old.items ++ chain_line cut.now (chain_view chain places.now))) }
-    ensures cause { CountsFaults (K.faults sink.old) (K.faults sink.new) result }
-    ensures room { OUTPUT_BYTES ≤ vec_capacity buffer.new }
+    ensures { Prints K.held K.faults sink.old sink.new buffer.old buffer.new
+        (chain_line cut.now (chain_view chain places.now)) result }
 {
     print_head(sink, buffer, chain)?;
     print_claim_names(sink, buffer, cut, places)?;

@@ -13,7 +13,7 @@ ghost use Rattle.printed_text.specs.declared.exit_status.ExitStatus.TheVariants 
 ghost use Rattle.printed_text.specs.entry_text.specs.Entries.{entry_line};
 ghost use Rattle.printed_text.specs.Printing.{IsPrintableAt, member_text, statement_of};
 ghost use Rattle.printed_text.specs.Statuses.{TellsSinkFault};
-ghost use Rattle.printed_text.specs.Writing.{GoesThrough, Wrote};
+ghost use Rattle.printed_text.specs.Writing.{Prints, Wrote};
 ghost use Rattle.history_text.specs.declared.told.Told.TheVariants as told;
 ghost use Rattle.history_text.specs.Histories.{AreFirst, HasPrinted, HasTold, HasToldOne, IsHistoryDue};
 ghost use Rattle.history_text.specs.Histories.{IsToldDue, text_from, told_members, told_text};
@@ -40,13 +40,8 @@ fn print_one<K: Sink>(
     requires spare { OUTPUT_BYTES ≤ vec_capacity buffer.old }
 
     // The text went through, or the sink failed and took some first bytes of it.
-    ensures ok { OnOk result (GoesThrough (K.held sink.old) (K.held sink.new) buffer.old.items buffer.new.items
-        (entry_line (member_of pool.now entry.now) ++ statement_of (slice_get rounds.now 0) entry.now.act entry.now.reply)) }
-    ensures part { OnErr result (AppendsPart (K.held sink.old) (K.held sink.new)
-        (buffer.old.items ++ (entry_line (member_of pool.now entry.now)
-        ++ statement_of (slice_get rounds.now 0) entry.now.act entry.now.reply))) }
-    ensures cause { CountsFaults (K.faults sink.old) (K.faults sink.new) result }
-    ensures room { OUTPUT_BYTES ≤ vec_capacity buffer.new }
+    ensures { Prints K.held K.faults sink.old sink.new buffer.old buffer.new
+        (entry_line (member_of pool.now entry.now) ++ statement_of (slice_get rounds.now 0) entry.now.act entry.now.reply) result }
 {
     let _next = print_member(sink, buffer, pool, entry, rounds, 0)?;
     Ok(())
@@ -65,15 +60,13 @@ fn print_shown<K: Sink>(
     requires open { (total : ℕ) → entry.now.reply ≡ reply.Published total → is_some (open_cut_in replayed.now.members pool.now) ≡ true }
     requires printable { (total : ℕ) → entry.now.reply ≡ reply.Published total
         → (cut : CutView) → open_cut_in replayed.now.members pool.now ≡ Some cut → IsPrintableAt (cut ∷ []) 0 entry.now.act }
+
+    // The buffer.
     requires spare { OUTPUT_BYTES ≤ vec_capacity buffer.old }
 
     // The text went through, or the sink failed and took some first bytes of it.
-    ensures ok { OnOk result (GoesThrough (K.held sink.old) (K.held sink.new) buffer.old.items buffer.new.items
-        (member_text replayed.now.members (member_of pool.now entry.now))) }
-    ensures part { OnErr result (AppendsPart (K.held sink.old) (K.held sink.new)
-        (buffer.old.items ++ member_text replayed.now.members (member_of pool.now entry.now))) }
-    ensures cause { CountsFaults (K.faults sink.old) (K.faults sink.new) result }
-    ensures room { OUTPUT_BYTES ≤ vec_capacity buffer.new }
+    ensures { Prints K.held K.faults sink.old sink.new buffer.old buffer.new
+        (member_text replayed.now.members (member_of pool.now entry.now)) result }
 {
     match entry.reply {
         Reply::Published { .. } => {

@@ -12,7 +12,7 @@ ghost use Rattle.printed_text.specs.statement_text.specs.declared.line.Line.TheV
 ghost use Rattle.printed_text.specs.declared.exit_status.ExitStatus.TheVariants as statuses;
 ghost use Rattle.printed_text.specs.Printing.{IsPrintable, IsPrintableAt, line_bytes, lines_bytes};
 ghost use Rattle.printed_text.specs.Statuses.{TellsSinkFault};
-ghost use Rattle.printed_text.specs.Writing.{GoesThrough, IsWritten, Wrote};
+ghost use Rattle.printed_text.specs.Writing.{IsWritten, Prints, Wrote};
 ghost use Rattle.history_text.specs.Histories.{IsDoneWith};
 ghost use Rattle.history_text.specs.Lists.{IsListed, names_at};
 ghost use Rattle.history_text.specs.Pages.{net_text, page_claims, page_text, pages_of, pages_text};
@@ -73,15 +73,13 @@ fn print_named<K: Sink>(
     requires lawful { IsLawful (obligations cut.now) discharges.now }
     requires listed { IsListed (obligations cut.now) 0 lists.now }
     requires party { party < length cut.now.parties }
+
+    // The buffer.
     requires spare { OUTPUT_BYTES ≤ vec_capacity buffer.old }
 
     // The text went through, or the sink failed and took some first bytes of it.
-    ensures ok { OnOk result (GoesThrough (K.held sink.old) (K.held sink.new) buffer.old.items buffer.new.items
-        (lines_bytes (page_claims cut.now.parties party cut.now.claims discharges.now))) }
-    ensures part { OnErr result (AppendsPart (K.held sink.old) (K.held sink.new)
-        (buffer.old.items ++ lines_bytes (page_claims cut.now.parties party cut.now.claims discharges.now))) }
-    ensures cause { CountsFaults (K.faults sink.old) (K.faults sink.new) result }
-    ensures room { OUTPUT_BYTES ≤ vec_capacity buffer.new }
+    ensures printed { Prints K.held K.faults sink.old sink.new buffer.old buffer.new
+        (lines_bytes (page_claims cut.now.parties party cut.now.claims discharges.now)) result }
 
     // What is discharged.
     ensures received { IfOk result (λ net. net.received ≡ inflow (obligations cut.now) discharges.now party) }
@@ -123,12 +121,8 @@ fn print_page_end<K: Sink>(sink: &mut K, buffer: &mut Vec<u8>, net: Net) -> Resu
     requires spare { OUTPUT_BYTES ≤ vec_capacity buffer.old }
 
     // The text went through, or the sink failed and took some first bytes of it.
-    ensures ok { OnOk result (GoesThrough (K.held sink.old) (K.held sink.new) buffer.old.items buffer.new.items
-        (net_text net.received net.paid ++ line_bytes line.End)) }
-    ensures part { OnErr result (AppendsPart (K.held sink.old) (K.held sink.new)
-        (buffer.old.items ++ (net_text net.received net.paid ++ line_bytes line.End))) }
-    ensures cause { CountsFaults (K.faults sink.old) (K.faults sink.new) result }
-    ensures room { OUTPUT_BYTES ≤ vec_capacity buffer.new }
+    ensures { Prints K.held K.faults sink.old sink.new buffer.old buffer.new
+        (net_text net.received net.paid ++ line_bytes line.End) result }
 {
     make_room(sink, buffer)?;
     write_page_end(buffer, net);
@@ -150,13 +144,9 @@ fn print_page<K: Sink>(
     requires spare { OUTPUT_BYTES ≤ vec_capacity buffer.old }
 
     // The text went through, or the sink failed and took some first bytes of it.
-    ensures ok { (none : Party) → OnOk result (GoesThrough (K.held sink.old) (K.held sink.new) buffer.old.items buffer.new.items
-        (page_text cut.now outcome.now.discharges place (slice_index_or cut.now.parties place none) (price_at outcome.now.prices place))) }
-    ensures part { (none : Party) → OnErr result (AppendsPart (K.held sink.old) (K.held sink.new) (buffer.old.items
-        ++ page_text cut.now outcome.now.discharges place
-        (slice_index_or cut.now.parties place none) (price_at outcome.now.prices place))) }
-    ensures cause { CountsFaults (K.faults sink.old) (K.faults sink.new) result }
-    ensures room { OUTPUT_BYTES ≤ vec_capacity buffer.new }
+    ensures { (none : Party) → Prints K.held K.faults sink.old sink.new buffer.old buffer.new
+        (page_text cut.now outcome.now.discharges place
+        (slice_index_or cut.now.parties place none) (price_at outcome.now.prices place)) result }
 {
     print_head(sink, buffer, cut)?;
     print_party(sink, buffer, &cut.parties()[place], outcome.prices()[place])?;
@@ -177,12 +167,8 @@ fn print_pages<K: Sink>(
     requires spare { OUTPUT_BYTES ≤ vec_capacity buffer.old }
 
     // The text went through, or the sink failed and took some first bytes of it.
-    ensures ok { OnOk result (GoesThrough (K.held sink.old) (K.held sink.new) buffer.old.items buffer.new.items
-        (pages_text cut.now outcome.now)) }
-    ensures part { OnErr result (AppendsPart (K.held sink.old) (K.held sink.new)
-        (buffer.old.items ++ pages_text cut.now outcome.now)) }
-    ensures cause { CountsFaults (K.faults sink.old) (K.faults sink.new) result }
-    ensures room { OUTPUT_BYTES ≤ vec_capacity buffer.new }
+    ensures { Prints K.held K.faults sink.old sink.new buffer.old buffer.new
+        (pages_text cut.now outcome.now) result }
 {
     let parties = cut.parties().len();
     for place in 0..parties {

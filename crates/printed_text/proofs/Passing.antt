@@ -1,12 +1,16 @@
 -- Text that goes through a buffer, step after step.
-use Rattle.std.proofs.Common.{◌≡◌, ℕ, List, [], ◌++◌, refl, sym, ap, ◌∙◌, subst, append_assoc, arith}
-use Rattle.std.specs.Prelude.{Option, Result, Ok, Err, IsErr, OnOk, OnErr}
+use Rattle.std.proofs.Common.{◌≡◌, ◌≤◌, ℕ, List, [], ◌++◌, refl, sym, ap, ◌∙◌, subst, append_assoc, vec_capacity, arith}
+use Rattle.std.specs.Prelude.{Option, Result, Ok, Err, IsErr, OnOk, OnErr, Vec}
+use Rattle.std.specs.declared.alloc.Global.{Global}
 use Rattle.std.specs.Io.KnownBytes.{Appends}
 use Rattle.std.proofs.lemmas.List.{append-nil}
+use Rattle.setoff_model.specs.declared.limits.TheConstants.{OUTPUT_BYTES}
+use Rattle.setoff_model.proofs.Lists.{on_err}
 use Rattle.served_lines.specs.fault_count.specs.Counts.{HasRisen}
+use Rattle.bureau_edge.specs.declared.failed.Failed.{Failed}
 use Rattle.bureau_edge.specs.Streams.{AppendsPart, CountsFaults}
 use Rattle.bureau_edge.proofs.Known.{Appends-none, Appends-then}
-use Rattle.printed_text.specs.Writing.{GoesThrough}
+use Rattle.printed_text.specs.Writing.{GoesThrough, Prints}
 
 -- a text that stays in the buffer
 pub pass_into : (x : Option (List ℕ)) (a t : List ℕ) → GoesThrough x x a (a ++ t) t
@@ -104,4 +108,102 @@ counted_later low before after e r err same c = record {
   later = omega (arith, same, c.later);
   cause = λ _. subst (λ (n : ℕ). HasRisen n after) same (c.cause refl);
   kept = none_ok r _ err;
+}
+
+-- ---- what printers leave
+
+-- the same text
+pub prints_as : {S T : Type 0} {held : S → Option (List ℕ)} {faults : S → ℕ} {x y : S} {a b : Vec ℕ Global} {t u : List ℕ} {r : Result T Failed}
+    → t ≡ u → Prints held faults x y a b t r → Prints held faults x y a b u r
+prints_as {held = held} {faults = faults} {x = x} {y = y} {a = a} {b = b} {r = r} e p = subst (λ (w : List ℕ). Prints held faults x y a b w r) e p
+
+-- a line that was put behind what is in the buffer
+pub prints_line : {S T : Type 0} {held : S → Option (List ℕ)} {faults : S → ℕ} {x y : S} {a c : Vec ℕ Global} {t : T} (b : Vec ℕ Global) (line : List ℕ)
+    → GoesThrough (held x) (held y) a.items b.items [] → faults y ≡ faults x → OUTPUT_BYTES ≤ vec_capacity b → c.items ≡ b.items ++ line → vec_capacity b ≤ vec_capacity c
+    → Prints held faults x y a c line (Ok t)
+prints_line {held = held} {faults = faults} {x = x} {y = y} {a = a} {c = c} b line p same room e wide = record {
+  ok = pass_line (held x) (held y) a.items b.items c.items line p e;
+  part = tt;
+  cause = record { later = omega (arith, same); cause = λ err. absurd (cc err); kept = same };
+  room = omega (arith, room, wide);
+}
+
+-- there was no room for a line, since the sink failed
+pub prints_no_line : {S T U : Type 0} {held : S → Option (List ℕ)} {faults : S → ℕ} {x y : S} {a b : Vec ℕ Global} {e : Failed} {r : Result U Failed} (line : List ℕ)
+    → IsErr r → AppendsPart (held x) (held y) a.items → CountsFaults {T = T} (faults x) (faults y) (Err e) → OUTPUT_BYTES ≤ vec_capacity b
+    → Prints held faults x y a b line r
+prints_no_line {held = held} {faults = faults} {x = x} {y = y} {a = a} {e = e} {r = r} line err part cause room = record {
+  ok = none_ok r _ err;
+  part = on_err r _ (part_more (held x) (held y) a.items line part);
+  cause = counted_later (faults x) (faults x) (faults y) e r err refl cause;
+  room = room;
+}
+
+-- of two calls that went well alike
+pub prints_same : {S T U : Type 0} {held : S → Option (List ℕ)} {faults : S → ℕ} {x y : S} {a b : Vec ℕ Global} {t : List ℕ} {v : T} {w : U}
+    → Prints held faults x y a b t (Ok v) → Prints held faults x y a b t (Ok w)
+prints_same p = record {
+  ok = p.ok;
+  part = tt;
+  cause = record { later = p.cause.later; cause = λ err. absurd (cc err); kept = p.cause.kept };
+  room = p.room;
+}
+
+-- a failure that is handed on
+pub prints_failed : {S T U : Type 0} {held : S → Option (List ℕ)} {faults : S → ℕ} {x y : S} {a b : Vec ℕ Global} {t : List ℕ} {e : Failed} {r : Result U Failed}
+    → IsErr r → Prints {T = T} held faults x y a b t (Err e) → Prints held faults x y a b t r
+prints_failed {faults = faults} {x = x} {y = y} {e = e} {r = r} err p = record {
+  ok = none_ok r _ err;
+  part = on_err r _ p.part;
+  cause = counted_later (faults x) (faults x) (faults y) e r err refl p.cause;
+  room = p.room;
+}
+
+-- the same with the text that was to come
+pub prints_no_more : {S T U : Type 0} {held : S → Option (List ℕ)} {faults : S → ℕ} {x y : S} {a b : Vec ℕ Global} {t : List ℕ} {e : Failed} {r : Result U Failed} (u : List ℕ)
+    → IsErr r → Prints {T = T} held faults x y a b t (Err e) → Prints held faults x y a b (t ++ u) r
+prints_no_more {held = held} {faults = faults} {x = x} {y = y} {a = a} {t = t} {e = e} {r = r} u err p = record {
+  ok = none_ok r _ err;
+  part = on_err r _ (subst (AppendsPart (held x) (held y)) (append_assoc a.items t u) (part_more (held x) (held y) (a.items ++ t) u p.part));
+  cause = counted_later (faults x) (faults x) (faults y) e r err refl p.cause;
+  room = p.room;
+}
+
+-- one text after another
+pub prints_then : {S T U : Type 0} {held : S → Option (List ℕ)} {faults : S → ℕ} {x y z : S} {a b c : Vec ℕ Global} {t u : List ℕ} {v : T} {r : Result U Failed}
+    → Prints held faults x y a b t (Ok v) → Prints held faults y z b c u r → Prints held faults x z a c (t ++ u) r
+prints_then {held = held} {faults = faults} {x = x} {y = y} {z = z} {a = a} {b = b} {c = c} {t = t} {u = u} {r = r} p q = record {
+  ok = on_ok_if r _ _ (λ h. pass_then (held x) (held y) (held z) a.items b.items c.items t u p.ok h) q.ok;
+  part = on_err_if r _ _ (λ h. part_then (held x) (held y) (held z) a.items b.items t u p.ok h) q.part;
+  cause = counted_behind (faults x) (faults y) (faults z) r p.cause.kept q.cause;
+  room = q.room;
+}
+
+-- a step that failed, behind those before it
+pub prints_up_to : {S T U : Type 0} {held : S → Option (List ℕ)} {faults : S → ℕ} {x y z : S} {a b c : Vec ℕ Global} {all : List ℕ} {e : Failed} {r : Result U Failed} (line rest : List ℕ)
+    → IsErr r → GoesThroughUpTo (held x) (held y) a.items b.items (line ++ rest) all → faults y ≡ faults x → Prints {T = T} held faults y z b c line (Err e) → Prints held faults x z a c all r
+prints_up_to {held = held} {faults = faults} {x = x} {y = y} {z = z} {a = a} {b = b} {all = all} {e = e} {r = r} line rest err u same p = record {
+  ok = none_ok r _ err;
+  part = on_err r _ (up_breaks (held x) (held y) (held z) a.items b.items line rest all u p.part);
+  cause = counted_later (faults x) (faults y) (faults z) e r err same p.cause;
+  room = p.room;
+}
+
+-- all of a text, step after step
+pub prints_all : {S T : Type 0} {held : S → Option (List ℕ)} {faults : S → ℕ} {x y : S} {a b : Vec ℕ Global} {rest all : List ℕ} {v : T}
+    → GoesThroughUpTo (held x) (held y) a.items b.items rest all → rest ≡ [] → faults y ≡ faults x → OUTPUT_BYTES ≤ vec_capacity b → Prints held faults x y a b all (Ok v)
+prints_all {held = held} {faults = faults} {x = x} {y = y} {a = a} {b = b} {rest = rest} {all = all} u none same room = record {
+  ok = up_ends (held x) (held y) a.items b.items rest all u none;
+  part = tt;
+  cause = record { later = omega (arith, same); cause = λ err. absurd (cc err); kept = same };
+  room = room;
+}
+
+-- nothing, and nothing done
+pub prints_none : {S T : Type 0} {held : S → Option (List ℕ)} {faults : S → ℕ} {x : S} {a : Vec ℕ Global} {v : T} → OUTPUT_BYTES ≤ vec_capacity a → Prints held faults x x a a [] (Ok v)
+prints_none {held = held} {x = x} {a = a} room = record {
+  ok = pass_none (held x) a.items;
+  part = tt;
+  cause = record { later = omega arith; cause = λ err. absurd (cc err); kept = refl };
+  room = room;
 }

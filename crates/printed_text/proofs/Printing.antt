@@ -23,10 +23,7 @@ use Rattle.statement_text.specs.declared.line.Line.{Line}
 use Rattle.statement_text.specs.declared.line.Line.TheVariants as line
 use Rattle.statement_text.specs.Lines.{line_text}
 use Rattle.statement_text.specs.Statements.{party_lines, claim_line, claim_lines, front_of, statement_bytes}
-use Rattle.bureau_edge.specs.Streams.{AppendsPart}
-use Rattle.printed_text.specs.Writing.{GoesThrough}
 use Rattle.printed_text.specs.Printing.{IsPrintable, IsPrintableAt, end_text, ends_text, line_bytes, lines_bytes, rounds_in, statement_of, unanswered, unanswered_lines}
-use Rattle.printed_text.proofs.Passing.{pass_then, part_then, part_more}
 
 -- ---- lines that were not replied to
 
@@ -82,32 +79,6 @@ statement_of_lists cut outcome parties prices discharges parties_are prices_are 
     statement_parts cut outcome
     ∙ ap₂ (λ (fs : List Party) (ps : List ℤ). head ++ (lines_bytes (party_lines fs ps) ++ (lines_bytes (claim_lines cut.parties cut.claims outcome.discharges) ++ line_bytes line.End))) (sym parties_are) (sym prices_are)
     ∙ ap (λ (ds : List ℕ). head ++ (lines_bytes (party_lines parties prices) ++ (lines_bytes (claim_lines cut.parties cut.claims ds) ++ line_bytes line.End))) (sym discharges_are)
-
--- a text that went through the buffer in four pieces, and one that broke off in one of them
-pub four_pass : (v w x y z : Option (List ℕ)) (a b c d e t₁ t₂ t₃ t₄ all : List ℕ) → all ≡ t₁ ++ (t₂ ++ (t₃ ++ t₄)) → GoesThrough v w a b t₁ → GoesThrough w x b c t₂ → GoesThrough x y c d t₃ → GoesThrough y z d e t₄ → GoesThrough v z a e all
-four_pass v w x y z a b c d e t₁ t₂ t₃ t₄ all is p₁ p₂ p₃ p₄ =
-    subst (GoesThrough v z a e) (sym is)
-    (pass_then v w z a b e t₁ (t₂ ++ (t₃ ++ t₄)) p₁ (pass_then w x z b c e t₂ (t₃ ++ t₄) p₂ (pass_then x y z c d e t₃ t₄ p₃ p₄)))
-
-first_breaks : (x z : Option (List ℕ)) (a t rest : List ℕ) → AppendsPart x z (a ++ t) → AppendsPart x z (a ++ (t ++ rest))
-first_breaks x z a t rest q = subst (AppendsPart x z) (append_assoc a t rest) (part_more x z (a ++ t) rest q)
-
-pub breaks_at_first : (v z : Option (List ℕ)) (a t₁ rest all : List ℕ) → all ≡ t₁ ++ rest → AppendsPart v z (a ++ t₁) → AppendsPart v z (a ++ all)
-breaks_at_first v z a t₁ rest all is q = subst (λ (t : List ℕ). AppendsPart v z (a ++ t)) (sym is) (first_breaks v z a t₁ rest q)
-
-pub breaks_at_second : (v w z : Option (List ℕ)) (a b t₁ t₂ rest all : List ℕ) → all ≡ t₁ ++ (t₂ ++ rest) → GoesThrough v w a b t₁ → AppendsPart w z (b ++ t₂) → AppendsPart v z (a ++ all)
-breaks_at_second v w z a b t₁ t₂ rest all is p₁ q =
-    subst (λ (t : List ℕ). AppendsPart v z (a ++ t)) (sym is) (part_then v w z a b t₁ (t₂ ++ rest) p₁ (first_breaks w z b t₂ rest q))
-
-pub breaks_at_third : (v w x z : Option (List ℕ)) (a b c t₁ t₂ t₃ rest all : List ℕ) → all ≡ t₁ ++ (t₂ ++ (t₃ ++ rest)) → GoesThrough v w a b t₁ → GoesThrough w x b c t₂ → AppendsPart x z (c ++ t₃) → AppendsPart v z (a ++ all)
-breaks_at_third v w x z a b c t₁ t₂ t₃ rest all is p₁ p₂ q =
-    subst (λ (t : List ℕ). AppendsPart v z (a ++ t)) (sym is)
-    (part_then v w z a b t₁ (t₂ ++ (t₃ ++ rest)) p₁ (part_then w x z b c t₂ (t₃ ++ rest) p₂ (first_breaks x z c t₃ rest q)))
-
-pub breaks_at_fourth : (v w x y z : Option (List ℕ)) (a b c d t₁ t₂ t₃ t₄ all : List ℕ) → all ≡ t₁ ++ (t₂ ++ (t₃ ++ t₄)) → GoesThrough v w a b t₁ → GoesThrough w x b c t₂ → GoesThrough x y c d t₃ → AppendsPart y z (d ++ t₄) → AppendsPart v z (a ++ all)
-breaks_at_fourth v w x y z a b c d t₁ t₂ t₃ t₄ all is p₁ p₂ p₃ q =
-    subst (λ (t : List ℕ). AppendsPart v z (a ++ t)) (sym is)
-    (part_then v w z a b t₁ (t₂ ++ (t₃ ++ t₄)) p₁ (part_then w x z b c t₂ (t₃ ++ t₄) p₂ (part_then x y z c d t₃ t₄ p₃ q)))
 
 -- what the writers ask for
 pub spends_fit : (cut : CutView) → WellFormed cut → All (λ f. f.spend ≤ MOST_WINDOW) cut.parties

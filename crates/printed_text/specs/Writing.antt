@@ -1,7 +1,10 @@
 -- Text that is written in pieces through a buffer.
-use Rattle.std.specs.Prelude.{◌≡◌, ℕ, List, ◌++◌, Option}
+use Rattle.std.specs.Prelude.{◌≡◌, ◌≤◌, ℕ, List, ◌++◌, Option, Result, OnOk, OnErr, Vec, vec_capacity}
+use Rattle.std.specs.declared.alloc.Global.{Global}
 use Rattle.std.specs.Io.KnownBytes.{Appends}
-use Rattle.bureau_edge.specs.Streams.{AppendsPart}
+use Rattle.setoff_model.specs.declared.limits.TheConstants.{OUTPUT_BYTES}
+use Rattle.bureau_edge.specs.declared.failed.Failed.{Failed}
+use Rattle.bureau_edge.specs.Streams.{AppendsPart, CountsFaults}
 use Rattle.printed_text.specs.declared.exit_status.ExitStatus.{ExitStatus}
 use Rattle.printed_text.specs.declared.exit_status.ExitStatus.TheVariants as statuses
 
@@ -10,6 +13,15 @@ pub record GoesThrough (held_old held_new : Option (List ℕ)) (old new text : L
   pub taken : List ℕ
   pub split : old ++ text ≡ taken ++ new
   pub appended : Appends held_old held_new taken
+
+-- what a printer leaves of the sink and the buffer: a text went through, or the sink failed, counted this, and took some first bytes of
+-- what was in the buffer and the text; the buffer has room again
+pub record Prints {S T : Type 0} (held : S → Option (List ℕ)) (faults : S → ℕ) (sink_old sink_new : S) (old new : Vec ℕ Global)
+    (text : List ℕ) (result : Result T Failed) : Type 0 where
+  pub ok : OnOk result (GoesThrough (held sink_old) (held sink_new) old.items new.items text)
+  pub part : OnErr result (AppendsPart (held sink_old) (held sink_new) (old.items ++ text))
+  pub cause : CountsFaults (faults sink_old) (faults sink_new) result
+  pub room : OUTPUT_BYTES ≤ vec_capacity new
 
 -- the status is the due one and the sink took its text, or it tells of the sink, which took some first bytes of the text
 pub data IsWritten (held_old held_new : Option (List ℕ)) (due : ExitStatus) (text : List ℕ) : ExitStatus → Type 0 where

@@ -7,7 +7,7 @@
 //!
 //! Text goes line by line through a buffer of `OUTPUT_BYTES` to the sink. Once the buffer is there, printing takes no
 //! memory. What was in the buffer and the text are what the sink took and what is in the buffer now: `GoesThrough` says this
-//! of a step, and steps add up. Where the sink failed, it took some first bytes of the text.
+//! of a step, and steps add up. Where the sink failed, it took some first bytes of the text. `Prints` says both of a call.
 //!
 //! `end_with` writes the one line that ends a run, and says its `ExitStatus`, which is `Sink` where the sink failed. A fault line that has
 //! no parts has a function of its own.

@@ -11,7 +11,7 @@ ghost use Rattle.served_lines.specs.claim_history.specs.PoolRounds.{cuts_after};
 ghost use Rattle.entry_text.specs.Entries.{entry_line};
 ghost use Rattle.printed_text.specs.Printing.{added_text, end_text, ends_text, statement_of};
 ghost use Rattle.printed_text.specs.Printing.{IsPrintableAt, rounds_in, printed_of, unanswered, unanswered_lines};
-ghost use Rattle.printed_text.specs.Writing.{GoesThrough};
+ghost use Rattle.printed_text.specs.Writing.{GoesThrough, Prints};
 
 use crate::fault_text::{write_full_line, write_memory_line};
 use crate::statement::print_statement;
@@ -76,12 +76,8 @@ fn print_entry<K: Sink>(
     requires spare { OUTPUT_BYTES ≤ vec_capacity buffer.old }
 
     // The text went through, or the sink failed and took some first bytes of it.
-    ensures ok { OnOk result (GoesThrough (K.held sink.old) (K.held sink.new) buffer.old.items buffer.new.items
-        (entry_line (member_of pool.now entry.now))) }
-    ensures part { OnErr result (AppendsPart (K.held sink.old) (K.held sink.new)
-        (buffer.old.items ++ entry_line (member_of pool.now entry.now))) }
-    ensures cause { CountsFaults (K.faults sink.old) (K.faults sink.new) result }
-    ensures room { OUTPUT_BYTES ≤ vec_capacity buffer.new }
+    ensures { Prints K.held K.faults sink.old sink.new buffer.old buffer.new
+        (entry_line (member_of pool.now entry.now)) result }
 {
     make_room(sink, buffer)?;
     write_member(buffer, pool, entry);
@@ -104,13 +100,9 @@ pub fn print_publication<K: Sink>(
     requires spare { OUTPUT_BYTES ≤ vec_capacity buffer.old }
 
     // The text went through, or the sink failed and took some first bytes of it.
-    ensures ok { OnOk result (GoesThrough (K.held sink.old) (K.held sink.new) buffer.old.items buffer.new.items
-        (statement_of (slice_get rounds.now next) entry.now.act entry.now.reply)) }
+    ensures printed { Prints K.held K.faults sink.old sink.new buffer.old buffer.new
+        (statement_of (slice_get rounds.now next) entry.now.act entry.now.reply) result }
     ensures next { IfOk result (λ place. place ≡ next + rounds_in entry.now.reply) }
-    ensures part { OnErr result (AppendsPart (K.held sink.old) (K.held sink.new)
-        (buffer.old.items ++ statement_of (slice_get rounds.now next) entry.now.act entry.now.reply)) }
-    ensures cause { CountsFaults (K.faults sink.old) (K.faults sink.new) result }
-    ensures room { OUTPUT_BYTES ≤ vec_capacity buffer.new }
 {
     let Reply::Published { .. } = entry.reply else {
         return Ok(next);
@@ -138,14 +130,9 @@ pub fn print_member<K: Sink>(
     requires spare { OUTPUT_BYTES ≤ vec_capacity buffer.old }
 
     // The text went through, or the sink failed and took some first bytes of it.
-    ensures ok { OnOk result (GoesThrough (K.held sink.old) (K.held sink.new) buffer.old.items buffer.new.items
-        (entry_line (member_of pool.now entry.now) ++ statement_of (slice_get rounds.now next) entry.now.act entry.now.reply)) }
+    ensures printed { Prints K.held K.faults sink.old sink.new buffer.old buffer.new
+        (entry_line (member_of pool.now entry.now) ++ statement_of (slice_get rounds.now next) entry.now.act entry.now.reply) result }
     ensures next { IfOk result (λ place. place ≡ next + rounds_in entry.now.reply) }
-    ensures part { OnErr result (AppendsPart (K.held sink.old) (K.held sink.new)
-        (buffer.old.items ++ (entry_line (member_of pool.now entry.now)
-        ++ statement_of (slice_get rounds.now next) entry.now.act entry.now.reply))) }
-    ensures cause { CountsFaults (K.faults sink.old) (K.faults sink.new) result }
-    ensures room { OUTPUT_BYTES ≤ vec_capacity buffer.new }
 {
     print_entry(sink, buffer, pool, entry)?;
     print_publication(sink, buffer, entry, rounds, next)
@@ -167,12 +154,8 @@ fn print_members<K: Sink>(
     requires spare { OUTPUT_BYTES ≤ vec_capacity buffer.old }
 
     // The text went through, or the sink failed and took some first bytes of it.
-    ensures ok { OnOk result (GoesThrough (K.held sink.old) (K.held sink.new) buffer.old.items buffer.new.items
-        (added_text (take from books.now.members) (drop from books.now.members))) }
-    ensures part { OnErr result (AppendsPart (K.held sink.old) (K.held sink.new)
-        (buffer.old.items ++ added_text (take from books.now.members) (drop from books.now.members))) }
-    ensures cause { CountsFaults (K.faults sink.old) (K.faults sink.new) result }
-    ensures room { OUTPUT_BYTES ≤ vec_capacity buffer.new }
+    ensures { Prints K.held K.faults sink.old sink.new buffer.old buffer.new
+        (added_text (take from books.now.members) (drop from books.now.members)) result }
 {
     let len = books.len();
     let mut next = 0;
@@ -188,12 +171,8 @@ fn print_end<K: Sink>(sink: &mut K, buffer: &mut Vec<u8>, answer: &Answer) -> Re
     requires { OUTPUT_BYTES ≤ vec_capacity buffer.old }
 
     // The text went through, or the sink failed and took some first bytes of it.
-    ensures ok { OnOk result (GoesThrough (K.held sink.old) (K.held sink.new) buffer.old.items buffer.new.items
-        (end_text answer.now.line answer.now.end)) }
-    ensures part { OnErr result (AppendsPart (K.held sink.old) (K.held sink.new)
-        (buffer.old.items ++ end_text answer.now.line answer.now.end)) }
-    ensures cause { CountsFaults (K.faults sink.old) (K.faults sink.new) result }
-    ensures room { OUTPUT_BYTES ≤ vec_capacity buffer.new }
+    ensures { Prints K.held K.faults sink.old sink.new buffer.old buffer.new
+        (end_text answer.now.line answer.now.end) result }
 {
     if let LineEnd::Replied = answer.end {
         return Ok(());
@@ -224,10 +203,8 @@ fn print_ends<K: Sink>(sink: &mut K, buffer: &mut Vec<u8>, answers: &[Answer]) -
     requires spare { OUTPUT_BYTES ≤ vec_capacity buffer.old }
 
     // The text went through, or the sink failed and took some first bytes of it.
-    ensures ok { OnOk result (GoesThrough (K.held sink.old) (K.held sink.new) buffer.old.items buffer.new.items (ends_text answers.now)) }
-    ensures part { OnErr result (AppendsPart (K.held sink.old) (K.held sink.new) (buffer.old.items ++ ends_text answers.now)) }
-    ensures cause { CountsFaults (K.faults sink.old) (K.faults sink.new) result }
-    ensures room { OUTPUT_BYTES ≤ vec_capacity buffer.new }
+    ensures { Prints K.held K.faults sink.old sink.new buffer.old buffer.new
+        (ends_text answers.now) result }
 {
     for answer in answers {
         print_end(sink, buffer, answer)?;
@@ -279,12 +256,8 @@ fn print_memory_lines<K: Sink>(
     requires spare { OUTPUT_BYTES ≤ vec_capacity buffer.old }
 
     // The text went through, or the sink failed and took some first bytes of it.
-    ensures ok { OnOk result (GoesThrough (K.held sink.old) (K.held sink.new) buffer.old.items buffer.new.items
-        (ends_text (unanswered requests.now))) }
-    ensures part { OnErr result (AppendsPart (K.held sink.old) (K.held sink.new)
-        (buffer.old.items ++ ends_text (unanswered requests.now))) }
-    ensures cause { CountsFaults (K.faults sink.old) (K.faults sink.new) result }
-    ensures room { OUTPUT_BYTES ≤ vec_capacity buffer.new }
+    ensures { Prints K.held K.faults sink.old sink.new buffer.old buffer.new
+        (ends_text (unanswered requests.now)) result }
 {
     for request in requests {
         let answer = Answer {
@@ -328,12 +301,8 @@ fn print_memory_range<K: Sink>(
     requires spare { OUTPUT_BYTES ≤ vec_capacity buffer.old }
 
     // The text went through, or the sink failed and took some first bytes of it.
-    ensures ok { OnOk result (GoesThrough (K.held sink.old) (K.held sink.new) buffer.old.items buffer.new.items
-        (ends_text (unanswered_lines first count))) }
-    ensures part { OnErr result (AppendsPart (K.held sink.old) (K.held sink.new)
-        (buffer.old.items ++ ends_text (unanswered_lines first count))) }
-    ensures cause { CountsFaults (K.faults sink.old) (K.faults sink.new) result }
-    ensures room { OUTPUT_BYTES ≤ vec_capacity buffer.new }
+    ensures { Prints K.held K.faults sink.old sink.new buffer.old buffer.new
+        (ends_text (unanswered_lines first count)) result }
 {
     for line in first..first + count {
         let answer = Answer {

@@ -1,14 +1,13 @@
 //! Statements: their lines go through the buffer of the output. Their printing is never inlined, so that a profile of the
 //! program shows what it takes.
-ghost use Rattle.std.specs.Prelude.{◌≡◌, ◌<◌, ◌≤◌, ◌^◌, ◌++◌, All, OnOk, OnErr, vec_capacity, length, slice_index_or, unsigned_abs};
-ghost use Rattle.bureau_edge.specs.Streams.{AppendsPart, CountsFaults};
+ghost use Rattle.std.specs.Prelude.{◌≡◌, ◌<◌, ◌≤◌, ◌^◌, All, vec_capacity, length, slice_index_or, unsigned_abs};
 ghost use Rattle.setoff_model.specs.declared.limits.TheConstants.{OUTPUT_BYTES, SUM_LIMIT, MOST_WINDOW};
 ghost use Rattle.setoff_model.specs.declared.cut.CutClaim.{CutClaim};
 ghost use Rattle.setoff_model.specs.CutView.{WellFormed};
 ghost use Rattle.statement_text.specs.declared.line.Line.TheVariants as line;
 ghost use Rattle.statement_text.specs.Statements.{party_lines, claim_line, claim_lines, statement_bytes};
 ghost use Rattle.printed_text.specs.Printing.{IsPrintable, line_bytes, lines_bytes};
-ghost use Rattle.printed_text.specs.Writing.{GoesThrough};
+ghost use Rattle.printed_text.specs.Writing.{Prints};
 
 use crate::output::make_room;
 use bureau_edge::{Failed, Sink};
@@ -21,12 +20,8 @@ pub fn print_head<K: Sink>(sink: &mut K, buffer: &mut Vec<u8>, cut: &Cut) -> Res
     requires spare { OUTPUT_BYTES ≤ vec_capacity buffer.old }
 
     // The text went through, or the sink failed and took some first bytes of it.
-    ensures ok { OnOk result (GoesThrough (K.held sink.old) (K.held sink.new) buffer.old.items buffer.new.items
-        (line_bytes (line.Head cut.now.round cut.now.kind))) }
-    ensures part { OnErr result (AppendsPart (K.held sink.old) (K.held sink.new)
-        (buffer.old.items ++ line_bytes (line.Head cut.now.round cut.now.kind))) }
-    ensures cause { CountsFaults (K.faults sink.old) (K.faults sink.new) result }
-    ensures room { OUTPUT_BYTES ≤ vec_capacity buffer.new }
+    ensures { Prints K.held K.faults sink.old sink.new buffer.old buffer.new
+        (line_bytes (line.Head cut.now.round cut.now.kind)) result }
 {
     make_room(sink, buffer)?;
     write_head(buffer, cut.round(), cut.kind());
@@ -46,12 +41,8 @@ pub fn print_party<K: Sink>(
     requires spare { OUTPUT_BYTES ≤ vec_capacity buffer.old }
 
     // The text went through, or the sink failed and took some first bytes of it.
-    ensures ok { OnOk result (GoesThrough (K.held sink.old) (K.held sink.new) buffer.old.items buffer.new.items
-        (line_bytes (line.Party party.now price))) }
-    ensures part { OnErr result (AppendsPart (K.held sink.old) (K.held sink.new)
-        (buffer.old.items ++ line_bytes (line.Party party.now price))) }
-    ensures cause { CountsFaults (K.faults sink.old) (K.faults sink.new) result }
-    ensures room { OUTPUT_BYTES ≤ vec_capacity buffer.new }
+    ensures { Prints K.held K.faults sink.old sink.new buffer.old buffer.new
+        (line_bytes (line.Party party.now price)) result }
 {
     make_room(sink, buffer)?;
     write_party(buffer, party, price);
@@ -74,12 +65,8 @@ fn print_parties<K: Sink>(
     requires spare { OUTPUT_BYTES ≤ vec_capacity buffer.old }
 
     // The text went through, or the sink failed and took some first bytes of it.
-    ensures ok { OnOk result (GoesThrough (K.held sink.old) (K.held sink.new) buffer.old.items buffer.new.items
-        (lines_bytes (party_lines parties.now prices.now))) }
-    ensures part { OnErr result (AppendsPart (K.held sink.old) (K.held sink.new)
-        (buffer.old.items ++ lines_bytes (party_lines parties.now prices.now))) }
-    ensures cause { CountsFaults (K.faults sink.old) (K.faults sink.new) result }
-    ensures room { OUTPUT_BYTES ≤ vec_capacity buffer.new }
+    ensures { Prints K.held K.faults sink.old sink.new buffer.old buffer.new
+        (lines_bytes (party_lines parties.now prices.now)) result }
 {
     for i in 0..parties.len() {
         print_party(sink, buffer, &parties[i], prices[i])?;
@@ -101,14 +88,8 @@ pub fn print_claim<K: Sink>(
     requires spare { OUTPUT_BYTES ≤ vec_capacity buffer.old }
 
     // The text went through, or the sink failed and took some first bytes of it.
-    ensures ok { (none : CutClaim) → OnOk result
-        (GoesThrough (K.held sink.old) (K.held sink.new) buffer.old.items buffer.new.items
-        (line_bytes (claim_line cut.now.parties (slice_index_or cut.now.claims place none) discharge))) }
-    ensures part { (none : CutClaim) → OnErr result
-        (AppendsPart (K.held sink.old) (K.held sink.new)
-        (buffer.old.items ++ line_bytes (claim_line cut.now.parties (slice_index_or cut.now.claims place none) discharge))) }
-    ensures cause { CountsFaults (K.faults sink.old) (K.faults sink.new) result }
-    ensures room { OUTPUT_BYTES ≤ vec_capacity buffer.new }
+    ensures { (none : CutClaim) → Prints K.held K.faults sink.old sink.new buffer.old buffer.new
+        (line_bytes (claim_line cut.now.parties (slice_index_or cut.now.claims place none) discharge)) result }
 {
     make_room(sink, buffer)?;
     write_claim(buffer, cut, place, discharge);
@@ -128,12 +109,8 @@ fn print_claims<K: Sink>(
     requires spare { OUTPUT_BYTES ≤ vec_capacity buffer.old }
 
     // The text went through, or the sink failed and took some first bytes of it.
-    ensures ok { OnOk result (GoesThrough (K.held sink.old) (K.held sink.new) buffer.old.items buffer.new.items
-        (lines_bytes (claim_lines cut.now.parties cut.now.claims discharges.now))) }
-    ensures part { OnErr result (AppendsPart (K.held sink.old) (K.held sink.new)
-        (buffer.old.items ++ lines_bytes (claim_lines cut.now.parties cut.now.claims discharges.now))) }
-    ensures cause { CountsFaults (K.faults sink.old) (K.faults sink.new) result }
-    ensures room { OUTPUT_BYTES ≤ vec_capacity buffer.new }
+    ensures { Prints K.held K.faults sink.old sink.new buffer.old buffer.new
+        (lines_bytes (claim_lines cut.now.parties cut.now.claims discharges.now)) result }
 {
     for i in 0..discharges.len() {
         print_claim(sink, buffer, cut, i as u32, discharges[i])?;
@@ -146,10 +123,8 @@ fn print_end<K: Sink>(sink: &mut K, buffer: &mut Vec<u8>) -> Result<(), Failed>
     requires spare { OUTPUT_BYTES ≤ vec_capacity buffer.old }
 
     // The text went through, or the sink failed and took some first bytes of it.
-    ensures ok { OnOk result (GoesThrough (K.held sink.old) (K.held sink.new) buffer.old.items buffer.new.items (line_bytes line.End)) }
-    ensures part { OnErr result (AppendsPart (K.held sink.old) (K.held sink.new) (buffer.old.items ++ line_bytes line.End)) }
-    ensures cause { CountsFaults (K.faults sink.old) (K.faults sink.new) result }
-    ensures room { OUTPUT_BYTES ≤ vec_capacity buffer.new }
+    ensures { Prints K.held K.faults sink.old sink.new buffer.old buffer.new
+        (line_bytes line.End) result }
 {
     make_room(sink, buffer)?;
     write_end(buffer);
@@ -171,12 +146,8 @@ pub fn print_statement<K: Sink>(
     requires spare { OUTPUT_BYTES ≤ vec_capacity buffer.old }
 
     // The text went through, or the sink failed and took some first bytes of it.
-    ensures ok { OnOk result (GoesThrough (K.held sink.old) (K.held sink.new) buffer.old.items buffer.new.items
-        (statement_bytes cut.now outcome.now)) }
-    ensures part { OnErr result (AppendsPart (K.held sink.old) (K.held sink.new)
-        (buffer.old.items ++ statement_bytes cut.now outcome.now)) }
-    ensures cause { CountsFaults (K.faults sink.old) (K.faults sink.new) result }
-    ensures room { OUTPUT_BYTES ≤ vec_capacity buffer.new }
+    ensures { Prints K.held K.faults sink.old sink.new buffer.old buffer.new
+        (statement_bytes cut.now outcome.now) result }
 {
     print_head(sink, buffer, cut)?;
     print_parties(sink, buffer, cut.parties(), outcome.prices())?;

@@ -3,10 +3,9 @@ use Rattle.setoff_model.specs.declared.cut.CutClaim.{CutClaim}
 use Rattle.setoff_model.specs.CutView.{obligations}
 use Rattle.setoff_model.specs.Setoff.{flow_at}
 use Rattle.setoff_model.proofs.Columns.{claims_long, discharge_small, no_claim}
-use Rattle.setoff_model.proofs.Lists.{on_err}
 use Rattle.printed_text.specs.statement_text.specs.Statements.{claim_line}
 use Rattle.printed_text.specs.Printing.{line_bytes, lines_bytes}
-use Rattle.printed_text.proofs.Passing.{GoesThroughUpTo, up_begins, up_breaks, up_more}
+use Rattle.printed_text.proofs.Passing.{GoesThroughUpTo, prints_up_to, up_begins, up_more}
 use Rattle.printed_text.proofs.Printing.{discharge_each}
 use Rattle.history_text.specs.Pages.{page_claims}
 use Rattle.history_text.proofs.PageLines.{named_here, named_next, paid_next, received_next}
@@ -37,8 +36,8 @@ print_claim-requires-clause-discharge g c =
     let lt : c.loop-place.place < length c.args.cut.now.claims = omega (arith, c.loop-place-test.true, ap (λ (cs : List CutClaim). length cs) c.claims-claims.ensures) in
     omega (arith, discharge_small c.args.cut.now c.args.discharges.now c.loop-place.place c.requires.cut c.requires.lawful lt)
 
-pub returns-in_err-print_claim-clause-part : goal.returns-in_err-print_claim-clause-part
-returns-in_err-print_claim-clause-part g c =
+pub returns-in_err-print_claim-clause-printed : goal.returns-in_err-print_claim-clause-printed
+returns-in_err-print_claim-clause-printed g c =
     let cut = c.args.cut.now in
     let d = c.args.discharges.now in
     let party = c.args.party in
@@ -49,7 +48,7 @@ returns-in_err-print_claim-clause-part g c =
     let rest = lines_bytes (page_claims cut.parties party (drop (i + 1) cut.claims) (drop (i + 1) d)) in
     let all = lines_bytes (page_claims cut.parties party cut.claims d) in
     let up = subst (λ (r : List ℕ). GoesThroughUpTo (g.K.Sink.held c.args.sink.now) (g.K.Sink.held c.loop-place.sink) c.args.buffer.now.items c.loop-place.buffer.items r all) (named_here cut d party each i lt (c.loop-place.invariant.named lt)) c.loop-place.invariant.passes in
-    on_err _ _ (up_breaks (g.K.Sink.held c.args.sink.now) (g.K.Sink.held c.loop-place.sink) (g.K.Sink.held c.print_claim.new.sink) c.args.buffer.now.items c.loop-place.buffer.items one rest all up (c.in_err-print_claim.ensures.part no_claim))
+    prints_up_to one rest c.from_residual.ensures.0 up c.loop-place.invariant.kept (c.in_err-print_claim.ensures no_claim)
 
 pub loop-place-preserved : goal.loop-place-preserved
 loop-place-preserved g c =
@@ -66,12 +65,13 @@ loop-place-preserved g c =
     let y = g.K.Sink.held c.loop-place.sink in
     let z = g.K.Sink.held c.print_claim.new.sink in
     let up = subst (λ (r : List ℕ). GoesThroughUpTo x y c.args.buffer.now.items c.loop-place.buffer.items r all) (named_here cut d party each i lt (c.loop-place.invariant.named lt)) c.loop-place.invariant.passes in
-    let more = up_more x y z c.args.buffer.now.items c.loop-place.buffer.items c.print_claim.new.buffer.items one rest all up (c.in_ok-print_claim.ensures.ok no_claim) in
+    let printed = c.in_ok-print_claim.ensures no_claim in
+    let more = up_more x y z c.args.buffer.now.items c.loop-place.buffer.items c.print_claim.new.buffer.items one rest all up printed.ok in
     let next = c.next_claim-place.ensures in
     record {
       passes = subst (λ (r : List ℕ). GoesThroughUpTo x z c.args.buffer.now.items c.print_claim.new.buffer.items r all) (named_next cut d party each (i + 1) c.next_claim-place.result next) more;
-      room = c.in_ok-print_claim.ensures.room;
-      kept = omega (arith, c.loop-place.invariant.kept, c.in_ok-print_claim.ensures.cause.kept);
+      room = printed.room;
+      kept = omega (arith, c.loop-place.invariant.kept, printed.cause.kept);
       high = omega (arith, next.high, claims_long cut);
       named = λ within. next.named (omega (arith, within, claims_long cut));
       received = c.counted-net.ensures.received ∙ received_next cut d party (i + 1) c.next_claim-place.result next;

@@ -2,8 +2,7 @@ use Rattle.std.specs.Prelude.{pos}
 use Rattle.std.proofs.Common.{◌<◌, ◌≤◌, ◌+◌, ℕ, List, ap, drop, get_or, length, subst, arith}
 use Rattle.setoff_model.specs.declared.cut.Party.{Party}
 use Rattle.setoff_model.proofs.Columns.{no_party}
-use Rattle.setoff_model.proofs.Lists.{on_err}
-use Rattle.printed_text.proofs.Passing.{GoesThroughUpTo, up_begins, up_breaks, up_ends, up_more}
+use Rattle.printed_text.proofs.Passing.{GoesThroughUpTo, prints_all, prints_up_to, up_begins, up_more}
 use Rattle.printed_text.proofs.Printing.{price_each}
 use Rattle.history_text.specs.Pages.{page_text, pages_from, pages_text}
 use Rattle.history_text.proofs.PageLines.{pages_end, pages_step}
@@ -19,8 +18,8 @@ loop-place-init g c = record {
   kept = omega arith;
 }
 
-pub returns-in_err-print_page-clause-part : goal.returns-in_err-print_page-clause-part
-returns-in_err-print_page-clause-part g c =
+pub returns-in_err-print_page : goal.returns-in_err-print_page
+returns-in_err-print_page g c =
     let cut = c.args.cut.now in
     let d = c.args.outcome.now.discharges in
     let ps = c.args.outcome.now.prices in
@@ -31,7 +30,7 @@ returns-in_err-print_page-clause-part g c =
     let all = pages_text cut c.args.outcome.now in
     let step = pages_step cut d cut.parties ps i no_party (pos 0) lt (omega (arith, lt, price_each cut c.args.outcome.now c.requires.printable)) in
     let up = subst (λ (r : List ℕ). GoesThroughUpTo (g.K.Sink.held c.args.sink.now) (g.K.Sink.held c.loop-place.sink) c.args.buffer.now.items c.loop-place.buffer.items r all) step c.loop-place.invariant.passes in
-    on_err _ _ (up_breaks (g.K.Sink.held c.args.sink.now) (g.K.Sink.held c.loop-place.sink) (g.K.Sink.held c.print_page.new.sink) c.args.buffer.now.items c.loop-place.buffer.items page rest all up (c.in_err-print_page.ensures.part no_party))
+    prints_up_to page rest c.from_residual.ensures.0 up c.loop-place.invariant.kept (c.in_err-print_page.ensures no_party)
 
 pub loop-place-preserved : goal.loop-place-preserved
 loop-place-preserved g c =
@@ -45,18 +44,16 @@ loop-place-preserved g c =
     let all = pages_text cut c.args.outcome.now in
     let step = pages_step cut d cut.parties ps i no_party (pos 0) lt (omega (arith, lt, price_each cut c.args.outcome.now c.requires.printable)) in
     let up = subst (λ (r : List ℕ). GoesThroughUpTo (g.K.Sink.held c.args.sink.now) (g.K.Sink.held c.loop-place.sink) c.args.buffer.now.items c.loop-place.buffer.items r all) step c.loop-place.invariant.passes in
+    let printed = c.in_ok-print_page.ensures no_party in
     record {
-      passes = up_more (g.K.Sink.held c.args.sink.now) (g.K.Sink.held c.loop-place.sink) (g.K.Sink.held c.print_page.new.sink) c.args.buffer.now.items c.loop-place.buffer.items c.print_page.new.buffer.items page rest all up (c.in_ok-print_page.ensures.ok no_party);
-      room = c.in_ok-print_page.ensures.room;
-      kept = omega (arith, c.loop-place.invariant.kept, c.in_ok-print_page.ensures.cause.kept);
+      passes = up_more (g.K.Sink.held c.args.sink.now) (g.K.Sink.held c.loop-place.sink) (g.K.Sink.held c.print_page.new.sink) c.args.buffer.now.items c.loop-place.buffer.items c.print_page.new.buffer.items page rest all up printed.ok;
+      room = printed.room;
+      kept = omega (arith, c.loop-place.invariant.kept, printed.cause.kept);
     }
 
-pub returns-clause-ok : goal.returns-clause-ok
-returns-clause-ok g c =
+pub returns : goal.returns
+returns g c =
     let cut = c.args.cut.now in
-    let d = c.args.outcome.now.discharges in
-    let ps = c.args.outcome.now.prices in
-    let i = c.loop-place.place in
-    let past : length cut.parties ≤ i = omega (arith, c.loop-place-test.false, ap (λ (fs : List Party). length fs) c.parties-parties.ensures) in
-    up_ends (g.K.Sink.held c.args.sink.now) (g.K.Sink.held c.loop-place.sink) c.args.buffer.now.items c.loop-place.buffer.items (pages_from cut d i (drop i cut.parties) (drop i ps)) (pages_text cut c.args.outcome.now) c.loop-place.invariant.passes
-    (pages_end cut d cut.parties ps i past)
+    let past : length cut.parties ≤ c.loop-place.place = omega (arith, c.loop-place-test.false, ap (λ (fs : List Party). length fs) c.parties-parties.ensures) in
+    let so_far = c.loop-place.invariant in
+    prints_all so_far.passes (pages_end cut c.args.outcome.now.discharges cut.parties c.args.outcome.now.prices c.loop-place.place past) so_far.kept so_far.room

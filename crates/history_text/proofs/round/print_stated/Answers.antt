@@ -7,7 +7,7 @@ pub returns-clause-part : goal.returns-clause-part
 returns-clause-part g c =
     let text = statement_of (slice_get c.args.rounds.now 0) c.args.entry.now.act c.args.entry.now.reply in
     on_err_if c.flush.result _ _ (λ h. part_of_text _ _ c.args.buffer.now.items text c.requires.empty
-    (part_left _ _ _ c.args.buffer.now.items c.print_publication.new.buffer.items text c.in_ok-print_publication.ensures.ok h)) c.flush.ensures.part
+    (part_left _ _ _ c.args.buffer.now.items c.print_publication.new.buffer.items text c.in_ok-print_publication.ensures.printed.ok h)) c.flush.ensures.part
 
 pub returns-clause-cause : goal.returns-clause-cause
-returns-clause-cause g c = counted_behind (g.K.Sink.faults c.args.sink.now) (g.K.Sink.faults c.print_publication.new.sink) (g.K.Sink.faults c.flush.new.sink) c.flush.result c.in_ok-print_publication.ensures.cause.kept c.flush.ensures.cause
+returns-clause-cause g c = counted_behind (g.K.Sink.faults c.args.sink.now) (g.K.Sink.faults c.print_publication.new.sink) (g.K.Sink.faults c.flush.new.sink) c.flush.result c.in_ok-print_publication.ensures.printed.cause.kept c.flush.ensures.cause

@@ -3,13 +3,12 @@ use Rattle.std.proofs.lemmas.List.{drop_all}
 use Rattle.served_lines.specs.declared.answer.Answer.{Answer}
 use Rattle.served_lines.specs.declared.line_end.LineEnd.TheVariants as ends
 use Rattle.printed_text.specs.Printing.{end_text, ends_text}
-use Rattle.setoff_model.proofs.Lists.{on_err}
-use Rattle.printed_text.proofs.Passing.{GoesThroughUpTo, up_begins, up_breaks, up_ends, up_more, counted_later}
+use Rattle.printed_text.proofs.Passing.{GoesThroughUpTo, prints_all, prints_up_to, up_begins, up_more}
 use Rattle.printed_text.proofs.Printing.{ends_from}
 use Rattle.printed_text.proofs.output.print_ends.Goals as goal
 
-pub returns-in_err-print_end-clause-part : goal.returns-in_err-print_end-clause-part
-returns-in_err-print_end-clause-part g c =
+pub returns-in_err-print_end : goal.returns-in_err-print_end
+returns-in_err-print_end g c =
     let answers = c.args.answers.now in
     let i = c.loop-answer.answer-index in
     let none : Answer = record { line = 0; end = ends.Replied } in
@@ -17,7 +16,7 @@ returns-in_err-print_end-clause-part g c =
     let rest = ends_text (drop (i + 1) answers) in
     let cut = ends_from answers i none c.loop-answer-test.true in
     let up = subst (λ (r : List ℕ). GoesThroughUpTo (g.K.Sink.held c.args.sink.now) (g.K.Sink.held c.loop-answer.sink) c.args.buffer.now.items c.loop-answer.buffer.items r (ends_text answers)) cut c.loop-answer.invariant.passes in
-    on_err _ _ (up_breaks (g.K.Sink.held c.args.sink.now) (g.K.Sink.held c.loop-answer.sink) (g.K.Sink.held c.print_end.new.sink) c.args.buffer.now.items c.loop-answer.buffer.items (end_text a.line a.end) rest (ends_text answers) up c.in_err-print_end.ensures.part)
+    prints_up_to (end_text a.line a.end) rest c.from_residual.ensures.0 up c.loop-answer.invariant.kept c.in_err-print_end.ensures
 
 pub loop-answer-preserved : goal.loop-answer-preserved
 loop-answer-preserved g c =
@@ -41,10 +40,7 @@ loop-answer-init g c = record {
   kept = omega arith;
 }
 
-pub returns-clause-ok : goal.returns-clause-ok
-returns-clause-ok g c =
-    up_ends (g.K.Sink.held c.args.sink.now) (g.K.Sink.held c.loop-answer.sink) c.args.buffer.now.items c.loop-answer.buffer.items _ (ends_text c.args.answers.now) c.loop-answer.invariant.passes
-    (ap ends_text (drop_all c.loop-answer.answer-index c.args.answers.now c.loop-answer-test.false))
-
-pub returns-in_err-print_end-clause-cause : goal.returns-in_err-print_end-clause-cause
-returns-in_err-print_end-clause-cause g c = counted_later (g.K.Sink.faults c.args.sink.now) (g.K.Sink.faults c.loop-answer.sink) (g.K.Sink.faults c.print_end.new.sink) _ c.from_residual.result c.from_residual.ensures.0 c.loop-answer.invariant.kept c.in_err-print_end.ensures.cause
+pub returns : goal.returns
+returns g c =
+    let so_far = c.loop-answer.invariant in
+    prints_all so_far.passes (ap ends_text (drop_all c.loop-answer.answer-index c.args.answers.now c.loop-answer-test.false)) so_far.kept so_far.room

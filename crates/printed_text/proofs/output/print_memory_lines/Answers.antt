@@ -3,13 +3,12 @@ use Rattle.std.proofs.lemmas.List.{drop_all}
 use Rattle.served_lines.specs.request_text.specs.declared.request.Request.{Request}
 use Rattle.served_lines.specs.declared.line_end.LineEnd.TheVariants as ends
 use Rattle.printed_text.specs.Printing.{end_text, ends_text, unanswered}
-use Rattle.setoff_model.proofs.Lists.{on_err}
-use Rattle.printed_text.proofs.Passing.{GoesThroughUpTo, up_begins, up_breaks, up_ends, up_more, counted_later}
+use Rattle.printed_text.proofs.Passing.{GoesThroughUpTo, prints_all, prints_up_to, up_begins, up_more}
 use Rattle.printed_text.proofs.Printing.{unanswered_from}
 use Rattle.printed_text.proofs.output.print_memory_lines.Goals as goal
 
-pub returns-in_err-print_end-clause-part : goal.returns-in_err-print_end-clause-part
-returns-in_err-print_end-clause-part g c =
+pub returns-in_err-print_end : goal.returns-in_err-print_end
+returns-in_err-print_end g c =
     let requests = c.args.requests.now in
     let i = c.loop-request.request-index in
     let r = c.request-item.result in
@@ -17,7 +16,7 @@ returns-in_err-print_end-clause-part g c =
     let cut : ends_text (unanswered (drop i requests)) ≡ end_text r.line ends.Memory ++ rest =
     unanswered_from requests i r c.loop-request-test.true ∙ ap (λ (q : Request). end_text q.line ends.Memory ++ rest) (sym c.request-item.is) in
     let up = subst (λ (t : List ℕ). GoesThroughUpTo (g.K.Sink.held c.args.sink.now) (g.K.Sink.held c.loop-request.sink) c.args.buffer.now.items c.loop-request.buffer.items t (ends_text (unanswered requests))) cut c.loop-request.invariant.passes in
-    on_err _ _ (up_breaks (g.K.Sink.held c.args.sink.now) (g.K.Sink.held c.loop-request.sink) (g.K.Sink.held c.print_end.new.sink) c.args.buffer.now.items c.loop-request.buffer.items (end_text r.line ends.Memory) rest (ends_text (unanswered requests)) up c.in_err-print_end.ensures.part)
+    prints_up_to (end_text r.line ends.Memory) rest c.from_residual.ensures.0 up c.loop-request.invariant.kept c.in_err-print_end.ensures
 
 pub loop-request-preserved : goal.loop-request-preserved
 loop-request-preserved g c =
@@ -41,10 +40,7 @@ loop-request-init g c = record {
   kept = omega arith;
 }
 
-pub returns-clause-ok : goal.returns-clause-ok
-returns-clause-ok g c =
-    up_ends (g.K.Sink.held c.args.sink.now) (g.K.Sink.held c.loop-request.sink) c.args.buffer.now.items c.loop-request.buffer.items _ (ends_text (unanswered c.args.requests.now)) c.loop-request.invariant.passes
-    (ap (λ (left : List Request). ends_text (unanswered left)) (drop_all c.loop-request.request-index c.args.requests.now c.loop-request-test.false))
-
-pub returns-in_err-print_end-clause-cause : goal.returns-in_err-print_end-clause-cause
-returns-in_err-print_end-clause-cause g c = counted_later (g.K.Sink.faults c.args.sink.now) (g.K.Sink.faults c.loop-request.sink) (g.K.Sink.faults c.print_end.new.sink) _ c.from_residual.result c.from_residual.ensures.0 c.loop-request.invariant.kept c.in_err-print_end.ensures.cause
+pub returns : goal.returns
+returns g c =
+    let so_far = c.loop-request.invariant in
+    prints_all so_far.passes (ap (λ (left : List Request). ends_text (unanswered left)) (drop_all c.loop-request.request-index c.args.requests.now c.loop-request-test.false)) so_far.kept so_far.room

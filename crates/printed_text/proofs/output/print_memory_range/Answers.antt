@@ -1,19 +1,18 @@
 use Rattle.std.proofs.Common.{◌≡◌, ◌+◌, ◌-◌, List, ℕ, subst, arith}
 use Rattle.served_lines.specs.declared.line_end.LineEnd.TheVariants as ends
 use Rattle.printed_text.specs.Printing.{end_text, ends_text, unanswered_lines}
-use Rattle.setoff_model.proofs.Lists.{on_err}
-use Rattle.printed_text.proofs.Passing.{GoesThroughUpTo, up_begins, up_breaks, up_ends, up_more, counted_later}
+use Rattle.printed_text.proofs.Passing.{GoesThroughUpTo, prints_all, prints_up_to, up_begins, up_more}
 use Rattle.printed_text.proofs.Printing.{lines_from, lines_none}
 use Rattle.printed_text.proofs.output.print_memory_range.Goals as goal
 
-pub returns-in_err-print_end-clause-part : goal.returns-in_err-print_end-clause-part
-returns-in_err-print_end-clause-part g c =
+pub returns-in_err-print_end : goal.returns-in_err-print_end
+returns-in_err-print_end g c =
     let n = c.loop-line.line in
     let m = c.args.first + c.args.count in
     let all = ends_text (unanswered_lines c.args.first c.args.count) in
     let rest = ends_text (unanswered_lines (n + 1) (m - (n + 1))) in
     let up = subst (λ (t : List ℕ). GoesThroughUpTo (g.K.Sink.held c.args.sink.now) (g.K.Sink.held c.loop-line.sink) c.args.buffer.now.items c.loop-line.buffer.items t all) (lines_from n m c.loop-line-test.true) c.loop-line.invariant.passes in
-    on_err _ _ (up_breaks (g.K.Sink.held c.args.sink.now) (g.K.Sink.held c.loop-line.sink) (g.K.Sink.held c.print_end.new.sink) c.args.buffer.now.items c.loop-line.buffer.items (end_text n ends.Memory) rest all up c.in_err-print_end.ensures.part)
+    prints_up_to (end_text n ends.Memory) rest c.from_residual.ensures.0 up c.loop-line.invariant.kept c.in_err-print_end.ensures
 
 pub loop-line-preserved : goal.loop-line-preserved
 loop-line-preserved g c =
@@ -40,10 +39,7 @@ loop-line-init g c =
       kept = omega arith;
     }
 
-pub returns-clause-ok : goal.returns-clause-ok
-returns-clause-ok g c =
-    up_ends (g.K.Sink.held c.args.sink.now) (g.K.Sink.held c.loop-line.sink) c.args.buffer.now.items c.loop-line.buffer.items _ (ends_text (unanswered_lines c.args.first c.args.count)) c.loop-line.invariant.passes
-    (lines_none c.loop-line.line (c.args.first + c.args.count) c.loop-line-test.false)
-
-pub returns-in_err-print_end-clause-cause : goal.returns-in_err-print_end-clause-cause
-returns-in_err-print_end-clause-cause g c = counted_later (g.K.Sink.faults c.args.sink.now) (g.K.Sink.faults c.loop-line.sink) (g.K.Sink.faults c.print_end.new.sink) _ c.from_residual.result c.from_residual.ensures.0 c.loop-line.invariant.kept c.in_err-print_end.ensures.cause
+pub returns : goal.returns
+returns g c =
+    let so_far = c.loop-line.invariant in
+    prints_all so_far.passes (lines_none c.loop-line.line (c.args.first + c.args.count) c.loop-line-test.false) so_far.kept so_far.room

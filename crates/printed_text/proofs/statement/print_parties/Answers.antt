@@ -1,22 +1,19 @@
-use Rattle.std.proofs.Common.{◌+◌, ◌<◌, ◌++◌, List, ℕ, length, get_or, subst, sym, ap, ◌∙◌, drop, arith}
+use Rattle.std.proofs.Common.{◌+◌, ◌<◌, ◌++◌, List, ℕ, length, get_or, of_z, to_z, subst, sym, ap, ap₂, ◌∙◌, drop, arith}
 use Rattle.std.specs.Prelude.{ℤ, pos}
 use Rattle.std.proofs.lemmas.List.{drop_all}
 use Rattle.std.proofs.lemmas.Int.{to_z-of_z, fits_signed_from_abs}
 use mir.Syntax.{w64}
 use mir.Val.{SFits}
-use Rattle.bureau_edge.specs.Streams.{AppendsPart}
-use Rattle.printed_text.specs.Writing.{GoesThrough}
 use Rattle.setoff_model.specs.declared.cut.Party.{Party}
 use Rattle.statement_text.specs.declared.line.Line.TheVariants as line
 use Rattle.statement_text.specs.Statements.{party_lines}
 use Rattle.printed_text.specs.Printing.{line_bytes, lines_bytes}
-use Rattle.setoff_model.proofs.Lists.{on_err}
-use Rattle.printed_text.proofs.Passing.{GoesThroughUpTo, up_begins, up_breaks, up_ends, up_more, counted_later}
+use Rattle.printed_text.proofs.Passing.{GoesThroughUpTo, prints_all, prints_up_to, up_begins, up_more}
 use Rattle.printed_text.proofs.Printing.{parties_from}
 use Rattle.printed_text.proofs.statement.print_parties.Goals as goal
 
-pub returns-in_err-print_party-clause-part : goal.returns-in_err-print_party-clause-part
-returns-in_err-print_party-clause-part g c =
+pub returns-in_err-print_party : goal.returns-in_err-print_party
+returns-in_err-print_party g c =
     let fs = c.args.parties.now in
     let ps = c.args.prices.now in
     let i = c.loop-i.i in
@@ -24,10 +21,9 @@ returns-in_err-print_party-clause-part g c =
     let price = get_or ps i (pos 0) in
     let fits : SFits w64 price = fits_signed_from_abs w64 price (omega (arith, c.requires.prices i (pos 0) lt)) in
     let rest = lines_bytes (party_lines (drop (i + 1) fs) (drop (i + 1) ps)) in
-    let cut = parties_from fs ps i c.index-parties-i.result (pos 0) c.loop-i-test.true lt ∙ ap (λ (f : Party). line_bytes (line.Party f (get_or ps i (pos 0))) ++ rest) (sym c.index-parties-i.is) in
+    let cut = parties_from fs ps i c.index-parties-i.result (pos 0) c.loop-i-test.true lt ∙ ap₂ (λ (f : Party) (p : ℤ). line_bytes (line.Party f p) ++ rest) (sym c.index-parties-i.is) (sym (to_z-of_z w64 price fits)) in
     let up = subst (λ (r : List ℕ). GoesThroughUpTo (g.K.Sink.held c.args.sink.now) (g.K.Sink.held c.loop-i.sink) c.args.buffer.now.items c.loop-i.buffer.items r (lines_bytes (party_lines fs ps))) cut c.loop-i.invariant.passes in
-    on_err _ _ (up_breaks (g.K.Sink.held c.args.sink.now) (g.K.Sink.held c.loop-i.sink) (g.K.Sink.held c.print_party.new.sink) c.args.buffer.now.items c.loop-i.buffer.items (line_bytes (line.Party c.index-parties-i.result price)) rest (lines_bytes (party_lines fs ps)) up
-    (subst (λ (p : ℤ). AppendsPart (g.K.Sink.held c.loop-i.sink) (g.K.Sink.held c.print_party.new.sink) (c.loop-i.buffer.items ++ line_bytes (line.Party c.index-parties-i.result p))) (to_z-of_z w64 price fits) c.in_err-print_party.ensures.part))
+    prints_up_to (line_bytes (line.Party c.index-parties-i.result (to_z w64 (of_z w64 price)))) rest c.from_residual.ensures.0 up c.loop-i.invariant.kept c.in_err-print_party.ensures
 
 pub loop-i-preserved : goal.loop-i-preserved
 loop-i-preserved g c =
@@ -38,11 +34,10 @@ loop-i-preserved g c =
     let price = get_or ps i (pos 0) in
     let fits : SFits w64 price = fits_signed_from_abs w64 price (omega (arith, c.requires.prices i (pos 0) lt)) in
     let rest = lines_bytes (party_lines (drop (i + 1) fs) (drop (i + 1) ps)) in
-    let cut = parties_from fs ps i c.index-parties-i.result (pos 0) c.loop-i-test.true lt ∙ ap (λ (f : Party). line_bytes (line.Party f (get_or ps i (pos 0))) ++ rest) (sym c.index-parties-i.is) in
+    let cut = parties_from fs ps i c.index-parties-i.result (pos 0) c.loop-i-test.true lt ∙ ap₂ (λ (f : Party) (p : ℤ). line_bytes (line.Party f p) ++ rest) (sym c.index-parties-i.is) (sym (to_z-of_z w64 price fits)) in
     let up = subst (λ (r : List ℕ). GoesThroughUpTo (g.K.Sink.held c.args.sink.now) (g.K.Sink.held c.loop-i.sink) c.args.buffer.now.items c.loop-i.buffer.items r (lines_bytes (party_lines fs ps))) cut c.loop-i.invariant.passes in
     record {
-      passes = up_more (g.K.Sink.held c.args.sink.now) (g.K.Sink.held c.loop-i.sink) (g.K.Sink.held c.print_party.new.sink) c.args.buffer.now.items c.loop-i.buffer.items c.print_party.new.buffer.items (line_bytes (line.Party c.index-parties-i.result price)) rest (lines_bytes (party_lines fs ps)) up
-          (subst (λ (p : ℤ). GoesThrough (g.K.Sink.held c.loop-i.sink) (g.K.Sink.held c.print_party.new.sink) c.loop-i.buffer.items c.print_party.new.buffer.items (line_bytes (line.Party c.index-parties-i.result p))) (to_z-of_z w64 price fits) c.in_ok-print_party.ensures.ok);
+      passes = up_more (g.K.Sink.held c.args.sink.now) (g.K.Sink.held c.loop-i.sink) (g.K.Sink.held c.print_party.new.sink) c.args.buffer.now.items c.loop-i.buffer.items c.print_party.new.buffer.items (line_bytes (line.Party c.index-parties-i.result (to_z w64 (of_z w64 price)))) rest (lines_bytes (party_lines fs ps)) up c.in_ok-print_party.ensures.ok;
       room = c.in_ok-print_party.ensures.room;
       kept = omega (arith, c.loop-i.invariant.kept, c.in_ok-print_party.ensures.cause.kept);
     }
@@ -54,10 +49,7 @@ loop-i-init g c = record {
   kept = omega arith;
 }
 
-pub returns-clause-ok : goal.returns-clause-ok
-returns-clause-ok g c =
-    up_ends (g.K.Sink.held c.args.sink.now) (g.K.Sink.held c.loop-i.sink) c.args.buffer.now.items c.loop-i.buffer.items _ (lines_bytes (party_lines c.args.parties.now c.args.prices.now)) c.loop-i.invariant.passes
-    (ap (λ (fs : List Party). lines_bytes (party_lines fs (drop c.loop-i.i c.args.prices.now))) (drop_all c.loop-i.i c.args.parties.now c.loop-i-test.false))
-
-pub returns-in_err-print_party-clause-cause : goal.returns-in_err-print_party-clause-cause
-returns-in_err-print_party-clause-cause g c = counted_later (g.K.Sink.faults c.args.sink.now) (g.K.Sink.faults c.loop-i.sink) (g.K.Sink.faults c.print_party.new.sink) _ c.from_residual.result c.from_residual.ensures.0 c.loop-i.invariant.kept c.in_err-print_party.ensures.cause
+pub returns : goal.returns
+returns g c =
+    let so_far = c.loop-i.invariant in
+    prints_all so_far.passes (ap (λ (fs : List Party). lines_bytes (party_lines fs (drop c.loop-i.i c.args.prices.now))) (drop_all c.loop-i.i c.args.parties.now c.loop-i-test.false)) so_far.kept so_far.room

@@ -1,17 +1,18 @@
-use Rattle.std.proofs.Common.{◌∙◌, append_assoc}
 use Rattle.std.proofs.lemmas.Int.{to_z-of_z}
-use Rattle.setoff_model.proofs.Lists.{on_err}
 use Rattle.statement_text.specs.declared.line.Line.TheVariants as line
 use Rattle.printed_text.specs.Printing.{line_bytes}
-use Rattle.printed_text.proofs.Passing.{part_more, pass_line}
+use Rattle.printed_text.proofs.Passing.{prints_line, prints_no_line}
 use Rattle.printed_text.proofs.statement.print_party.Goals as goal
 
-pub returns-in_err-make_room-clause-part : goal.returns-in_err-make_room-clause-part
-returns-in_err-make_room-clause-part g c = on_err _ _ (part_more _ _ c.args.buffer.now.items _ c.in_err-make_room.ensures.part)
+pub returns-in_err-make_room : goal.returns-in_err-make_room
+returns-in_err-make_room g c =
+    let made = c.in_err-make_room.ensures in
+    prints_no_line (line_bytes (line.Party c.args.party.now c.args.price)) c.from_residual.ensures.0 made.part made.cause made.room
 
-pub returns-clause-ok : goal.returns-clause-ok
-returns-clause-ok g c =
+pub returns : goal.returns
+returns g c =
+    let made = c.in_ok-make_room.ensures in
     let fits = c.ranges.price in
-    let b = c.make_room.new.buffer.items in
+    let b = c.make_room.new.buffer in
     let written = simp to_z-of_z at c.write_party.ensures.text in
-    pass_line (g.K.Sink.held c.args.sink.now) (g.K.Sink.held c.make_room.new.sink) c.args.buffer.now.items b c.write_party.new.buffer.items (line_bytes (line.Party c.args.party.now c.args.price)) c.in_ok-make_room.ensures.ok (written ∙ append_assoc b _ _)
+    prints_line b (line_bytes (line.Party c.args.party.now c.args.price)) made.ok made.cause.kept made.room written c.write_party.ensures.room
