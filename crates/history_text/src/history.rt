@@ -87,6 +87,8 @@ fn replay_for(
 ) -> Result<(), AllocError>
     requires place { place ≤ length (told_members pool.now books.now.members) }
     requires first { AreFirst place (told_members pool.now books.now.members) replayed.old.members }
+
+    // The members that were replayed; memory is missing only before a publication.
     ensures first { OnOk result (AreFirst place (told_members pool.now books.now.members) replayed.new.members) }
     ensures all { OnOk result ((total : ℕ) → entry.now.reply ≡ reply.Published total
         → replayed.new.members ≡ take place (told_members pool.now books.now.members)) }
@@ -116,12 +118,14 @@ fn print_next<K: Sink>(
     // The text went through, or the sink failed and took some first bytes of it.
     ensures ok { IfOk result (λ done. HasToldOne done (K.held sink.old) (K.held sink.new) buffer.old.items buffer.new.items
         (told_members pool.now books.now.members) place) }
-    ensures first { IfOk result (λ done. done ≡ told.Whole
-        → AreFirst place (told_members pool.now books.now.members) replayed.new.members) }
     ensures part { OnErr result (AppendsPart (K.held sink.old) (K.held sink.new)
         (buffer.old.items ++ told_text (told_members pool.now books.now.members) place)) }
     ensures cause { CountsFaults (K.faults sink.old) (K.faults sink.new) result }
     ensures room { OUTPUT_BYTES ≤ vec_capacity buffer.new }
+
+    // The members that were replayed.
+    ensures first { IfOk result (λ done. done ≡ told.Whole
+        → AreFirst place (told_members pool.now books.now.members) replayed.new.members) }
 {
     let _len = told_len(books, pool);
     let (shown, entry) = told_at(books, pool, place);
@@ -228,6 +232,8 @@ pub(crate) fn print_from<K: Sink>(
     requires from { from ≤ length (told_members pool.now books.now.members) }
     requires empty { buffer.old.items ≡ [] }
     requires spare { OUTPUT_BYTES ≤ vec_capacity buffer.old }
+
+    // What was written, and the status that tells of it.
     ensures wrote { Wrote (IsToldDue (take from (told_members pool.now books.now.members))
         (drop from (told_members pool.now books.now.members))) (K.held sink.old) (K.held sink.new) result }
     ensures memory { result ≡ statuses.Memory → 0 < length (drop from (told_members pool.now books.now.members)) }
@@ -254,6 +260,8 @@ pub fn print_history<K: Sink>(
 ) -> ExitStatus
     requires empty { buffer.old.items ≡ [] }
     requires spare { OUTPUT_BYTES ≤ vec_capacity buffer.old }
+
+    // What was written, and the status that tells of it.
     ensures wrote { Wrote (IsHistoryDue pool.now books.now.members) (K.held sink.old) (K.held sink.new) result }
     ensures memory { result ≡ statuses.Memory → 0 < length (told_members pool.now books.now.members) }
     ensures write_fault { TellsSinkFault (K.faults sink.old) (K.faults sink.new) result }

@@ -41,8 +41,12 @@ fn counted(cut: &Cut, discharges: &[u64], party: usize, place: usize, net: Net) 
     requires lawful { IsLawful (obligations cut.now) discharges.now }
     requires place { place < length cut.now.claims }
     requires named { names_at (obligations cut.now) party place ≡ true }
+
+    // What the claims before this one come to.
     requires received { net.received ≡ flow_at place (obligations cut.now).creditors discharges.now party }
     requires paid { net.paid ≡ flow_at place (obligations cut.now).debtors discharges.now party }
+
+    // What they come to with it.
     ensures received { result.received ≡ flow_at (place + 1) (obligations cut.now).creditors discharges.now party }
     ensures paid { result.paid ≡ flow_at (place + 1) (obligations cut.now).debtors discharges.now party }
 {
@@ -104,6 +108,8 @@ fn write_page_end(buffer: &mut Vec<u8>, net: Net)
     requires received { net.received < SUM_LIMIT }
     requires paid { net.paid < SUM_LIMIT }
     requires spare { vec_len buffer.old + LINE_BYTES ≤ vec_capacity buffer.old }
+
+    // The text stands at the end, and no room is lost.
     ensures text { buffer.new.items ≡ buffer.old.items ++ (net_text net.received net.paid ++ line_bytes line.End) }
     ensures room { vec_capacity buffer.old ≤ vec_capacity buffer.new }
 {
@@ -211,6 +217,8 @@ fn tell_listed<K: Sink>(
     requires listed { IsListed (obligations cut.now) 0 lists.now }
     requires empty { buffer.old.items ≡ [] }
     requires spare { OUTPUT_BYTES ≤ vec_capacity buffer.old }
+
+    // What was written, and the status that tells of it.
     ensures written { IsWritten (K.held sink.old) (K.held sink.new) statuses.Done (pages_text cut.now outcome.now) result }
     ensures failed { TellsSinkFault (K.faults sink.old) (K.faults sink.new) result }
 {
@@ -231,6 +239,8 @@ fn tell_cut<K: Sink>(
     requires printable { IsPrintable cut.now outcome.now }
     requires empty { buffer.old.items ≡ [] }
     requires spare { OUTPUT_BYTES ≤ vec_capacity buffer.old }
+
+    // What was written, and the status that tells of it.
     ensures wrote { Wrote (IsDoneWith (pages_text cut.now outcome.now)) (K.held sink.old) (K.held sink.new) result }
     ensures write_fault { TellsSinkFault (K.faults sink.old) (K.faults sink.new) result }
 {
@@ -257,6 +267,8 @@ pub(crate) fn tell_pages<K: Sink>(
     requires publication { IsPrintableAt rounds.now 0 entry.now.act }
     requires empty { buffer.old.items ≡ [] }
     requires spare { OUTPUT_BYTES ≤ vec_capacity buffer.old }
+
+    // What was written, and the status that tells of it.
     ensures wrote { Wrote (IsDoneWith (pages_of (slice_get rounds.now 0) entry.now.act entry.now.reply))
         (K.held sink.old) (K.held sink.new) result }
     ensures write_fault { TellsSinkFault (K.faults sink.old) (K.faults sink.new) result }

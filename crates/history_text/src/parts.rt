@@ -29,6 +29,8 @@ pub fn print_parts<K: Sink>(
     requires empty { buffer.old.items ≡ [] }
     requires len { vec_len buffer.old ≡ 0 }
     requires spare { OUTPUT_BYTES ≤ vec_capacity buffer.old }
+
+    // What was written, and the status that tells of it.
     ensures wrote { Wrote (IsPartsDue round pool books.now.members) (K.held sink.old) (K.held sink.new) result }
     ensures memory { result ≡ statuses.Memory → was_published round pool books.now.members ≡ true }
     ensures write_fault { TellsSinkFault (K.faults sink.old) (K.faults sink.new) result }

@@ -39,6 +39,8 @@ fn put_opening(
     requires closes { is_close entry.act ≡ true }
     requires opens { entry.reply ≡ reply.Opened round }
     requires next { MayFollow books.old.members (member_of pool entry) }
+
+    // With memory, the entry stands at the end.
     ensures members { OnOk result (books.new.members ≡ books.old.members ++ member_of pool entry ∷ []) }
 {
     let _ = round;
@@ -57,6 +59,8 @@ fn put_other(books: &mut Books, pool: Name, entry: Entry) -> Result<(), AllocErr
     requires apart { is_publication entry.act ≡ false }
     requires no_opening { is_opening entry.reply ≡ false }
     requires next { MayFollow books.old.members (member_of pool entry) }
+
+    // With memory, the entry stands at the end.
     ensures members { OnOk result (books.new.members ≡ books.old.members ++ member_of pool entry ∷ []) }
 {
     books.reserve(pool, &entry.act)?;

@@ -79,6 +79,8 @@ fn tell_stated<K: Sink>(
     requires publication { IsPrintableAt rounds.now 0 entry.now.act }
     requires empty { buffer.old.items ≡ [] }
     requires spare { OUTPUT_BYTES ≤ vec_capacity buffer.old }
+
+    // What was written, and the status that tells of it.
     ensures written { IsWritten (K.held sink.old) (K.held sink.new) statuses.Done
         (statement_of (slice_get rounds.now 0) entry.now.act entry.now.reply) result }
     ensures failed { TellsSinkFault (K.faults sink.old) (K.faults sink.new) result }
@@ -102,6 +104,8 @@ fn tell_round<K: Sink>(
     requires publication { IsPrintableAt rounds.now 0 entry.now.act }
     requires empty { buffer.old.items ≡ [] }
     requires spare { OUTPUT_BYTES ≤ vec_capacity buffer.old }
+
+    // What was written, and the status that tells of it.
     ensures wrote { Wrote (IsDoneWith (text_in_form form (slice_get rounds.now 0) entry.now.act entry.now.reply))
         (K.held sink.old) (K.held sink.new) result }
     ensures write_fault { TellsSinkFault (K.faults sink.old) (K.faults sink.new) result }
@@ -128,6 +132,8 @@ fn print_behind<K: Sink>(
     requires none { replayed.old.members ≡ [] }
     requires empty { buffer.old.items ≡ [] }
     requires spare { OUTPUT_BYTES ≤ vec_capacity buffer.old }
+
+    // What was written, and the status that tells of it.
     ensures wrote { Wrote (IsFormDue form round pool books.now.members) (K.held sink.old) (K.held sink.new) result }
     ensures write_fault { TellsSinkFault (K.faults sink.old) (K.faults sink.new) result }
 {
@@ -158,6 +164,8 @@ fn print_round_at<K: Sink>(
     requires place { publication_place round pool books.now.members ≡ Some place }
     requires empty { buffer.old.items ≡ [] }
     requires spare { OUTPUT_BYTES ≤ vec_capacity buffer.old }
+
+    // What was written, and the status that tells of it.
     ensures wrote { Wrote (IsFormDue form round pool books.now.members) (K.held sink.old) (K.held sink.new) result }
     ensures write_fault { TellsSinkFault (K.faults sink.old) (K.faults sink.new) result }
 {
@@ -190,6 +198,8 @@ pub(crate) fn print_in_form<K: Sink>(
     requires empty { buffer.old.items ≡ [] }
     requires len { vec_len buffer.old ≡ 0 }
     requires spare { OUTPUT_BYTES ≤ vec_capacity buffer.old }
+
+    // What was written, and the status that tells of it.
     ensures wrote { Wrote (IsFormDue form round pool books.now.members) (K.held sink.old) (K.held sink.new) result }
     ensures memory { result ≡ statuses.Memory → was_published round pool books.now.members ≡ true }
     ensures write_fault { TellsSinkFault (K.faults sink.old) (K.faults sink.new) result }
@@ -220,6 +230,8 @@ pub fn print_round<K: Sink>(
     requires empty { buffer.old.items ≡ [] }
     requires len { vec_len buffer.old ≡ 0 }
     requires spare { OUTPUT_BYTES ≤ vec_capacity buffer.old }
+
+    // What was written, and the status that tells of it.
     ensures wrote { Wrote (IsRoundDue round pool books.now.members) (K.held sink.old) (K.held sink.new) result }
     ensures memory { result ≡ statuses.Memory → was_published round pool books.now.members ≡ true }
     ensures write_fault { TellsSinkFault (K.faults sink.old) (K.faults sink.new) result }

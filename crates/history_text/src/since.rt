@@ -68,6 +68,8 @@ pub fn print_since<K: Sink>(
     requires empty { buffer.old.items ≡ [] }
     requires len { vec_len buffer.old ≡ 0 }
     requires spare { OUTPUT_BYTES ≤ vec_capacity buffer.old }
+
+    // What was written, and the status that tells of it.
     ensures wrote { Wrote (IsSinceDue acts pool.now books.now.members) (K.held sink.old) (K.held sink.new) result }
     ensures memory { result ≡ statuses.Memory → 0 < length (told_members pool.now (drop acts books.now.members)) }
     ensures write_fault { TellsSinkFault (K.faults sink.old) (K.faults sink.new) result }

@@ -36,11 +36,13 @@ pub fn flush<K: Sink>(sink: &mut K, buffer: &mut Vec<u8>) -> Result<(), Failed>
 
     // The text went through, or the sink failed and took some first bytes of it.
     ensures ok { OnOk result (GoesThrough (K.held sink.old) (K.held sink.new) buffer.old.items buffer.new.items []) }
-    ensures emptied { OnOk result (buffer.new.items ≡ []) }
-    ensures empty { OnOk result (vec_len buffer.new ≡ 0) }
     ensures part { OnErr result (AppendsPart (K.held sink.old) (K.held sink.new) buffer.old.items) }
     ensures cause { CountsFaults (K.faults sink.old) (K.faults sink.new) result }
     ensures room { vec_capacity buffer.old ≤ vec_capacity buffer.new }
+
+    // Then the buffer is empty.
+    ensures emptied { OnOk result (buffer.new.items ≡ []) }
+    ensures empty { OnOk result (vec_len buffer.new ≡ 0) }
 {
     write_all(sink, buffer.as_slice())?;
     buffer.clear();
@@ -53,10 +55,12 @@ pub fn make_room<K: Sink>(sink: &mut K, buffer: &mut Vec<u8>) -> Result<(), Fail
 
     // The text went through, or the sink failed and took some first bytes of it.
     ensures ok { OnOk result (GoesThrough (K.held sink.old) (K.held sink.new) buffer.old.items buffer.new.items []) }
-    ensures spare { OnOk result (vec_len buffer.new + LINE_BYTES ≤ vec_capacity buffer.new) }
     ensures part { OnErr result (AppendsPart (K.held sink.old) (K.held sink.new) buffer.old.items) }
     ensures cause { CountsFaults (K.faults sink.old) (K.faults sink.new) result }
     ensures room { OUTPUT_BYTES ≤ vec_capacity buffer.new }
+
+    // Then there is room for a line.
+    ensures spare { OnOk result (vec_len buffer.new + LINE_BYTES ≤ vec_capacity buffer.new) }
 {
     if buffer.len() <= OUTPUT_BYTES - LINE_BYTES {
         return Ok(());
@@ -236,11 +240,13 @@ pub fn print_batch<K: Sink>(
     // The text went through, or the sink failed and took some first bytes of it.
     ensures ok { OnOk result (Appends (K.held sink.old) (K.held sink.new)
         (printed_of (take from books.now.members) (drop from books.now.members) answers.now)) }
-    ensures emptied { OnOk result (buffer.new.items ≡ []) }
     ensures part { OnErr result (AppendsPart (K.held sink.old) (K.held sink.new)
         (printed_of (take from books.now.members) (drop from books.now.members) answers.now)) }
     ensures cause { CountsFaults (K.faults sink.old) (K.faults sink.new) result }
     ensures room { OUTPUT_BYTES ≤ vec_capacity buffer.new }
+
+    // Then the buffer is empty.
+    ensures emptied { OnOk result (buffer.new.items ≡ []) }
 {
     print_members(sink, buffer, books, from, rounds)?;
     print_ends(sink, buffer, answers)?;
@@ -281,10 +287,12 @@ pub fn print_unanswered<K: Sink>(
 
     // The text went through, or the sink failed and took some first bytes of it.
     ensures ok { OnOk result (Appends (K.held sink.old) (K.held sink.new) (ends_text (unanswered requests.now))) }
-    ensures emptied { OnOk result (buffer.new.items ≡ []) }
     ensures part { OnErr result (AppendsPart (K.held sink.old) (K.held sink.new) (ends_text (unanswered requests.now))) }
     ensures cause { CountsFaults (K.faults sink.old) (K.faults sink.new) result }
     ensures room { OUTPUT_BYTES ≤ vec_capacity buffer.new }
+
+    // Then the buffer is empty.
+    ensures emptied { OnOk result (buffer.new.items ≡ []) }
 {
     print_memory_lines(sink, buffer, requests)?;
     flush(sink, buffer)
@@ -328,10 +336,12 @@ pub fn print_unanswered_lines<K: Sink>(
 
     // The text went through, or the sink failed and took some first bytes of it.
     ensures ok { OnOk result (Appends (K.held sink.old) (K.held sink.new) (ends_text (unanswered_lines first count))) }
-    ensures emptied { OnOk result (buffer.new.items ≡ []) }
     ensures part { OnErr result (AppendsPart (K.held sink.old) (K.held sink.new) (ends_text (unanswered_lines first count))) }
     ensures cause { CountsFaults (K.faults sink.old) (K.faults sink.new) result }
     ensures room { OUTPUT_BYTES ≤ vec_capacity buffer.new }
+
+    // Then the buffer is empty.
+    ensures emptied { OnOk result (buffer.new.items ≡ []) }
 {
     print_memory_range(sink, buffer, first, count)?;
     flush(sink, buffer)
