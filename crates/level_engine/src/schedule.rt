@@ -119,6 +119,22 @@ pub const WHOLE: u64 = 400;
 /// See `WHOLE`.
 pub const WHOLE_SQUARES: u64 = 4;
 
+/// The work of the simplex that starts where a drain at first ended, before one by shares, besides one for each `WHOLE_SQUARES` of the
+/// square of the nodes.
+pub const DRAINED: u64 = 448;
+
+/// The work of one from risen prices before that.
+pub const RISEN: u64 = 640;
+
+/// The work of a simplex by shares, besides one for each `WHOLE_SQUARES` of the square of the nodes.
+pub const SHARED: u64 = 4_000;
+
+/// It has so many shares of the arcs.
+pub const SHARES: usize = 16;
+
+/// It is tried where half of the claims hold less than one cent in so many of what the largest holds.
+pub const MUCH_LESS: u64 = 1_024;
+
 /// After so many turns, each of twice as much work as the one before, the levels go on alone.
 pub const TURNS: u32 = 8;
 

@@ -61,6 +61,12 @@ impl Candidates {
         self.stride = stride_over(self.runs);
     }
 
+    // Lets arcs be sought among the first so many alone, and in a whole round before none is bad.
+    pub(crate) fn open(&mut self, arcs: usize) {
+        self.begin_round(arcs);
+        self.idle = 0;
+    }
+
     // Whether no arc was bad in a whole round.
     pub(crate) fn is_over(&self) -> bool {
         self.runs <= self.idle && self.list.is_empty()

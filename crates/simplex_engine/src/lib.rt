@@ -6,6 +6,9 @@
 //! and moves and no time, so the answer is the same on each machine. Nothing is proved of the solution but that it comes, or none:
 //! `adopt` of `residual_state` tests it.
 //!
+//! Before the turns come two short tries: of the one after the drain alone, and of one from where nothing is set off, to which arcs come by
+//! shares, those that hold most first. The second is for claims of many sizes.
+//!
 //! Its words: an arc is bad where flow would gain by leaving the bound that it is at; the tree joins all nodes to a root that no
 //! claim has; a pivot brings a bad arc into the tree, moves what the circle holds, and lets another arc go. The rules are those of
 //! Ahuja, Magnanti and Orlin, "Network Flows", 1993, chapter 11, with strongly feasible trees.
@@ -14,6 +17,8 @@
 mod buckets;
 mod candidates;
 mod draining;
+mod ranking;
+mod shares;
 mod simplex;
 mod turns;
 

@@ -80,6 +80,16 @@ impl Simplex {
         self.candidates.lengthen_runs(self.arcs.len());
     }
 
+    // Lets only the first so many arcs enter.
+    pub(crate) fn open(&mut self, arcs: usize) {
+        self.candidates.open(arcs);
+    }
+
+    // How much work was done.
+    pub(crate) fn work(&self) -> u64 {
+        self.candidates.work
+    }
+
     // Goes on for so much work. Whether no arc is bad any more.
     #[inline(never)]
     pub(crate) fn run(

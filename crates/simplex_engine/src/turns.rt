@@ -1,11 +1,12 @@
 //! A solution by turns.
 use crate::draining::Drain;
+use crate::shares::Shares;
 use crate::simplex::Simplex;
 use loose_places::narrow;
 use spanning_tree::schedule::{
-    ALONE, DRAIN, DRAIN_BRIEF, FAR_OF, FAR_PARTS, FEW_HALVES, FULL_TRIAL, SLICE, SLICE_MORE,
-    SLICE_MOST, SLICES, SPARSE_HALVES, SPARSE_TRIAL, TURN, TURN_SQUARES, Trial, WARM, WHOLE,
-    WHOLE_SQUARES,
+    ALONE, DRAIN, DRAIN_BRIEF, DRAINED, FAR_OF, FAR_PARTS, FEW_HALVES, FULL_TRIAL, MUCH_LESS,
+    RISEN, SHARED, SLICE, SLICE_MORE, SLICE_MOST, SLICES, SPARSE_HALVES, SPARSE_TRIAL, TURN,
+    TURN_SQUARES, Trial, WARM, WHOLE, WHOLE_SQUARES,
 };
 use spanning_tree::{Edge, Halves};
 use std::alloc::{AllocError, Global};
@@ -101,11 +102,72 @@ pub fn seek_from(
 ) -> Result<Option<Solution>, AllocError> {
     let mut cold = cold_simplex(alloc, start, halves, prices)?;
     cold.lengthen_runs();
-    if ends_in_slices(&mut cold, start.edges, halves, start.excess.len())? {
-        answer(alloc, start.edges, &cold)
-    } else {
-        Ok(None)
+    let most = work_before_shares(start, halves);
+    if ends_in_slices(&mut cold, start, halves, most)? {
+        return answer(alloc, start.edges, &cold);
     }
+    if cold.work() < most {
+        return Ok(None);
+    }
+    drop(cold);
+    seek_by_shares(alloc, start, halves)
+}
+
+// A solution by a simplex whose arcs come by shares, those that hold most first, if one is found in time.
+fn seek_by_shares(
+    alloc: Global,
+    start: &Start,
+    halves: &Halves,
+) -> Result<Option<Solution>, AllocError> {
+    if !are_for_shares(start, halves) {
+        return Ok(None);
+    }
+    let mut shares = Shares::new(alloc, start.edges, start.windows, halves)?;
+    let work = work_of(start, halves, SHARED);
+    if !shares.run(halves, work)? {
+        return Ok(None);
+    }
+    let flows = shares.flows(alloc, claims_of(start), start.windows)?;
+    let prices = shares.prices(alloc)?;
+    Ok(Some(Solution { flows, prices }))
+}
+
+// Whether a simplex by shares is tried: where some halves of arcs are at a node, and half of the claims or more hold much less than the
+// largest does.
+fn are_for_shares(start: &Start, halves: &Halves) -> bool {
+    if halves.len() / SPARSE_HALVES <= start.excess.len() {
+        return false;
+    }
+    let claims = claims_of(start);
+    let much_less = most_held(start) / MUCH_LESS;
+    let mut small = 0usize;
+    for edge in start.edges.iter().take(claims) {
+        if edge.capacity < much_less {
+            small = small.saturating_add(1);
+        }
+    }
+    claims / 2 <= small
+}
+
+// What the largest of the claims holds.
+fn most_held(start: &Start) -> u64 {
+    let mut most = 0u64;
+    for edge in start.edges.iter().take(claims_of(start)) {
+        most = most.max(edge.capacity);
+    }
+    most
+}
+
+// How many of the arcs are those of claims.
+fn claims_of(start: &Start) -> usize {
+    start.edges.len().saturating_sub(start.windows.len())
+}
+
+// So much work for each half, and a share of the square of the nodes.
+fn work_of(start: &Start, halves: &Halves, each: u64) -> u64 {
+    let nodes = start.excess.len() as u64;
+    let work = (halves.len() as u64).saturating_mul(each);
+    work.saturating_add(nodes.saturating_mul(nodes) / WHOLE_SQUARES)
 }
 
 /// A solution on these arcs alone, with the flows of the windows' arcs at which no balance changes, if one is found in time.
@@ -132,23 +194,32 @@ pub fn seek_alone(
     whole_within(alloc, &start, &halves, most.saturating_add(work))
 }
 
+// The work of a simplex from risen prices before another is tried: without end where that is none.
+fn work_before_shares(start: &Start, halves: &Halves) -> u64 {
+    if are_for_shares(start, halves) {
+        (halves.len() as u64).saturating_mul(RISEN)
+    } else {
+        u64::MAX
+    }
+}
+
 // Whether the simplex comes to its end in slices, each of half as much work more than the one before. It does not go on behind one
-// that was not light.
+// that was not light, or after so much work.
 fn ends_in_slices(
     simplex: &mut Simplex,
-    edges: &[Edge],
+    start: &Start,
     halves: &Halves,
-    nodes: usize,
+    most: u64,
 ) -> Result<bool, AllocError> {
-    let many = halves.len() as u64;
+    let (many, nodes) = (halves.len() as u64, start.excess.len() as u64);
     let mut work = many;
     for _ in 0..SLICES {
         let before = simplex.pivots();
-        if simplex.run(edges, halves, work)? {
+        if simplex.run(start.edges, halves, work)? {
             return Ok(true);
         }
         let each = work / simplex.pivots().saturating_sub(before).max(1);
-        if is_heavy(each, work, many, nodes as u64) {
+        if most <= simplex.work() || is_heavy(each, work, many, nodes) {
             return Ok(false);
         }
         work = work.saturating_add(work / 2);
@@ -214,14 +285,35 @@ fn seek_warm(
     }
     let drain = drain_for(alloc, start, halves, DRAIN_BRIEF)?;
     if drain.is_over() {
-        seek_drained(alloc, start, halves, drain, warm, prices, turns)
+        seek_lightly(alloc, start, halves, drain, warm, prices, turns)
     } else {
         drop(drain);
         seek_undrained(alloc, start, halves, warm, prices, turns)
     }
 }
 
-// Seeks the whole at once, and then from where a longer drain ends.
+// Tries the drained simplex alone and the one by shares, where claims are of many sizes, and then goes on by turns.
+fn seek_lightly(
+    alloc: Global,
+    start: &Start,
+    halves: &Halves,
+    drain: Drain,
+    warm: &mut Simplex,
+    prices: &[i32],
+    turns: u32,
+) -> Result<Option<Solution>, AllocError> {
+    let mut drained = drained_simplex(alloc, start, halves, drain, prices)?;
+    if drained.run(start.edges, halves, work_of(start, halves, DRAINED))? {
+        return answer(alloc, start.edges, &drained);
+    }
+    let by_shares = seek_by_shares(alloc, start, halves)?;
+    if by_shares.is_some() {
+        return Ok(by_shares);
+    }
+    by_turns(alloc, start, halves, &mut drained, warm, turns)
+}
+
+// Seeks the whole by shares and then at once, and then from where a longer drain ends.
 fn seek_undrained(
     alloc: Global,
     start: &Start,
@@ -230,6 +322,10 @@ fn seek_undrained(
     prices: &[i32],
     turns: u32,
 ) -> Result<Option<Solution>, AllocError> {
+    let by_shares = seek_by_shares(alloc, start, halves)?;
+    if by_shares.is_some() {
+        return Ok(by_shares);
+    }
     let whole = whole_at_once(alloc, start, halves)?;
     if whole.is_some() {
         return Ok(whole);
@@ -258,11 +354,7 @@ fn whole_at_once(
     start: &Start,
     halves: &Halves,
 ) -> Result<Option<Solution>, AllocError> {
-    let nodes = start.excess.len() as u64;
-    let work = (nodes.saturating_mul(nodes) / WHOLE_SQUARES).saturating_add(
-        (halves.len() as u64).saturating_mul(WHOLE),
-    );
-    whole_within(alloc, start, halves, work)
+    whole_within(alloc, start, halves, work_of(start, halves, WHOLE))
 }
 
 // A solution from where nothing is set off, if one is found with so much work.
