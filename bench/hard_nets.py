@@ -161,6 +161,24 @@ def lad_over(far):
     return family
 
 
+def no_window(draw):
+    return lambda: (0, 0)
+
+
+def lad_ring(window):
+    def family(draw, size):
+        """A ladder with log-uniform rungs over a ring in which each firm owes the next 13."""
+        net = Net()
+        firms = net.firms(scaled(15_360, size), window(draw))
+        ladder(net, firms, lambda: log_uniform(draw, 10**6))
+        for place, firm in enumerate(firms):
+            for step in range(1, 14):
+                net.owe(firm, firms[(place + step) % len(firms)], log_uniform(draw))
+        return net.all()
+
+    return family
+
+
 def lad_drawn(draw, size):
     net = Net()
     steps = net.firms(scaled(8_000, size))
@@ -359,6 +377,8 @@ HARD = {
     "lad-wide": (lad_wide, "a ladder beside a net of claims drawn between 8,000 firms, log-uniform, and one claim between them"),
     "lad-over-wide": (lad_over(None), "a ladder over the firms of a net of 230,000 drawn claims, log-uniform"),
     "lad-over-local": (lad_over(16), "the same, where each drawn claim goes to one of the next 16 firms"),
+    "lad-ring": (lad_ring(no_window), "a ladder with log-uniform rungs over 15,360 firms in a ring, each of which owes the next 13, log-uniform"),
+    "lad-ring-log": (lad_ring(little_log), "the same with log-uniform windows"),
     "lad-drawn": (lad_drawn, "a ladder between two drawn nets of 4,000 firms"),
     "comb": (comb, "a ladder whose rungs are chains of 16 claims"),
     "nested": (nested, "a ladder whose rungs are ladders of 32 firms"),
