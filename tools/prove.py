@@ -5,7 +5,7 @@
     tools/prove.py --check CRATE [WORD..]
 
 Without a name it proves every crate and the tests of every crate of tests. A library is built, too, and a program is linked. The crate with the longest way
-still to go behind it comes first, on two processors; where fewer crates are ready than there are processors, a crate gets several. How many seconds of a
+still to go behind it comes first; where fewer crates are ready than there are processors, a crate gets several. How many seconds of a
 processor a crate takes is read from bench/costs.txt, and guessed from its lines where it is not listed there; --costs writes what the crates took that this
 run proved.
 
@@ -195,9 +195,8 @@ class Work:
             idle = self.at_once - sum(self.running.values())
             if idle <= 0 or (self.running and not self.rtlib.fits(MEMORY)):
                 return
-            # (all that is left waits for the crate with the longest way, so that one gets two even where one processor is idle)
-            least = 2 if crate is self.left[0] else 1
-            jobs = max(min(least, self.at_once), min(4, idle // (len(ready) - at)))
+            # (a second processor for one check saves a tenth of its time, and a second check beside it all of that one's)
+            jobs = max(1, min(4, idle // (len(ready) - at)))
             self.left.remove(crate)
             self.running[crate.name], self.since[crate.name] = jobs, time.time()
             threading.Thread(target=self.run, args=(crate, jobs), daemon=True).start()
