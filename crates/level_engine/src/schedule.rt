@@ -119,21 +119,28 @@ pub const WHOLE: u64 = 400;
 /// See `WHOLE`.
 pub const WHOLE_SQUARES: u64 = 4;
 
-/// The work of the simplex that starts where a drain at first ended, before one by shares, besides one for each `WHOLE_SQUARES` of the
-/// square of the nodes.
+/// Claims are large that hold at least one cent in so many of what the largest holds.
+pub const LARGE: u64 = 256;
+
+/// Claims are of many sizes where one in so many is not large.
+pub const CLAIMS_BY_SIZE: usize = 32;
+
+/// They come by shares from where nothing is set off where one in so many is not large, and else, or where that is too long, from where
+/// the large claims are settled.
+pub const CLAIMS_BY_SHARES: usize = 2;
+
+/// The work of the simplex that starts where a drain at first ended, before that, besides one for each `WHOLE_SQUARES` of the square of
+/// the nodes.
 pub const DRAINED: u64 = 448;
 
 /// The work of one from risen prices before that.
 pub const RISEN: u64 = 640;
 
-/// The work of a simplex by shares, besides one for each `WHOLE_SQUARES` of the square of the nodes.
+/// The work of a simplex to which arcs come by shares, besides one for each `WHOLE_SQUARES` of the square of the nodes.
 pub const SHARED: u64 = 4_000;
 
-/// It has so many shares of the arcs.
+/// They come in so many shares.
 pub const SHARES: usize = 16;
-
-/// It is tried where half of the claims hold less than one cent in so many of what the largest holds.
-pub const MUCH_LESS: u64 = 1_024;
 
 /// After so many turns, each of twice as much work as the one before, the levels go on alone.
 pub const TURNS: u32 = 8;

@@ -1,16 +1,14 @@
 //! A state whose net is in parts.
-ghost use Rattle.std.specs.Prelude.{◌<◌, ◌≤◌, ◌↔◌, All, IsTrue, OnOk, length};
-ghost use Rattle.setoff_model.specs.declared.limits.TheConstants.{MOST_CLAIMS, MOST_FIRMS, MOST_WINDOW};
-ghost use Rattle.flow_solver.specs.residual_state.specs.Edges.{IsClaimEdge};
+ghost use Rattle.std.specs.Prelude.{OnOk};
 ghost use Rattle.flow_solver.specs.residual_state.specs.States.{IsState, StaysOn};
 
+use crate::inner_state::{parties_of, solution_of, start_at, state_of};
 use crate::settling::settle_whole;
-use flow_solver::{State, adopt, state_at_start, surplus_of};
-use net_presolve::{Inner, Parts, Series, Unused, Window, risen};
-use setoff_model::limits::{MOST_AMOUNT, MOST_CLAIMS, MOST_FIRMS, MOST_WEIGHT, MOST_WINDOW};
-use setoff_model::{Name, Party};
-use simplex_engine::schedule::DENSE_HALVES;
-use simplex_engine::{Edge, Halves, Solution, Start, seek_alone, seek_from};
+use flow_solver::{State, adopt, surplus_of};
+use net_presolve::{Inner, Parts, Series, Sizes, Unused, risen};
+use setoff_model::Party;
+use simplex_engine::schedule::{DENSE_HALVES, RISEN};
+use simplex_engine::{Edge, Halves, Solution, seek_alone, seek_from};
 use std::alloc::{AllocError, Global};
 
 // Takes a whole solution that the shape of the net leads to, where it is not dense, any excess is left, and there are turns.
@@ -84,14 +82,18 @@ fn find_risen(
     let Some(prices) = risen(alloc, net, parts)? else {
         return Ok(None);
     };
-    let start = Start {
-        edges: &state.edges,
-        flows: &state.flows,
-        prices: &state.prices,
-        excess: &state.excess,
-        windows: net.windows,
+    let work = if Sizes::of(net).are_many() {
+        RISEN
+    } else {
+        u64::MAX
     };
-    seek_from(alloc, &start, net.halves, &prices)
+    seek_from(
+        alloc,
+        &start_at(state, net.windows),
+        net.halves,
+        &prices,
+        work,
+    )
 }
 
 // A whole solution that is put together of those of the parts.
@@ -167,57 +169,9 @@ fn solve_claims(
     claims: Vec<Edge>,
     turns: u32,
 ) -> Result<Option<Solution>, AllocError> {
-    if MOST_FIRMS < parties.len() || MOST_CLAIMS < claims.len() {
+    let Some(mut state) = state_of(alloc, parties, claims)? else {
         return Ok(None);
-    }
-    if !are_among(parties, &claims) || !are_within(parties) {
-        return Ok(None);
-    }
-    let mut state = state_at_start(alloc, parties, claims)?;
+    };
     settle_whole(alloc, &mut state, turns)?;
-    Ok(Some(Solution {
-        flows: state.flows,
-        prices: state.prices,
-    }))
-}
-
-// Parties with these windows, whose names are all the same.
-fn parties_of(alloc: Global, windows: &[Window]) -> Result<Vec<Party>, AllocError> {
-    let mut parties = Vec::with_capacity(alloc, windows.len())?;
-    if let Some(firm) = Name::of(b"F") {
-        for window in windows {
-            parties.push(Party {
-                firm,
-                spend: window.spend,
-                room: window.room,
-            })?;
-        }
-    }
-    Ok(parties)
-}
-
-// Whether the arcs are those of claims among the parties.
-fn are_among(parties: &[Party], claims: &[Edge]) -> bool
-    ensures { IsTrue result ↔ All (IsClaimEdge (length parties.now)) claims.now }
-{
-    let many = parties.len();
-    claims.iter().all(|claim| is_between(many, claim))
-}
-
-fn is_between(parties: usize, claim: &Edge) -> bool
-    ensures { IsTrue result ↔ IsClaimEdge parties claim.now }
-{
-    if parties <= claim.tail || parties <= claim.head || claim.tail == claim.head {
-        return false;
-    }
-    claim.capacity <= MOST_CLAIMS as u64 * MOST_AMOUNT && claim.reward <= MOST_WEIGHT
-}
-
-// Whether no balance can fall or rise by more than in a round.
-fn are_within(parties: &[Party]) -> bool
-    ensures spends { IsTrue result → All (λ f. f.spend ≤ MOST_WINDOW) parties.now }
-    ensures rooms { IsTrue result → All (λ f. f.room ≤ MOST_WINDOW) parties.now }
-{
-    parties.iter().all(|party| party.spend <= MOST_WINDOW)
-        && parties.iter().all(|party| party.room <= MOST_WINDOW)
+    Ok(Some(solution_of(state)))
 }

@@ -3,11 +3,13 @@ ghost use Rattle.std.specs.Prelude.{◌<◌, ℕ, OnOk, length, pos, ◌≤ℤ�
 ghost use Rattle.flow_solver.specs.residual_state.specs.Excesses.{excess_of};
 ghost use Rattle.flow_solver.specs.residual_state.specs.States.{IsState, StaysOn};
 
+use crate::by_size::take_by_size;
+use crate::inner_state::start_at;
 use crate::levels::{all_levels, first_levels};
 use crate::parting::take_parts;
 use flow_solver::{State, adopt, surplus_of};
 use simplex_engine::schedule::{LEVELS_BEFORE_COLD, LEVELS_WEIGHTED, SPARSE_HALVES, TURNS};
-use simplex_engine::{Advice, Halves, Solution, Start, seek_cold, seek_solution};
+use simplex_engine::{Advice, Halves, Solution, seek_cold, seek_solution};
 use std::alloc::{AllocError, Global};
 
 /// Moves excess until no node of the state has any above 0: one level of prices after another, and the rest at once where levels
@@ -46,7 +48,20 @@ pub(crate) fn settle_whole(alloc: Global, state: &mut State, turns: u32) -> Resu
     settle_over(alloc, state, halves, &windows, turns)
 }
 
-// The same over the halves of the arcs, with the flows of the windows' arcs at which no balance changes.
+// The same, where the large claims are not set off first either.
+pub(crate) fn settle_at_once(alloc: Global, state: &mut State, turns: u32) -> Result<(), AllocError>
+    requires { IsState state.old }
+    ensures state { OnOk result (StaysOn state.old state.new) }
+{
+    let windows = window_flows(alloc, state)?;
+    let halves = Halves::of(alloc, &state.edges, state.excess.len())?;
+    let halves = engines_at_first(alloc, state, halves, &windows, turns)?;
+    take_solution(alloc, state, &halves, &windows, turns)?;
+    levels_to_the_end(alloc, state)
+}
+
+// Settles over the halves of the arcs, with the flows of the windows' arcs at which no balance changes: where the engines come to no end
+// at first, from the solution of the large claims.
 fn settle_over(
     alloc: Global,
     state: &mut State,
@@ -58,32 +73,29 @@ fn settle_over(
     ensures state { OnOk result (StaysOn state.old state.new) }
     ensures rest { OnOk result ((v : ℕ) → v < length state.new.excess.items → excess_of state.new.excess.items v ≤ℤ pos 0) }
 {
-    if surplus_of(&state.excess) != 0 {
-        engines_at_first(alloc, state, halves, windows, turns)?;
-    }
+    let halves = engines_at_first(alloc, state, halves, windows, turns)?;
+    take_by_size(alloc, state, &halves, windows, turns)?;
+    take_solution(alloc, state, &halves, windows, turns)?;
     levels_to_the_end(alloc, state)
 }
 
-// Seeks the whole from where nothing is set off, goes from one level of prices to the next while they get on, and takes a whole solution
-// for the rest.
+// Seeks the whole from where nothing is set off, and goes from one level of prices to the next while they get on. Gives the halves back.
 fn engines_at_first(
     alloc: Global,
     state: &mut State,
     halves: Halves,
     windows: &[u64],
     turns: u32,
-) -> Result<(), AllocError>
+) -> Result<Halves, AllocError>
     requires { IsState state.old }
     ensures { OnOk result (StaysOn state.old state.new) }
 {
     let levels = levels_before_cold(halves.len(), state.excess.len());
     take_cold(alloc, state, &halves, windows, turns, levels == 0)?;
     if surplus_of(&state.excess) == 0 {
-        return Ok(());
+        return Ok(halves);
     }
-    let halves = levels_at_first(alloc, state, halves, windows, turns)?;
-    take_solution(alloc, state, &halves, windows, turns)?;
-    Ok(())
+    levels_at_first(alloc, state, halves, windows, turns)
 }
 
 // Goes from one level of prices to the next while they get on. The halves of the arcs; the other lists of the advice make room.
@@ -201,14 +213,7 @@ fn find_solution(
     windows: &[u64],
     turns: u32,
 ) -> Result<Option<Solution>, AllocError> {
-    let start = Start {
-        edges: &state.edges,
-        flows: &state.flows,
-        prices: &state.prices,
-        excess: &state.excess,
-        windows,
-    };
-    seek_solution(alloc, &start, halves, turns)
+    seek_solution(alloc, &start_at(state, windows), halves, turns)
 }
 
 // A whole solution, if it is found from where nothing is set off.
@@ -218,12 +223,5 @@ fn find_cold(
     halves: &Halves,
     windows: &[u64],
 ) -> Result<Option<Solution>, AllocError> {
-    let start = Start {
-        edges: &state.edges,
-        flows: &state.flows,
-        prices: &state.prices,
-        excess: &state.excess,
-        windows,
-    };
-    seek_cold(alloc, &start, halves)
+    seek_cold(alloc, &start_at(state, windows), halves)
 }

@@ -1,5 +1,5 @@
-//! What the shape of a net tells before an engine is asked: which of its parts are solved apart, which claims are one series, how solutions
-//! are put together, and at which prices a simplex may start.
+//! What the shape of a net tells before an engine is asked: which of its parts are solved apart, which claims are one series, which are
+//! large, how solutions are put together, and at which prices a simplex may start.
 //!
 //! Nothing is proved of it but that it comes, and nothing has to be: it ends in a whole solution, which `adopt` of `residual_state` tests.
 //!
@@ -9,6 +9,7 @@
 #![tactic(auto)]
 
 mod inner;
+mod large;
 mod laying;
 mod parts;
 mod rising;
@@ -17,6 +18,7 @@ mod series;
 mod unused;
 
 pub use inner::{Inner, Window};
+pub use large::{Large, Sizes};
 pub use parts::Parts;
 pub use rising::risen;
 pub use series::Series;

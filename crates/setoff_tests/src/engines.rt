@@ -3,10 +3,10 @@ use crate::hard_nets::{Net, chain, comb, drawn_claims, firms, kind_of, ladder};
 use crate::solvers::{Owed, Window, cut_of, total_of};
 use flow_solver::state_of_net;
 use level_engine::Halves;
-use net_presolve::{Inner, Parts, Unused};
+use net_presolve::{Inner, Large, Parts, Sizes, Unused};
 use residual_state::{State, adopt};
 use setoff_model::Kind;
-use simplex_engine::{Solution, Start, seek_solution};
+use simplex_engine::{Solution, Start, seek_onward, seek_solution};
 use std::alloc::Global;
 use std::process::Abort;
 
@@ -42,16 +42,20 @@ fn beginning_of(rt: &impl Abort, alloc: Global, state: &State) -> Beginning {
     Beginning { windows, halves }
 }
 
-// What the simplex finds where nothing was done before.
-fn found_from(rt: &impl Abort, alloc: Global, state: &State) -> Solution {
-    let begun = beginning_of(rt, alloc, state);
-    let start = Start {
+fn start_of<'a>(state: &'a State, begun: &'a Beginning) -> Start<'a> {
+    Start {
         edges: &state.edges,
         flows: &state.flows,
         prices: &state.prices,
         excess: &state.excess,
         windows: &begun.windows,
-    };
+    }
+}
+
+// What the simplex finds where nothing was done before.
+fn found_from(rt: &impl Abort, alloc: Global, state: &State) -> Solution {
+    let begun = beginning_of(rt, alloc, state);
+    let start = start_of(state, &begun);
     let found = seek_solution(alloc, &start, &begun.halves, 8).expect(rt, "memory");
     found.expect(rt, "a solution")
 }
@@ -134,4 +138,61 @@ fn a_series_of_firms(rt: HostRuntime) {
     owed.push((0, 51, 15)).expect(&rt, "memory");
     let total = total_of(&rt, alloc, Kind::Plain, &[(0, 0); 52], &owed);
     assert!(rt; total == 51 * 1_000 + 1_015 + 15);
+}
+
+// A ring of large claims, of which 9,980.00 can be set off, and two small claims between its firms. The first of these makes a circle of
+// two with a claim of the ring. Each cent over the second would take two from the ring.
+const CROSSED: [Owed; 5] = [
+    (0, 1, 1_000_000),
+    (1, 2, 999_000),
+    (2, 0, 998_000),
+    (2, 1, 500),
+    (0, 2, 300),
+];
+
+// The whole solution, from that of the ring alone.
+fn crossed_from_ring(rt: &impl Abort, alloc: Global, state: &State) -> Solution {
+    let begun = beginning_of(rt, alloc, state);
+    let net = Unused {
+        edges: &state.edges,
+        halves: &begun.halves,
+        windows: &begun.windows,
+    };
+    let sizes = Sizes::of(&net);
+    assert!(rt; sizes.are_many() && sizes.small == 2);
+    let large = Large::of(alloc, &net, sizes.least).expect(rt, "memory");
+    assert!(rt; large.claims.len() == 3);
+    let ring = [998_000, 998_000, 998_000, 0, 0, 0];
+    let flows = large.flows(alloc, &net, &ring).expect(rt, "memory");
+    let prices = Vec::from_slice(alloc, &[0, 1, 2]).expect(rt, "memory");
+    let found = Solution { flows, prices };
+    let start = start_of(state, &begun);
+    let whole = seek_onward(alloc, &start, &begun.halves, &found, sizes.least).expect(rt, "memory");
+    whole.expect(rt, "a solution")
+}
+
+fn sum(flows: &[u64]) -> u64 {
+    let mut sum = 0u64;
+    for &flow in flows {
+        sum = sum.saturating_add(flow);
+    }
+    sum
+}
+
+// Whether it is taken, and sets off so much.
+fn is_crossed(rt: &impl Abort, alloc: Global, net: &netting_graph::Net, total: u64) -> bool {
+    let mut state = state_of_net(alloc, net).expect(rt, "memory");
+    let Solution { flows, prices } = crossed_from_ring(rt, alloc, &state);
+    let is_all = sum(&flows) == total;
+    is_all && adopt(alloc, &mut state, flows, prices).expect(rt, "memory")
+}
+
+#[test]
+fn small_claims_come_behind_large_ones(rt: HostRuntime) {
+    let alloc = rt.alloc();
+    assert!(rt; total_of(&rt, alloc, Kind::Plain, &[(0, 0); 3], &CROSSED) == 2_995_000);
+    let cut = cut_of(&rt, alloc, Kind::Plain, &[(0, 0); 3], &CROSSED);
+    assert!(rt; cut.well_formed());
+    let net = netting_graph::Net::of(alloc, &cut).expect(&rt, "memory");
+    assert!(rt; is_crossed(&rt, alloc, &net, 2_995_000));
 }

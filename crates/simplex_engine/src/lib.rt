@@ -6,8 +6,7 @@
 //! and moves and no time, so the answer is the same on each machine. Nothing is proved of the solution but that it comes, or none:
 //! `adopt` of `residual_state` tests it.
 //!
-//! Before the turns come two short tries: of the one after the drain alone, and of one from where nothing is set off, to which arcs come by
-//! shares, those that hold most first. The second is for claims of many sizes.
+//! A simplex may also go on from where the large claims are set off. The other arcs come to it by shares, those that hold most first.
 //!
 //! Its words: an arc is bad where flow would gain by leaving the bound that it is at; the tree joins all nodes to a root that no
 //! claim has; a pivot brings a bad arc into the tree, moves what the circle holds, and lets another arc go. The rules are those of
@@ -23,4 +22,6 @@ mod simplex;
 mod turns;
 
 pub use spanning_tree::{Advice, Edge, Halves, schedule};
-pub use turns::{Solution, Start, seek_alone, seek_cold, seek_from, seek_solution};
+pub use turns::{
+    Solution, Start, seek_alone, seek_cold, seek_drained, seek_from, seek_onward, seek_solution,
+};

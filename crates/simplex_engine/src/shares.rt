@@ -1,14 +1,15 @@
 //! A simplex whose arcs come by shares, those that hold most first.
 use crate::ranking::largest_first;
 use crate::simplex::Simplex;
+use crate::turns::{Solution, node_prices};
 use loose_places::{at, put};
 use spanning_tree::schedule::SHARES;
 use spanning_tree::{Edge, Halves};
 use std::alloc::{AllocError, Global};
 
-// A simplex from where nothing is set off, over arcs of its own: those of claims, and for each window one to the ground, for what the
-// balance may rise by, and one from it, for what it may fall by. So each arc is empty at the start. Pieces are the places of these, and
-// stand in the order of the arcs. The first arcs are open: no other may enter.
+// A simplex from where the large claims are set off, over arcs of its own: those of claims, and for each window one to the ground, for
+// what the balance may rise by, and one from it, for what it may fall by. Pieces are the places of these, and stand in the order of the
+// arcs. The first arcs are open: no other may enter.
 //
 // Where the largest arcs are at rest, a smaller one mostly holds less than any arc of the tree, so that it is filled at once, and the tree
 // stays as it is. In any other order nearly each claim that a circle passes is filled and emptied many times.
@@ -16,6 +17,7 @@ use std::alloc::{AllocError, Global};
 pub(crate) struct Shares {
     edges: Vec<Edge>,
     pieces: Vec<u32>,
+    halves: Halves,
     simplex: Simplex,
     open: usize,
 }
@@ -29,46 +31,49 @@ const NO_EDGE: Edge = Edge {
 };
 
 impl Shares {
-    // A simplex over these arcs, with the flows of the windows' arcs at which no balance changes.
+    // A simplex over these arcs, from the flow of each and the price of each party. The arcs that hold at least so much are open.
     pub(crate) fn new(
         alloc: Global,
         edges: &[Edge],
         windows: &[u64],
-        halves: &Halves,
+        found: &Solution,
+        least: u64,
     ) -> Result<Shares, AllocError> {
         let amounts = amounts_of(alloc, edges, windows)?;
         let pieces = largest_first(alloc, &amounts)?;
         let edges = edges_of(alloc, edges, windows.len(), &amounts, &pieces)?;
-        let nodes = windows.len().saturating_add(1);
-        let flows = vec![in alloc; 0u64; edges.len()]?;
-        let prices = vec![in alloc; 0i32; nodes]?;
-        let excess = vec![in alloc; 0i64; nodes]?;
-        let mut simplex = Simplex::new(alloc, &edges, halves, flows, &prices, excess)?;
-        simplex.stop_looking();
-        simplex.lengthen_runs();
+        let halves = Halves::of(alloc, &edges, windows.len().saturating_add(1))?;
+        let flows = flows_of(alloc, windows, &found.flows, &pieces)?;
+        let simplex = simplex_from(alloc, &edges, &halves, flows, &found.prices)?;
         let mut shares = Shares {
             edges,
             pieces,
+            halves,
             simplex,
             open: 0,
         };
-        shares.open_more();
+        shares.open_to(large_in(&amounts, least));
         Ok(shares)
+    }
+
+    // Opens the first so many arcs.
+    fn open_to(&mut self, arcs: usize) {
+        self.open = arcs.min(self.edges.len());
+        self.simplex.open(self.open);
     }
 
     // Opens the next share of the arcs.
     fn open_more(&mut self) {
         let share = (self.edges.len() / SHARES).saturating_add(1);
-        self.open = self.open.saturating_add(share).min(self.edges.len());
-        self.simplex.open(self.open);
+        self.open_to(self.open.saturating_add(share));
     }
 
     // Goes on for so much work. Whether all arcs are open, and none is bad any more.
-    pub(crate) fn run(&mut self, halves: &Halves, work: u64) -> Result<bool, AllocError> {
+    pub(crate) fn run(&mut self, work: u64) -> Result<bool, AllocError> {
         let most = self.simplex.work().saturating_add(work);
         for _ in 0..SHARES.saturating_add(1) {
             let left = most.saturating_sub(self.simplex.work());
-            if !self.simplex.run(&self.edges, halves, left)? {
+            if !self.simplex.run(&self.edges, &self.halves, left)? {
                 return Ok(false);
             }
             if self.edges.len() <= self.open {
@@ -99,6 +104,33 @@ impl Shares {
     pub(crate) fn prices(&self, alloc: Global) -> Result<Vec<i64>, AllocError> {
         self.simplex.prices(alloc)
     }
+}
+
+// A simplex from these flows and the price of each party, where no node has any excess.
+fn simplex_from(
+    alloc: Global,
+    edges: &[Edge],
+    halves: &Halves,
+    flows: Vec<u64>,
+    prices: &[i64],
+) -> Result<Simplex, AllocError> {
+    let prices = node_prices(alloc, prices)?;
+    let excess = vec![in alloc; 0i64; prices.len()]?;
+    let mut simplex = Simplex::new(alloc, edges, halves, flows, &prices, excess)?;
+    simplex.stop_looking();
+    simplex.lengthen_runs();
+    Ok(simplex)
+}
+
+// How many of the amounts are at least so much.
+fn large_in(amounts: &[u64], least: u64) -> usize {
+    let mut large = 0usize;
+    for &amount in amounts {
+        if least <= amount {
+            large = large.saturating_add(1);
+        }
+    }
+    large
 }
 
 // How much each piece holds: those of the claims, and then of each window by what the balance may rise and fall.
@@ -136,6 +168,39 @@ fn edges_of(
         }
     }
     Ok(own)
+}
+
+// The flow of each piece, by those of the claims and of the windows' arcs.
+fn flows_of(
+    alloc: Global,
+    windows: &[u64],
+    flows: &[u64],
+    pieces: &[u32],
+) -> Result<Vec<u64>, AllocError> {
+    let claims = flows.len().saturating_sub(windows.len());
+    let mut own = Vec::with_capacity(alloc, pieces.len())?;
+    for &piece in pieces {
+        let place = piece as usize;
+        if place < claims {
+            own.push(at(flows, place, 0))?;
+        } else {
+            own.push(window_flow(windows, flows, place.wrapping_sub(claims)))?;
+        }
+    }
+    Ok(own)
+}
+
+// The flow of a piece of a window: by how much the balance rises, or falls.
+fn window_flow(windows: &[u64], flows: &[u64], place: usize) -> u64 {
+    let party = place / 2;
+    let claims = flows.len().wrapping_sub(windows.len());
+    let flow = at(flows, claims.wrapping_add(party), 0);
+    let still = at(windows, party, 0);
+    if place % 2 == 0 {
+        flow.saturating_sub(still)
+    } else {
+        still.saturating_sub(flow)
+    }
 }
 
 // The arc of a piece of a window.

@@ -4,9 +4,9 @@ use crate::shares::Shares;
 use crate::simplex::Simplex;
 use loose_places::narrow;
 use spanning_tree::schedule::{
-    ALONE, DRAIN, DRAIN_BRIEF, DRAINED, FAR_OF, FAR_PARTS, FEW_HALVES, FULL_TRIAL, MUCH_LESS,
-    RISEN, SHARED, SLICE, SLICE_MORE, SLICE_MOST, SLICES, SPARSE_HALVES, SPARSE_TRIAL, TURN,
-    TURN_SQUARES, Trial, WARM, WHOLE, WHOLE_SQUARES,
+    ALONE, DRAIN, DRAIN_BRIEF, DRAINED, FAR_OF, FAR_PARTS, FEW_HALVES, FULL_TRIAL, SHARED, SLICE,
+    SLICE_MORE, SLICE_MOST, SLICES, SPARSE_HALVES, SPARSE_TRIAL, TURN, TURN_SQUARES, Trial, WARM,
+    WHOLE, WHOLE_SQUARES,
 };
 use spanning_tree::{Edge, Halves};
 use std::alloc::{AllocError, Global};
@@ -91,7 +91,8 @@ fn try_cold(
     }
 }
 
-/// A solution from where nothing is set off, at the price of each node, if one is found while arcs enter with little work each.
+/// A solution from where nothing is set off, at the price of each node, if one is found while arcs enter with little work each, and with so
+/// much work for each half.
 ///
 /// Nothing is proved of it. The only error is running out of memory.
 pub fn seek_from(
@@ -99,63 +100,57 @@ pub fn seek_from(
     start: &Start,
     halves: &Halves,
     prices: &[i32],
+    work: u64,
 ) -> Result<Option<Solution>, AllocError> {
     let mut cold = cold_simplex(alloc, start, halves, prices)?;
     cold.lengthen_runs();
-    let most = work_before_shares(start, halves);
+    let most = (halves.len() as u64).saturating_mul(work);
     if ends_in_slices(&mut cold, start, halves, most)? {
-        return answer(alloc, start.edges, &cold);
+        answer(alloc, start.edges, &cold)
+    } else {
+        Ok(None)
     }
-    if cold.work() < most {
-        return Ok(None);
-    }
-    drop(cold);
-    seek_by_shares(alloc, start, halves)
 }
 
-// A solution by a simplex whose arcs come by shares, those that hold most first, if one is found in time.
-fn seek_by_shares(
+/// A solution from where the rest of the excess was drained, if one is found with little work.
+///
+/// Nothing is proved of it. The only error is running out of memory.
+pub fn seek_drained(
     alloc: Global,
     start: &Start,
     halves: &Halves,
 ) -> Result<Option<Solution>, AllocError> {
-    if !are_for_shares(start, halves) {
+    let drain = drain_for(alloc, start, halves, DRAIN_BRIEF)?;
+    if !drain.is_over() {
         return Ok(None);
     }
-    let mut shares = Shares::new(alloc, start.edges, start.windows, halves)?;
-    let work = work_of(start, halves, SHARED);
-    if !shares.run(halves, work)? {
+    let prices = node_prices(alloc, start.prices)?;
+    let mut drained = drained_simplex(alloc, start, halves, drain, &prices)?;
+    if drained.run(start.edges, halves, work_of(start, halves, DRAINED))? {
+        answer(alloc, start.edges, &drained)
+    } else {
+        Ok(None)
+    }
+}
+
+/// A solution from this one, in which nothing is moved over arcs that hold less than so much, if one is found in time. These come by
+/// shares, those that hold most first.
+///
+/// Nothing is proved of it. The only error is running out of memory.
+pub fn seek_onward(
+    alloc: Global,
+    start: &Start,
+    halves: &Halves,
+    found: &Solution,
+    least: u64,
+) -> Result<Option<Solution>, AllocError> {
+    let mut shares = Shares::new(alloc, start.edges, start.windows, found, least)?;
+    if !shares.run(work_of(start, halves, SHARED))? {
         return Ok(None);
     }
     let flows = shares.flows(alloc, claims_of(start), start.windows)?;
     let prices = shares.prices(alloc)?;
     Ok(Some(Solution { flows, prices }))
-}
-
-// Whether a simplex by shares is tried: where some halves of arcs are at a node, and half of the claims or more hold much less than the
-// largest does.
-fn are_for_shares(start: &Start, halves: &Halves) -> bool {
-    if halves.len() / SPARSE_HALVES <= start.excess.len() {
-        return false;
-    }
-    let claims = claims_of(start);
-    let much_less = most_held(start) / MUCH_LESS;
-    let mut small = 0usize;
-    for edge in start.edges.iter().take(claims) {
-        if edge.capacity < much_less {
-            small = small.saturating_add(1);
-        }
-    }
-    claims / 2 <= small
-}
-
-// What the largest of the claims holds.
-fn most_held(start: &Start) -> u64 {
-    let mut most = 0u64;
-    for edge in start.edges.iter().take(claims_of(start)) {
-        most = most.max(edge.capacity);
-    }
-    most
 }
 
 // How many of the arcs are those of claims.
@@ -192,15 +187,6 @@ pub fn seek_alone(
     let most = (nodes as u64).saturating_mul(nodes as u64);
     let work = (halves.len() as u64).saturating_mul(ALONE);
     whole_within(alloc, &start, &halves, most.saturating_add(work))
-}
-
-// The work of a simplex from risen prices before another is tried: without end where that is none.
-fn work_before_shares(start: &Start, halves: &Halves) -> u64 {
-    if are_for_shares(start, halves) {
-        (halves.len() as u64).saturating_mul(RISEN)
-    } else {
-        u64::MAX
-    }
 }
 
 // Whether the simplex comes to its end in slices, each of half as much work more than the one before. It does not go on behind one
@@ -271,7 +257,7 @@ pub fn seek_solution(
     seek_warm(alloc, start, halves, &mut warm, &prices, turns)
 }
 
-// Tries the warm simplex alone where arcs are few, and then the others.
+// Tries the warm simplex alone where arcs are few, and then both by turns.
 fn seek_warm(
     alloc: Global,
     start: &Start,
@@ -285,35 +271,14 @@ fn seek_warm(
     }
     let drain = drain_for(alloc, start, halves, DRAIN_BRIEF)?;
     if drain.is_over() {
-        seek_lightly(alloc, start, halves, drain, warm, prices, turns)
+        seek_by_turns(alloc, start, halves, drain, warm, prices, turns)
     } else {
         drop(drain);
         seek_undrained(alloc, start, halves, warm, prices, turns)
     }
 }
 
-// Tries the drained simplex alone and the one by shares, where claims are of many sizes, and then goes on by turns.
-fn seek_lightly(
-    alloc: Global,
-    start: &Start,
-    halves: &Halves,
-    drain: Drain,
-    warm: &mut Simplex,
-    prices: &[i32],
-    turns: u32,
-) -> Result<Option<Solution>, AllocError> {
-    let mut drained = drained_simplex(alloc, start, halves, drain, prices)?;
-    if drained.run(start.edges, halves, work_of(start, halves, DRAINED))? {
-        return answer(alloc, start.edges, &drained);
-    }
-    let by_shares = seek_by_shares(alloc, start, halves)?;
-    if by_shares.is_some() {
-        return Ok(by_shares);
-    }
-    by_turns(alloc, start, halves, &mut drained, warm, turns)
-}
-
-// Seeks the whole by shares and then at once, and then from where a longer drain ends.
+// Seeks the whole at once, and then from where a longer drain ends.
 fn seek_undrained(
     alloc: Global,
     start: &Start,
@@ -322,20 +287,16 @@ fn seek_undrained(
     prices: &[i32],
     turns: u32,
 ) -> Result<Option<Solution>, AllocError> {
-    let by_shares = seek_by_shares(alloc, start, halves)?;
-    if by_shares.is_some() {
-        return Ok(by_shares);
-    }
     let whole = whole_at_once(alloc, start, halves)?;
     if whole.is_some() {
         return Ok(whole);
     }
     let drain = drain_for(alloc, start, halves, DRAIN)?;
-    seek_drained(alloc, start, halves, drain, warm, prices, turns)
+    seek_by_turns(alloc, start, halves, drain, warm, prices, turns)
 }
 
 // Lets a simplex that begins where the drain ended and the warm one go on by turns.
-fn seek_drained(
+fn seek_by_turns(
     alloc: Global,
     start: &Start,
     halves: &Halves,
@@ -474,7 +435,7 @@ fn answer(
 }
 
 // The price of each node. That of the ground is 0.
-fn node_prices(alloc: Global, prices: &[i64]) -> Result<Vec<i32>, AllocError> {
+pub(crate) fn node_prices(alloc: Global, prices: &[i64]) -> Result<Vec<i32>, AllocError> {
     let mut list = Vec::with_capacity(alloc, prices.len().saturating_add(1))?;
     for &price in prices {
         list.push(near(price))?;

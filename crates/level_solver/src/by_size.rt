@@ -1,0 +1,109 @@
+//! A whole solution where claims are of many sizes.
+ghost use Rattle.std.specs.Prelude.{OnOk};
+ghost use Rattle.flow_solver.specs.residual_state.specs.States.{IsState, StaysOn};
+
+use crate::inner_state::{parties_of, solution_of, start_at, state_of};
+use crate::settling::settle_at_once;
+use flow_solver::{State, adopt, surplus_of};
+use net_presolve::{Large, Sizes, Unused};
+use simplex_engine::schedule::SPARSE_HALVES;
+use simplex_engine::{Halves, Solution, Start, seek_drained, seek_onward};
+use std::alloc::{AllocError, Global};
+
+// Takes a whole solution that is found by the sizes of the claims, where any excess is left and there are turns.
+pub(crate) fn take_by_size(
+    alloc: Global,
+    state: &mut State,
+    halves: &Halves,
+    windows: &[u64],
+    turns: u32,
+) -> Result<(), AllocError>
+    requires { IsState state.old }
+    ensures { OnOk result (StaysOn state.old state.new) }
+{
+    if turns == 0 || surplus_of(&state.excess) == 0 {
+        return Ok(());
+    }
+    if let Some(Solution { flows, prices }) = find_by_size(alloc, state, halves, windows, turns)? {
+        let _ = adopt(alloc, state, flows, prices)?;
+    }
+    Ok(())
+}
+
+// A whole solution, where claims are of many sizes: one that a simplex finds soon from where the rest is drained, one by shares from where
+// nothing is set off, if most claims are small, or one from where the large claims are settled.
+fn find_by_size(
+    alloc: Global,
+    state: &State,
+    halves: &Halves,
+    windows: &[u64],
+    turns: u32,
+) -> Result<Option<Solution>, AllocError> {
+    let net = Unused {
+        edges: &state.edges,
+        halves,
+        windows,
+    };
+    let sizes = Sizes::of(&net);
+    if !sizes.are_many() || halves.len() / SPARSE_HALVES <= windows.len() {
+        return Ok(None);
+    }
+    let start = start_at(state, windows);
+    let drained = seek_drained(alloc, &start, halves)?;
+    if drained.is_some() {
+        return Ok(drained);
+    }
+    if sizes.are_mostly_small() {
+        let by_shares = find_by_shares(alloc, &start, &net)?;
+        if by_shares.is_some() {
+            return Ok(by_shares);
+        }
+    }
+    find_onward(alloc, &start, &net, sizes.least, turns)
+}
+
+// A whole solution by shares from where nothing is set off.
+fn find_by_shares(
+    alloc: Global,
+    start: &Start,
+    net: &Unused,
+) -> Result<Option<Solution>, AllocError> {
+    let none = Large::of(alloc, net, u64::MAX)?;
+    let flows = none.flows(alloc, net, &[])?;
+    let prices = vec![in alloc; 0i64; net.windows.len()]?;
+    let found = Solution { flows, prices };
+    seek_onward(alloc, start, net.halves, &found, u64::MAX)
+}
+
+// A whole solution from where the large claims are settled.
+fn find_onward(
+    alloc: Global,
+    start: &Start,
+    net: &Unused,
+    least: u64,
+    turns: u32,
+) -> Result<Option<Solution>, AllocError> {
+    match solve_large(alloc, net, least, turns)? {
+        Some(found) => seek_onward(alloc, start, net.halves, &found, least),
+        None => Ok(None),
+    }
+}
+
+// The solution of the large claims, in which nothing is moved over the other arcs.
+fn solve_large(
+    alloc: Global,
+    net: &Unused,
+    least: u64,
+    turns: u32,
+) -> Result<Option<Solution>, AllocError> {
+    let large = Large::of(alloc, net, least)?;
+    let parties = parties_of(alloc, &large.windows)?;
+    let claims = Vec::from_slice(alloc, &large.claims)?;
+    let Some(mut state) = state_of(alloc, &parties, claims)? else {
+        return Ok(None);
+    };
+    settle_at_once(alloc, &mut state, turns)?;
+    let Solution { flows, prices } = solution_of(state);
+    let flows = large.flows(alloc, net, &flows)?;
+    Ok(Some(Solution { flows, prices }))
+}
