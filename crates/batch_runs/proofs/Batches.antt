@@ -61,15 +61,6 @@ served_by : (batch : List Request) (answers : Option (List Answer)) (before adde
 served_by batch None before added none = subst (IsServed batch (unanswered batch) before) (sym none) (unanswered_served batch before)
 served_by batch (Some answers) before added served = served
 
--- a batch none of whose lines was asked adds nothing
-none_added : (answers : Option (List Answer)) (added : List PoolEntry) (P : List Answer → Type 0) → answers ≡ None → MatchOption answers (added ≡ []) P → added ≡ []
-none_added answers added P none h = subst (λ (a : Option (List Answer)). MatchOption a (added ≡ []) P) none h
-
-pub unasked_adds : {D : Type 0} (seen : D → Seen) (now new : DeskView D) (batch : List Request) (answers : Option (List Answer)) (from : ℕ) → HasRunBatch seen now new batch answers → from ≡ length now.history → answers ≡ None → drop from new.history ≡ []
-unasked_adds seen now new batch answers from ran place none =
-    ap (λ (n : ℕ). drop n new.history) place ∙ ap (drop (length now.history)) ran.history ∙ drop-append_seam now.history ran.added
-    ∙ none_added answers ran.added (λ list. IsServed batch list now.history ran.added) none ran.served
-
 -- ---- one batch more
 
 or_false : (c : Bool) → (c || false) ≡ c

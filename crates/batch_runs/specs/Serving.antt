@@ -16,7 +16,7 @@ use Rattle.lane_runner.specs.served_lines.specs.declared.line_end.LineEnd.{LineE
 use Rattle.lane_runner.specs.served_lines.specs.declared.line_end.LineEnd.TheVariants as ends
 use Rattle.lane_runner.specs.served_lines.specs.Ends.{is_memory_end, is_full_end, has_line_end}
 use Rattle.printed_text.specs.declared.exit_status.ExitStatus.{ExitStatus}
-use Rattle.printed_text.specs.Printing.{printed_of, unanswered, unanswered_lines}
+use Rattle.printed_text.specs.Printing.{printed_of, unanswered}
 use Rattle.printed_text.specs.Writing.{IsWritten}
 use Rattle.batch_runs.specs.declared.tally.Tally.{Tally}
 use Rattle.batch_runs.specs.Order.{AreInOrder, IsHeldFrom}
@@ -35,10 +35,6 @@ told_by unasked None = unasked
 
 abbrev pub answers_of : List Request → Option (List Answer) → List Answer
 answers_of batch answers = told_by (unanswered batch) answers
-
--- the same of a batch of which only the number of its first line and how many there are is known
-abbrev pub counted_answers : ℕ → ℕ → Option (List Answer) → List Answer
-counted_answers first count answers = told_by (unanswered_lines first count) answers
 
 -- a line ended so of a batch that has one, or has none
 abbrev pub ended_so : (LineEnd → Bool) → Bool → Option (List Answer) → Bool

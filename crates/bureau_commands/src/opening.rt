@@ -8,7 +8,8 @@ use bureau_edge::Sink;
 use bureau_reports::tell_refused;
 use disk_model::Disk;
 use live_runs::{
-    Desk, DeskRefused, ExitStatus, Witness, output_buffer, print_added, tell_no_memory,
+    BatchAnswers, Desk, DeskRefused, ExitStatus, Witness, output_buffer, print_added,
+    tell_no_memory,
 };
 use std::alloc::Global;
 
@@ -69,7 +70,7 @@ pub fn begin<K: Sink, W: Witness<K, D>, D: Disk>(
     let from = desk.opened_with();
     let _books = desk.books();
     witness.show(sink, desk.disk());
-    if print_added(sink, &mut buffer, &desk, from, &[]).is_err() {
+    if print_added(sink, &mut buffer, &desk, from, BatchAnswers::Each(&[])).is_err() {
         return Err(NotBegun {
             status: ExitStatus::Sink,
             disk: desk.close(),

@@ -21,7 +21,7 @@ pub use group_loader::{LoadStopped, Loader};
 pub use limits::GROUP_LINES;
 pub use load_break::LoadBreak;
 pub use printed_text::{
-    Answer, ExitStatus, end_with, output_buffer, print_batch, tell_no_memory, tell_read_fault,
-    tell_too_long, tell_words, write_bad_line,
+    Answer, BatchAnswers, ExitStatus, end_with, output_buffer, print_batch, tell_no_memory,
+    tell_read_fault, tell_too_long, tell_words, write_bad_line,
 };
 pub use serving::load_batches;

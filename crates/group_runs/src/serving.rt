@@ -14,7 +14,7 @@ use bureau_edge::Sink;
 use disk_model::Disk;
 use disk_witness::Witness;
 use group_loader::Loader;
-use printed_text::{Answer, ExitStatus, print_batch};
+use printed_text::{Answer, BatchAnswers, ExitStatus, print_batch};
 use request_text::{Batch, Request};
 
 // Answers the lines of a group, keeps the accepted calls, counts in what came of the lines, shows a witness the sink and the disk, and
@@ -62,7 +62,8 @@ fn serve_group<K: Sink, W: Witness<K, D>, D: Disk>(
     };
     tally.add(answers.as_slice());
     witness.show(sink, loader.disk());
-    if print_batch(sink, buffer, loader.books(), from, &[], answers.as_slice()).is_err() {
+    let told = BatchAnswers::Each(answers.as_slice());
+    if print_batch(sink, buffer, loader.books(), from, &[], told).is_err() {
         return Err(LoadBreak::Sink {
             disk: loader.close(),
         });

@@ -7,7 +7,7 @@
 mod serving;
 
 pub use batch_runs::{
-    Desk, DeskRefused, ExitStatus, Gate, Pause, SilentWitness, Unhindered, Witness,
+    BatchAnswers, Desk, DeskRefused, ExitStatus, Gate, Pause, SilentWitness, Unhindered, Witness,
     bytes_hold_one_list, end_with, output_buffer, print_added, run_batches, tell_no_memory,
     tell_read_fault, tell_too_long, tell_words, write_bad_line,
 };

@@ -9,7 +9,8 @@ ghost use Rattle.batch_runs.specs.printed_text.specs.Statuses.{TellsSinkFault};
 ghost use Rattle.live_runs.specs.Serving.{HasServedInput, HasToldLive};
 
 use batch_runs::{
-    BatchEnd, Desk, ExitStatus, Gate, LevelSolver, Pause, Tally, Witness, print_counted,
+    BatchAnswers, BatchEnd, Desk, ExitStatus, Gate, LevelSolver, Pause, Tally, Witness, answers_or,
+    print_added,
 };
 use bureau_edge::{Failed, Sink, Source};
 use disk_model::Disk;
@@ -91,7 +92,13 @@ fn serve_next<
     let BatchEnd { desk, answers } = end;
     tally.add(count != 0, &answers, desk.books(), from);
     witness.show(sink, desk.disk());
-    let printed = print_counted(sink, buffer, &desk, from, before + 1, count, &answers);
+    let first = before + 1;
+    let lines = BatchAnswers::UnaskedLines {
+        first,
+        behind: first + count,
+    };
+    let told = answers_or(&answers, lines);
+    let printed = print_added(sink, buffer, &desk, from, told);
     drop(answers);
     (desk, stop, printed)
 }

@@ -9,7 +9,8 @@ ghost use Rattle.load_command.specs.Due.{HasLoadBegun, IsLoadBegun, IsLoadNotBeg
 use bureau_edge::Sink;
 use disk_model::Disk;
 use group_runs::{
-    Answer, ExitStatus, GROUP_LINES, Loader, Witness, output_buffer, print_batch, tell_no_memory,
+    Answer, BatchAnswers, ExitStatus, GROUP_LINES, Loader, Witness, output_buffer, print_batch,
+    tell_no_memory,
 };
 use journal_texts::{Desk, DeskRefused, tell_refused};
 use std::alloc::{AllocError, Global};
@@ -113,7 +114,8 @@ pub(crate) fn begin<K: Sink, W: Witness<K, D>, D: Disk>(
         }
     };
     witness.show(sink, loader.disk());
-    if print_batch(sink, &mut room.buffer, loader.books(), from, &[], &[]).is_err() {
+    let none = BatchAnswers::Each(&[]);
+    if print_batch(sink, &mut room.buffer, loader.books(), from, &[], none).is_err() {
         return Err(NotBegun {
             status: ExitStatus::Sink,
             disk: loader.close(),

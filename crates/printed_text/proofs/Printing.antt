@@ -1,8 +1,9 @@
 -- The text of a run, piece by piece.
-use Rattle.std.specs.Prelude.{slice_get, codes, Option, Some, None, ℤ, pos, unsigned_abs}
-use Rattle.std.proofs.Common.{◌≡◌, ℕ, suc, ◌+◌, ◌-◌, ◌<◌, ◌≤◌, ◌^◌, List, [], ◌∷◌, ◌++◌, length, get_or, drop, All, refl, sym, ◌∙◌, ap, ap₂, subst, append_assoc, add-one, drop-cons, arith}
-use Rattle.std.proofs.lemmas.Option.{slice_get_read, slice_get_within}
-use Rattle.std.proofs.lemmas.List.{append-nil}
+use Rattle.std.specs.Prelude.{slice_get, codes, Option, Some, None, option_map, ℤ, pos, unsigned_abs}
+use Rattle.std.proofs.Common.{◌≡◌, ℕ, ◌+◌, ◌<◌, ◌≤◌, ◌^◌, List, [], ◌∷◌, ◌++◌, length, get_or, drop, All, refl, sym, ◌∙◌, ap, ap₂, subst, append_assoc, add-one, drop-cons, arith}
+use Rattle.std.proofs.lemmas.Option.{get_or_from_slice_get, slice_get-map, slice_get_read, slice_get_within}
+use Rattle.std.proofs.lemmas.List.{append-nil, length-map}
+use Rattle.std.proofs.lemmas.List.FromFn.{get_or-map-range_with_len, length-map-range_with_len}
 use Rattle.std.proofs.lemmas.List.Folds.{flat_map-map}
 use Rattle.std.proofs.lemmas.List.Concat.{flat_map-append}
 use Rattle.std.proofs.lemmas.List.Elements.{All-from_get_or, All-weaker}
@@ -18,31 +19,42 @@ use Rattle.served_lines.specs.claim_history.specs.declared.entry.Reply.{Reply}
 use Rattle.served_lines.specs.claim_history.specs.declared.entry.Reply.TheVariants as reply
 use Rattle.served_lines.specs.request_text.specs.declared.request.Request.{Request}
 use Rattle.served_lines.specs.declared.answer.Answer.{Answer}
-use Rattle.served_lines.specs.declared.line_end.LineEnd.TheVariants as ends
 use Rattle.statement_text.specs.declared.line.Line.{Line}
 use Rattle.statement_text.specs.declared.line.Line.TheVariants as line
 use Rattle.statement_text.specs.Lines.{line_text}
 use Rattle.statement_text.specs.Statements.{party_lines, claim_line, claim_lines, front_of, statement_bytes}
-use Rattle.printed_text.specs.Printing.{IsPrintable, IsPrintableAt, end_text, ends_text, line_bytes, lines_bytes, rounds_in, statement_of, unanswered, unanswered_lines}
+use Rattle.printed_text.specs.declared.batch_answers.BatchAnswers.{BatchAnswers}
+use Rattle.printed_text.specs.Printing.{IsPrintable, IsPrintableAt, answers_in, end_text, ends_text, line_bytes, lines_bytes, rounds_in, statement_of, unanswered, unanswered_lines, without_memory}
 
 -- ---- lines that were not replied to
 
 -- the text of the lines from a place on
-pub ends_from : (answers : List Answer) (i : ℕ) (answer : Answer) → i < length answers
-    → ends_text (drop i answers) ≡ end_text (get_or answers i answer).line (get_or answers i answer).end ++ ends_text (drop (i + 1) answers)
-ends_from answers i answer lt = rw (add-one, drop-cons answers i answer) refl
+pub ends_from : (answers : List Answer) (i : ℕ) (answer : Answer) → slice_get answers i ≡ Some answer
+    → ends_text (drop i answers) ≡ end_text answer.line answer.end ++ ends_text (drop (i + 1) answers)
+ends_from answers i answer is =
+    let lt : i < length answers = slice_get_within answers i answer is in
+    let cut : ends_text (drop i answers) ≡ end_text (get_or answers i answer).line (get_or answers i answer).end ++ ends_text (drop (i + 1) answers) = rw (add-one, drop-cons answers i answer) refl in
+    cut ∙ ap (λ (a : Answer). end_text a.line a.end ++ ends_text (drop (i + 1) answers)) (get_or_from_slice_get answers i answer answer is)
 
--- of lines for which there was no memory
-pub unanswered_from : (requests : List Request) (i : ℕ) (request : Request) → i < length requests
-    → ends_text (unanswered (drop i requests)) ≡ end_text (get_or requests i request).line ends.Memory ++ ends_text (unanswered (drop (i + 1) requests))
-unanswered_from requests i request lt = rw (add-one, drop-cons requests i request) refl
+-- what came of a line of a batch
+pub one_of : (told : BatchAnswers) (answers : List Answer) (i : ℕ) (answer : Answer) → answers_in told ≡ answers → i < length (answers_in told) → answer ≡ get_or answers i answer
+    → slice_get (answers_in told) i ≡ Some answer
+one_of told answers i answer is lt read =
+    ap (λ (l : List Answer). slice_get l i) is ∙ slice_get_read answers (length answers) i answer refl (omega (arith, lt, ap (λ (l : List Answer). length l) is)) read
 
--- and of lines by their numbers
-pub lines_from : (n m : ℕ) → n < m → ends_text (unanswered_lines n (m - n)) ≡ end_text n ends.Memory ++ ends_text (unanswered_lines (n + 1) (m - (n + 1)))
-lines_from n m lt = let one : m - n ≡ suc (m - (n + 1)) = omega arith in ap (λ (k : ℕ). ends_text (unanswered_lines n k)) one
+pub one_unasked : (told : BatchAnswers) (requests : List Request) (i : ℕ) (request : Request) → answers_in told ≡ unanswered requests → i < length (answers_in told) → request ≡ get_or requests i request
+    → slice_get (answers_in told) i ≡ Some (without_memory request.line)
+one_unasked told requests i request is lt read =
+    let same : length (answers_in told) ≡ length requests = ap (λ (l : List Answer). length l) is ∙ length-map requests (λ (r : Request). without_memory r.line) in
+    ap (λ (l : List Answer). slice_get l i) is ∙ slice_get-map (λ (r : Request). without_memory r.line) requests i
+    ∙ ap (option_map (λ (r : Request). without_memory r.line)) (slice_get_read requests (length requests) i request refl (omega (arith, lt, same)) read)
 
-pub lines_none : (n m : ℕ) → m ≤ n → ends_text (unanswered_lines n (m - n)) ≡ []
-lines_none n m le = let none : m - n ≡ 0 = omega arith in ap (λ (k : ℕ). ends_text (unanswered_lines n k)) none
+pub one_numbered : (told : BatchAnswers) (first count i : ℕ) → answers_in told ≡ unanswered_lines first count → i < length (answers_in told) → slice_get (answers_in told) i ≡ Some (without_memory (first + i))
+one_numbered told first count i is lt =
+    let within : i < count = omega (arith, lt, ap (λ (l : List Answer). length l) is, length-map-range_with_len without_memory first count) in
+    ap (λ (l : List Answer). slice_get l i) is
+    ∙ slice_get_read (unanswered_lines first count) count i (without_memory (first + i)) (sym (length-map-range_with_len without_memory first count)) within
+    (sym (get_or-map-range_with_len without_memory first count i (first + i) (without_memory (first + i)) within refl))
 
 -- ---- statements
 

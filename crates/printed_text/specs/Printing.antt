@@ -1,5 +1,6 @@
 -- The text of a batch: members of the history, statements of published rounds, and lines for lines that were not replied to.
-use Rattle.std.specs.Prelude.{ℕ, zero, suc, ◌+◌, ◌≡◌, ◌≤◌, List, [], ◌∷◌, ◌++◌, flat_map, slice_get, codes, Option, Some}
+use Rattle.std.specs.Prelude.{ℕ, ◌-◌, ◌≡◌, ◌≤◌, List, [], ◌∷◌, ◌++◌, map, flat_map, slice_get, codes, Option, Some}
+use Rattle.std.specs.List.{range_with_len}
 use Rattle.setoff_model.specs.CutView.{CutView, OutcomeView, WellFormed, obligations}
 use Rattle.setoff_model.specs.Setoff.{Proves}
 use Rattle.served_lines.specs.claim_history.specs.declared.act.Act.{Act}
@@ -16,6 +17,8 @@ use Rattle.served_lines.specs.request_text.specs.declared.request.Request.{Reque
 use Rattle.served_lines.specs.declared.answer.Answer.{Answer}
 use Rattle.served_lines.specs.declared.line_end.LineEnd.{LineEnd}
 use Rattle.served_lines.specs.declared.line_end.LineEnd.TheVariants as ends
+use Rattle.printed_text.specs.declared.batch_answers.BatchAnswers.{BatchAnswers}
+use Rattle.printed_text.specs.declared.batch_answers.BatchAnswers.TheVariants as answered
 use Rattle.printed_text.specs.Texts.{memory_line, full_line}
 
 -- ---- members and statements
@@ -73,15 +76,23 @@ abbrev pub ends_text : List Answer → List ℕ
 ends_text [] = []
 ends_text (answer ∷ answers) = end_text answer.line answer.end ++ ends_text answers
 
+-- there was no memory for a line
+abbrev pub without_memory : ℕ → Answer
+without_memory line = record { line = line; end = ends.Memory }
+
 -- the answers of a batch for none of whose lines there was memory
 abbrev pub unanswered : List Request → List Answer
-unanswered [] = []
-unanswered (request ∷ requests) = record { line = request.line; end = ends.Memory } ∷ unanswered requests
+unanswered requests = map (λ request. without_memory request.line) requests
 
 -- the same of so many lines, from a number on
 abbrev pub unanswered_lines : ℕ → ℕ → List Answer
-unanswered_lines first zero = []
-unanswered_lines first (suc count) = record { line = first; end = ends.Memory } ∷ unanswered_lines (first + 1) count
+unanswered_lines first count = map without_memory (range_with_len first count)
+
+-- what came of the lines of a batch, one by one
+abbrev pub answers_in : BatchAnswers → List Answer
+answers_in (answered.Each answers) = answers.now
+answers_in (answered.Unasked requests) = unanswered requests.now
+answers_in (answered.UnaskedLines first behind) = unanswered_lines first (behind - first)
 
 -- the members that a batch added to a history, then a line for each of its lines that was not replied to
 abbrev pub printed_of : List PoolEntry → List PoolEntry → List Answer → List ℕ

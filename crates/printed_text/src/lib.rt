@@ -13,6 +13,7 @@
 //! no parts has a function of its own.
 #![tactic(auto)]
 
+mod batch_answers;
 mod ending;
 mod exit_status;
 mod fault_text;
@@ -20,15 +21,13 @@ mod output;
 mod statement;
 mod verdict_text;
 
+pub use batch_answers::BatchAnswers;
 pub use ending::{end_with, tell_no_memory, tell_read_fault, tell_too_long, tell_words};
 pub use entry_text::write_reply;
 pub use exit_status::ExitStatus;
 pub use fault_text::{write_bad_line, write_bad_row, write_bad_statement};
 pub use firm_notices::{ImportError, RowCause, import, notices, positions};
-pub use output::{
-    flush, make_room, output_buffer, print_batch, print_member, print_publication,
-    print_unanswered, print_unanswered_lines,
-};
+pub use output::{flush, make_room, output_buffer, print_batch, print_member, print_publication};
 pub use served_lines::{
     Answer, Book, Books, ClaimFact, Day, Full, LineEnd, build_cut,
     cut_of_a_history_is_of_its_facts, is_due, some_full, some_memory,

@@ -1,5 +1,5 @@
 //! Output in pieces: text goes through a buffer of `OUTPUT_BYTES` to the sink.
-ghost use Rattle.std.specs.Prelude.{◌≡◌, ℕ, ◌+◌, ◌^◌, ◌<◌, ◌≤◌, [], ◌++◌, true, IfOk};
+ghost use Rattle.std.specs.Prelude.{◌≡◌, ℕ, ◌+◌, ◌≤◌, [], ◌++◌, true, IfOk};
 ghost use Rattle.std.specs.Prelude.{OnOk, OnErr, vec_len, vec_capacity, length, slice_get, take, drop};
 ghost use Rattle.std.specs.Io.KnownBytes.{Appends};
 ghost use Rattle.bureau_edge.specs.Streams.{AppendsPart, CountsFaults};
@@ -10,14 +10,15 @@ ghost use Rattle.served_lines.specs.claim_history.specs.Pools.{member_of};
 ghost use Rattle.served_lines.specs.claim_history.specs.PoolRounds.{cuts_after};
 ghost use Rattle.entry_text.specs.Entries.{entry_line};
 ghost use Rattle.printed_text.specs.Printing.{added_text, end_text, ends_text, statement_of};
-ghost use Rattle.printed_text.specs.Printing.{IsPrintableAt, rounds_in, printed_of, unanswered, unanswered_lines};
+ghost use Rattle.printed_text.specs.Printing.{IsPrintableAt, rounds_in, answers_in, printed_of};
 ghost use Rattle.printed_text.specs.Writing.{GoesThrough, Prints};
 
+use crate::batch_answers::BatchAnswers;
 use crate::fault_text::{write_full_line, write_memory_line};
 use crate::statement::print_statement;
 use bureau_edge::{Failed, Sink, write_all};
 use entry_text::write_member;
-use served_lines::{Act, Answer, Books, Entry, LineEnd, Reply, Request};
+use served_lines::{Act, Answer, Books, Entry, LineEnd, Reply};
 use setoff_model::limits::{LINE_BYTES, OUTPUT_BYTES};
 use setoff_model::{Cut, Name};
 use std::alloc::{AllocError, Global};
@@ -203,15 +204,20 @@ fn write_end(buffer: &mut Vec<u8>, line: u64, end: LineEnd)
 }
 
 // Prints what is told of the lines of a batch.
-fn print_ends<K: Sink>(sink: &mut K, buffer: &mut Vec<u8>, answers: &[Answer]) -> Result<(), Failed>
+fn print_ends<K: Sink>(
+    sink: &mut K,
+    buffer: &mut Vec<u8>,
+    answers: BatchAnswers<'_>,
+) -> Result<(), Failed>
     requires spare { OUTPUT_BYTES ≤ vec_capacity buffer.old }
 
     // The text went through, or the sink failed and took some first bytes of it.
     ensures { Prints K.held K.faults sink.old sink.new buffer.old buffer.new
-        (ends_text answers.now) result }
+        (ends_text (answers_in answers.entry)) result }
 {
-    for answer in answers {
-        print_end(sink, buffer, answer)?;
+    for place in 0..answers.len() {
+        let answer = answers.at(place);
+        print_end(sink, buffer, &answer)?;
     }
     Ok(())
 }
@@ -228,7 +234,7 @@ pub fn print_batch<K: Sink>(
     books: &Books,
     from: u64,
     rounds: &[Cut],
-    answers: &[Answer],
+    answers: BatchAnswers<'_>,
 ) -> Result<(), Failed>
     requires from { from ≤ length books.now.members }
     requires rounds { rounds.now ≡ cuts_after from books.now.members }
@@ -239,9 +245,9 @@ pub fn print_batch<K: Sink>(
 
     // The text went through, or the sink failed and took some first bytes of it.
     ensures ok { OnOk result (Appends (K.held sink.old) (K.held sink.new)
-        (printed_of (take from books.now.members) (drop from books.now.members) answers.now)) }
+        (printed_of (take from books.now.members) (drop from books.now.members) (answers_in answers.entry))) }
     ensures part { OnErr result (AppendsPart (K.held sink.old) (K.held sink.new)
-        (printed_of (take from books.now.members) (drop from books.now.members) answers.now)) }
+        (printed_of (take from books.now.members) (drop from books.now.members) (answers_in answers.entry))) }
     ensures cause { CountsFaults (K.faults sink.old) (K.faults sink.new) result }
     ensures room { OUTPUT_BYTES ≤ vec_capacity buffer.new }
 
@@ -250,99 +256,5 @@ pub fn print_batch<K: Sink>(
 {
     print_members(sink, buffer, books, from, rounds)?;
     print_ends(sink, buffer, answers)?;
-    flush(sink, buffer)
-}
-
-// Prints that there was no memory for any line of a batch.
-fn print_memory_lines<K: Sink>(
-    sink: &mut K,
-    buffer: &mut Vec<u8>,
-    requests: &[Request],
-) -> Result<(), Failed>
-    requires spare { OUTPUT_BYTES ≤ vec_capacity buffer.old }
-
-    // The text went through, or the sink failed and took some first bytes of it.
-    ensures { Prints K.held K.faults sink.old sink.new buffer.old buffer.new
-        (ends_text (unanswered requests.now)) result }
-{
-    for request in requests {
-        let answer = Answer {
-            line: request.line,
-            end: LineEnd::Memory,
-        };
-        print_end(sink, buffer, &answer)?;
-    }
-    Ok(())
-}
-
-/// Prints a line for each line of a batch none of which was asked because memory ran out. The buffer and the failure are as for
-/// `print_batch`.
-pub fn print_unanswered<K: Sink>(
-    sink: &mut K,
-    buffer: &mut Vec<u8>,
-    requests: &[Request],
-) -> Result<(), Failed>
-    requires empty { buffer.old.items ≡ [] }
-    requires spare { OUTPUT_BYTES ≤ vec_capacity buffer.old }
-
-    // The text went through, or the sink failed and took some first bytes of it.
-    ensures ok { OnOk result (Appends (K.held sink.old) (K.held sink.new) (ends_text (unanswered requests.now))) }
-    ensures part { OnErr result (AppendsPart (K.held sink.old) (K.held sink.new) (ends_text (unanswered requests.now))) }
-    ensures cause { CountsFaults (K.faults sink.old) (K.faults sink.new) result }
-    ensures room { OUTPUT_BYTES ≤ vec_capacity buffer.new }
-
-    // Then the buffer is empty.
-    ensures emptied { OnOk result (buffer.new.items ≡ []) }
-{
-    print_memory_lines(sink, buffer, requests)?;
-    flush(sink, buffer)
-}
-
-// Prints that there was no memory for any of so many lines, from a number on.
-fn print_memory_range<K: Sink>(
-    sink: &mut K,
-    buffer: &mut Vec<u8>,
-    first: u64,
-    count: u64,
-) -> Result<(), Failed>
-    requires numbers { first + count < 2 ^ 64 }
-    requires spare { OUTPUT_BYTES ≤ vec_capacity buffer.old }
-
-    // The text went through, or the sink failed and took some first bytes of it.
-    ensures { Prints K.held K.faults sink.old sink.new buffer.old buffer.new
-        (ends_text (unanswered_lines first count)) result }
-{
-    for line in first..first + count {
-        let answer = Answer {
-            line,
-            end: LineEnd::Memory,
-        };
-        print_end(sink, buffer, &answer)?;
-    }
-    Ok(())
-}
-
-/// Prints a line for each of so many lines of a batch, from a number on, none of which was asked because memory ran out. The buffer
-/// and the failure are as for `print_batch`.
-pub fn print_unanswered_lines<K: Sink>(
-    sink: &mut K,
-    buffer: &mut Vec<u8>,
-    first: u64,
-    count: u64,
-) -> Result<(), Failed>
-    requires numbers { first + count < 2 ^ 64 }
-    requires empty { buffer.old.items ≡ [] }
-    requires spare { OUTPUT_BYTES ≤ vec_capacity buffer.old }
-
-    // The text went through, or the sink failed and took some first bytes of it.
-    ensures ok { OnOk result (Appends (K.held sink.old) (K.held sink.new) (ends_text (unanswered_lines first count))) }
-    ensures part { OnErr result (AppendsPart (K.held sink.old) (K.held sink.new) (ends_text (unanswered_lines first count))) }
-    ensures cause { CountsFaults (K.faults sink.old) (K.faults sink.new) result }
-    ensures room { OUTPUT_BYTES ≤ vec_capacity buffer.new }
-
-    // Then the buffer is empty.
-    ensures emptied { OnOk result (buffer.new.items ≡ []) }
-{
-    print_memory_range(sink, buffer, first, count)?;
     flush(sink, buffer)
 }
