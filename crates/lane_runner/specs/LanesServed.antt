@@ -11,14 +11,14 @@ use Rattle.lane_runner.specs.declared.lane.Lane.{Lane}
 use Rattle.served_lines.specs.Served.{of_lane}
 use Rattle.lane_runner.specs.Lanes.{HasRun}
 
-module _ {D : Type 0} (turn : Turn (DeskView D) PoolEntry (DeskBase D)) (requests : List Request) where
+module _ {D Q : Type 0} (turn : Turn (DeskView D) PoolEntry (DeskBase D)) (requests : List Request) where
   -- a lane has served its requests among these
-  pub record HasServedLane (old new : Lane D) : Type 0 where
+  pub record HasServedLane (old new : Lane D Q) : Type 0 where
     pub run : HasRun old.seat new.seat (of_lane (number old.seat) requests) new.ends.items
     pub ready : IsReady turn new.seat
 
   -- each lane has
-  abbrev pub HaveServed : List (Lane D) → List (Lane D) → Type 0
+  abbrev pub HaveServed : List (Lane D Q) → List (Lane D Q) → Type 0
   HaveServed old new =
       (length new ≡ length old)
-      × ((k : ℕ) (none : Lane D) → k < length old → HasServedLane (slice_index_or old k none) (slice_index_or new k none))
+      × ((k : ℕ) (none : Lane D Q) → k < length old → HasServedLane (slice_index_or old k none) (slice_index_or new k none))

@@ -15,7 +15,7 @@ use std::sync::Wait;
 /// Serves in order the requests of one lane. The room for what comes of them is there.
 pub fn run_lane<D: Disk, R: Wait, S: Solver, G: Gate, P: Pause>(
     service: &Service<D, R, S, G, P>,
-    lane: &mut Lane<D>,
+    lane: &mut Lane<D, ()>,
     requests: &[Request],
 )
     requires fit { IsFit service.now.shared.now.turn requests.now lane.old }

@@ -17,11 +17,10 @@ use Rattle.lane_runner.specs.Lanes.{HasRun}
 use Rattle.lane_runner.proofs.Places.{one_of}
 use Rattle.live_reading.specs.declared.handed.Handed.{Handed}
 use Rattle.live_reading.specs.declared.handed.Handed.TheVariants as handed
-use Rattle.live_intake.specs.declared.lane.LiveLane.{LiveLane}
 use Rattle.live_reading.specs.Handing.{IsMarked, handed_of, lines_since, segment_of}
 use Rattle.live_reading.specs.Rings.{AreOpen, HasHandedSegment, HaveHanded, IsOpen, Ring}
 use Rattle.live_intake.specs.Meeting.{ArePairs, HasMetLane, HaveMet}
-use Rattle.live_intake.specs.Segments.{HasServedSegment, HaveServedSegment}
+use Rattle.live_intake.specs.Segments.{HasServedSegment, HaveServedSegment, LiveLane}
 use Rattle.live_intake.specs.Joining.{AreJoined, HasServedThese, HaveServedThese, IsJoined}
 use Rattle.live_reading.proofs.Handing.{all_own, prefix_of, same_requests, since_mark}
 
@@ -40,14 +39,14 @@ open_now k ring lane h = record { all = omega (arith, h.free, h.marked); line = 
 
 module _ {D : Type 0} (turn : Turn (DeskView D) PoolEntry (DeskBase D)) (requests : List Request) where
   module _ (k : ℕ) (ring0 ring1 ring2 : Ring) (lane0 lane1 lane2 : LiveLane D) (joined : IsJoined k ring0 lane0) (told : HasHandedSegment ring0 ring1 (of_lane (k + 1) requests)) (served : HasServedSegment turn lane0 lane1) where
-    pub pair_now : IsPair ring1 lane1.ring
-    pair_now = pair_later ring0 ring1 lane0.ring lane1.ring joined.pair told.same served.same
+    pub pair_now : IsPair ring1 lane1.queue
+    pair_now = pair_later ring0 ring1 lane0.queue lane1.queue joined.pair told.same served.same
 
     module _ (met : HasMetLane ring1 lane1 ring2 lane2) where
       abbrev own : List Request
       own = of_lane (k + 1) requests
 
-      got : received lane2.ring ≡ sent ring0 ++ segment_of served.requests
+      got : received lane2.queue ≡ sent ring0 ++ segment_of served.requests
       got = met.met.received_is ∙ served.taken ∙ ap (λ l. l ++ segment_of served.requests) joined.all
 
       gave : sent ring2 ≡ sent ring0 ++ segment_of own
@@ -63,7 +62,7 @@ module _ {D : Type 0} (turn : Turn (DeskView D) PoolEntry (DeskBase D)) (request
       these : served.requests ≡ own
       these = same_requests (k + 1) served.requests own (subst (λ n. All (λ r. r.lane ≡ n) served.requests) joined.number_is served.own) (all_own (k + 1) requests) (prefix_of served.requests own rest whole).0
 
-      all : received lane2.ring ≡ sent ring2
+      all : received lane2.queue ≡ sent ring2
       all = got ∙ ap (λ rs. sent ring0 ++ segment_of rs) these ∙ sym gave
 
       marked : IsMarked (sent ring2)

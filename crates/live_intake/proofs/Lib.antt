@@ -3,7 +3,6 @@ mod Meets
 mod Joined
 mod Following
 mod Threads
-mod Merging
 mod Served
 mod OneBatch
 mod Seating

@@ -2,11 +2,7 @@
 use Rattle.std.proofs.Common.{◌≡◌, ◌∙◌, ◌==◌, ◌+◌, ◌<◌, ◌≤◌, ℕ, Bool, true, false, List, length, get_or, slice_set, refl, sym, subst, arith, eqb-true}
 use Rattle.std.proofs.lemmas.Bool.{eqb-false}
 use Rattle.std.proofs.lemmas.List.{get_or-set_other, get_or-set_same}
-use Rattle.std.specs.declared.alloc.Global.{Global}
-use Rattle.rtrb.specs.declared.consumer.Consumer.{Consumer}
-use Rattle.live_reading.specs.declared.handed.Handed.{Handed}
-use Rattle.live_reading.specs.declared.handed.InSegments.{InSegments}
-use Rattle.live_intake.specs.declared.lane.LiveLane.{LiveLane}
+use Rattle.live_intake.specs.Segments.{LiveLane, RingEnd}
 use Rattle.live_intake.specs.Meeting.{HasMet, HasMetLane}
 use Rattle.live_reading.specs.Rings.{Ring}
 
@@ -36,6 +32,6 @@ module _ {X Y : Type 0} (P : X → Y → X → Y → Type 0) (xs xs0 : List X) (
       (get_or-set_other xs k j x a apart ∙ before.0, get_or-set_other ys k j y b apart ∙ before.1)
 
 -- a lane meets its ring
-pub met_here : {D : Type 0} (r0 r r1 : Ring) (l0 l : LiveLane D) (e : Consumer Handed Global InSegments) → r ≡ r0 → l ≡ l0 → HasMet r l.ring r1 e → HasMetLane r0 l0 r1 (record l { ring = e })
+pub met_here : {D : Type 0} (r0 r r1 : Ring) (l0 l : LiveLane D) (e : RingEnd) → r ≡ r0 → l ≡ l0 → HasMet r l.queue r1 e → HasMetLane r0 l0 r1 (record l { queue = e })
 met_here r0 r r1 l0 l e ring_is lane_is met =
-    subst (λ x. HasMetLane r0 x r1 (record l { ring = e })) lane_is (subst (λ x. HasMetLane x l r1 (record l { ring = e })) ring_is (record { met = met; seat_is = refl; ends_are = refl }))
+    subst (λ x. HasMetLane r0 x r1 (record l { queue = e })) lane_is (subst (λ x. HasMetLane x l r1 (record l { queue = e })) ring_is (record { met = met; seat_is = refl; ends_are = refl }))

@@ -1,36 +1,26 @@
 -- The lanes between segments, and what they have served so far.
 use Rattle.std.specs.Prelude.{None, Option}
-use Rattle.std.proofs.Common.{◌≡◌, ◌∙◌, ◌+◌, ◌<◌, ◌≤◌, ℕ, false, List, [], ◌++◌, All, length, get_or, map, reverse, refl, sym, ap, subst, arith}
-use Rattle.std.proofs.lemmas.List.{get_or-map, length-map, map-append}
-use Rattle.std.proofs.lemmas.List.Elements.{All-append, All-map}
-use Rattle.setoff_model.specs.declared.limits.TheConstants.{MOST_LANES}
-use Rattle.lane_runner.specs.disk_model.specs.Calls.{Seen}
+use Rattle.std.proofs.Common.{◌≡◌, ◌∙◌, ◌+◌, ◌<◌, ◌≤◌, ℕ, false, List, [], ◌++◌, All, length, get_or, map, refl, sym, ap, subst, arith}
+use Rattle.std.proofs.lemmas.List.{map-append}
+use Rattle.std.proofs.lemmas.List.Elements.{All-append}
 use Rattle.lane_runner.specs.claim_history.specs.declared.call.PoolEntry.{PoolEntry}
-use Rattle.lane_runner.specs.claim_history.proofs.Pasts.{all_reverse}
-use Rattle.turn_lock.specs.declared.turn.Seat.{Seat}
 use Rattle.turn_lock.specs.declared.turn.Turn.{Turn}
-use Rattle.turn_lock.specs.declared.view.View.{View}
-use Rattle.turn_lock.specs.Turns.{EachOf}
 use Rattle.lane_runner.specs.bureau_desk.specs.declared.base.DeskBase.{DeskBase}
 use Rattle.lane_runner.specs.bureau_desk.specs.Desks.{DeskView}
-use Rattle.lane_runner.specs.shared_bureau.specs.Adding.{IsReady}
-use Rattle.lane_runner.specs.shared_bureau.specs.Finishing.{HasFinished}
 use Rattle.lane_runner.specs.request_text.specs.declared.request.Request.{Request}
 use Rattle.lane_runner.specs.request_text.specs.Lanes.{IsLane}
 use Rattle.lane_runner.specs.served_lines.specs.declared.answer.Answer.{Answer}
 use Rattle.lane_runner.specs.served_lines.specs.Served.{lane_lines}
 use Rattle.lane_runner.specs.Lanes.{HasServedLines}
-use Rattle.lane_runner.specs.Seating.{HasServedAll, IsNewSeatAt}
-use Rattle.lane_runner.proofs.Batched.{served_all}
+use Rattle.lane_runner.specs.Merging.{HasMerged, HaveEnds}
 use Rattle.lane_runner.proofs.Places.{one_of}
 use Rattle.live_reading.specs.input_front.specs.Taken.{IntakeView}
-use Rattle.live_intake.specs.declared.lane.LiveLane.{LiveLane}
 use Rattle.live_reading.specs.declared.stop.Stop.{Stop}
 use Rattle.live_reading.specs.Handing.{IsMarked}
 use Rattle.live_intake.specs.Joining.{AreJoined, HaveServedThese}
 use Rattle.live_reading.specs.Rings.{Ring}
-use Rattle.live_intake.specs.Segments.{IsFitLiveLane}
-use Rattle.live_intake.specs.Batching.{AreReady, HasServedBatch, HasServedMore, HaveAnswers, HaveLiveEnds, HaveServedAll, IsNewLiveLane}
+use Rattle.live_intake.specs.Segments.{LiveLane}
+use Rattle.live_intake.specs.Batching.{AreReady, HasServedBatch, HasServedMore, HaveServedAll}
 use Rattle.live_intake.proofs.Following.{lane_lines_append, none_served, then_served}
 use Rattle.live_reading.proofs.InReading.{ends_more, none_read}
 
@@ -48,7 +38,7 @@ module _ {D : Type 0} (turn : Turn (DeskView D) PoolEntry (DeskBase D)) (request
         record { ready = one.ready; marked = subst IsMarked (sym at.all) at.marked; spare = one.spare };
   }
 
-  pub have_ends : HaveLiveEnds requests lanes1
+  pub have_ends : HaveEnds requests lanes1
   have_ends k lane lt = (served.each k lane (omega (arith, lt, served.all))).run.all
 
   pub all_among : All (λ r. IsLane r.lane) requests → All (λ r. (1 ≤ r.lane) × (r.lane ≤ length lanes1)) requests
@@ -58,7 +48,7 @@ module _ {D : Type 0} (turn : Turn (DeskView D) PoolEntry (DeskBase D)) (request
       let high = lane.1 in
       (low, omega (arith, high, served.all, ready.many))
 
-  pub served_so : All (λ r. IsLane r.lane) requests → (later : List Answer) → HaveAnswers requests lanes1 later → HaveServedAll lanes0 lanes1 requests later
+  pub served_so : All (λ r. IsLane r.lane) requests → (later : List Answer) → HasMerged requests lanes1 later → HaveServedAll lanes0 lanes1 requests later
   served_so own later have = record {
     all = served.all;
     own = own;
@@ -105,43 +95,3 @@ module _ {D : Type 0} (turn : Turn (DeskView D) PoolEntry (DeskBase D)) where
       served = subst (HaveServedAll firsts news (h.batch ++ k.requests)) (sym k.answers_are) (served_twice firsts olds news h.batch k.requests answers1 k.later h.served k.served);
       ends = ends_more u v h.batch h.ends.1 l2 n0 n1 n2 w k.requests why le k.ends;
     }
-
--- ---- all lanes of a batch
-
-module _ {D : Type 0} (turn : Turn (DeskView D) PoolEntry (DeskBase D)) (before : ℕ) (firsts lasts : List (LiveLane D)) (new : EachOf (IsNewLiveLane turn before) firsts) where
-  abbrev DeskSeat : Type 0
-  DeskSeat = Seat (DeskView D) PoolEntry (DeskBase D)
-
-  abbrev seats : List (LiveLane D) → List DeskSeat
-  seats lanes = map (λ (l : LiveLane D). l.seat) lanes
-
-  new_seats : EachOf (IsNewSeatAt before) (seats firsts)
-  new_seats k s lt =
-      let lt' : k < length firsts = omega (arith, lt, length-map firsts (λ (l : LiveLane D). l.seat)) in
-      let d = one_of firsts k lt' in
-      subst (IsNewSeatAt before k) (sym (get_or-map (λ (l : LiveLane D). l.seat) firsts k d s lt')) (new k d lt').seat
-
-  module _ (requests : List Request) (answers : List Answer) (h : HaveServedAll firsts lasts requests answers) where
-    each_seat : (k : ℕ) (s : DeskSeat) → k < length (seats firsts) → HasServedLines (get_or (seats firsts) k s) (get_or (seats lasts) k s) (lane_lines (k + 1) requests answers)
-    each_seat k s lt =
-        let lt_old : k < length firsts = omega (arith, lt, length-map firsts (λ (l : LiveLane D). l.seat)) in
-        let lt_now : k < length lasts = omega (arith, lt_old, h.all) in
-        let none = one_of firsts k lt_old in
-        subst (λ (x : DeskSeat). HasServedLines x (get_or (seats lasts) k s) (lane_lines (k + 1) requests answers)) (sym (get_or-map (λ (l : LiveLane D). l.seat) firsts k none s lt_old))
-        (subst (λ (x : DeskSeat). HasServedLines (get_or firsts k none).seat x (lane_lines (k + 1) requests answers)) (sym (get_or-map (λ (l : LiveLane D). l.seat) lasts k none s lt_now))
-        (h.each k none lt_old))
-
-    module _ (of_disk : D → Seen) (known made : View PoolEntry (DeskBase D)) (d : DeskView D) (opened_is : known.opened ≡ length known.history.seen) (before_is : before ≡ known.opened)
-        (seen_same : made.history.seen ≡ known.history.seen) (opened_same : made.opened ≡ known.opened) (base_same : made.base ≡ known.base) (many : length lasts ≡ MOST_LANES)
-        (fin : HasFinished of_disk d made (reverse (seats lasts))) where
-      pub all_lanes_served : HasServedAll of_disk known d requests answers
-      all_lanes_served =
-          let first_length = length-map firsts (λ (l : LiveLane D). l.seat) in
-          let last_length = length-map lasts (λ (l : LiveLane D). l.seat) in
-          served_all requests answers before (seats firsts) (seats lasts) new_seats (last_length ∙ h.all ∙ sym first_length) each_seat of_disk known made d opened_is before_is
-          seen_same opened_same base_same h.answered (λ k r lt. (h.own k r lt).0) (λ k r lt. let high = (h.own k r lt).1 in omega (arith, high, last_length, many)) fin
-
-pub all_ready : {D : Type 0} (turn : Turn (DeskView D) PoolEntry (DeskBase D)) (lanes : List (LiveLane D)) → All (IsFitLiveLane turn) lanes → All (IsReady turn) (reverse (map (λ l. l.seat) lanes))
-all_ready {D} turn lanes fit =
-    let seats : List (Seat (DeskView D) PoolEntry (DeskBase D)) = map (λ (l : LiveLane D). l.seat) lanes in
-    all_reverse (IsReady turn) seats (All-map (IsReady turn) (λ (l : LiveLane D). l.seat) lanes (λ k d lt. (fit k d lt).ready))

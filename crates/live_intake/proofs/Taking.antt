@@ -18,9 +18,8 @@ use Rattle.lane_runner.specs.Serving.{HasServed}
 use Rattle.lane_runner.specs.Lanes.{HasRun}
 use Rattle.lane_runner.proofs.Running.{run_begins, run_more}
 use Rattle.live_reading.specs.declared.handed.Handed.TheVariants as handed
-use Rattle.live_intake.specs.declared.lane.LiveLane.{LiveLane}
 use Rattle.live_reading.specs.Handing.{MayHand, handed_of, lines_since}
-use Rattle.live_intake.specs.Segments.{HasServedSegment, IsFitLiveLane}
+use Rattle.live_intake.specs.Segments.{HasServedSegment, IsFitLiveLane, LiveLane}
 use Rattle.live_reading.proofs.Handing.{since_line}
 
 -- the same ring
@@ -35,26 +34,26 @@ module _ {D : Type 0} (turn : Turn (DeskView D) PoolEntry (DeskBase D)) (first :
   pub record IsTaking (lane : LiveLane D) : Type 0 where
     pub requests : List Request
     pub own : All (λ r. r.lane ≡ number first.seat) requests
-    pub taken : received lane.ring ≡ received first.ring ++ map handed_of requests
+    pub taken : received lane.queue ≡ received first.queue ++ map handed_of requests
     pub run : HasRun first.seat lane.seat requests lane.ends.items
     pub ready : IsReady turn lane.seat
-    pub same : SameConsumer first.ring lane.ring
-    pub counted : lines_since 0 (received lane.ring) ≡ vec_len lane.ends
+    pub same : SameConsumer first.queue lane.queue
+    pub counted : lines_since 0 (received lane.queue) ≡ vec_len lane.ends
     pub spare : MOST_HANDED ≤ vec_capacity lane.ends
 
-  pub begins : (lane : LiveLane D) → IsFitLiveLane turn first → lane.seat ≡ first.seat → lane.ring ≡ first.ring → lane.ends.items ≡ [] → vec_len lane.ends ≡ 0 → MOST_HANDED ≤ vec_capacity lane.ends → IsTaking lane
+  pub begins : (lane : LiveLane D) → IsFitLiveLane turn first → lane.seat ≡ first.seat → lane.queue ≡ first.queue → lane.ends.items ≡ [] → vec_len lane.ends ≡ 0 → MOST_HANDED ≤ vec_capacity lane.ends → IsTaking lane
   begins lane fit seat ring none len spare = record {
     requests = [];
     own = λ i r lt. absurd (omega (arith, lt));
-    taken = ap received ring ∙ sym (append-nil (received first.ring));
+    taken = ap received ring ∙ sym (append-nil (received first.queue));
     run = subst (HasRun first.seat lane.seat []) (sym none) (subst (λ s. HasRun first.seat s [] []) (sym seat) (run_begins first.seat));
     ready = subst (IsReady turn) (sym seat) fit.ready;
-    same = subst (SameConsumer first.ring) (sym ring) ((refl, refl, refl, refl), refl);
+    same = subst (SameConsumer first.queue) (sym ring) ((refl, refl, refl, refl), refl);
     counted = ap (λ r. lines_since 0 (received r)) ring ∙ fit.marked ∙ sym len;
     spare = spare;
   }
 
-  module _ (old : LiveLane D) (taking : IsTaking old) (line : ℕ) (pool : List ℕ) (a : Act) (allowed : MayHand (received old.ring) (handed.Line line pool a)) where
+  module _ (old : LiveLane D) (taking : IsTaking old) (line : ℕ) (pool : List ℕ) (a : Act) (allowed : MayHand (received old.queue) (handed.Line line pool a)) where
     abbrev pub request : Request
     request = record { line = line; lane = number old.seat; pool = pool; act = a }
 
@@ -62,7 +61,7 @@ module _ {D : Type 0} (turn : Turn (DeskView D) PoolEntry (DeskBase D)) (first :
     pub has_room : vec_len old.ends < vec_capacity old.ends
     has_room = omega (arith, allowed.1, taking.counted, taking.spare)
 
-    pub takes_line : (new : LiveLane D) (end : LineEnd) → received new.ring ≡ received old.ring ++ handed.Line line pool a ∷ [] → SameConsumer old.ring new.ring → HasServed old.seat new.seat request end → IsReady turn new.seat
+    pub takes_line : (new : LiveLane D) (end : LineEnd) → received new.queue ≡ received old.queue ++ handed.Line line pool a ∷ [] → SameConsumer old.queue new.queue → HasServed old.seat new.seat request end → IsReady turn new.seat
         → new.ends.items ≡ old.ends.items ++ end ∷ [] → vec_len new.ends ≡ vec_len old.ends + 1 → vec_capacity new.ends ≡ vec_capacity old.ends → IsTaking new
     takes_line new end more same served ready items len capacity = record {
       requests = taking.requests ++ request ∷ [];
@@ -70,23 +69,23 @@ module _ {D : Type 0} (turn : Turn (DeskView D) PoolEntry (DeskBase D)) (first :
       taken =
           more
           ∙ ap (λ l. l ++ handed.Line line pool a ∷ []) taking.taken
-          ∙ append_assoc (received first.ring) (map handed_of taking.requests) (handed.Line line pool a ∷ [])
-          ∙ ap (λ l. received first.ring ++ l) (sym (map-append handed_of taking.requests (request ∷ [])));
+          ∙ append_assoc (received first.queue) (map handed_of taking.requests) (handed.Line line pool a ∷ [])
+          ∙ ap (λ l. received first.queue ++ l) (sym (map-append handed_of taking.requests (request ∷ [])));
       run = subst (HasRun first.seat new.seat (taking.requests ++ request ∷ [])) (sym items) (run_more first.seat old.seat new.seat taking.requests old.ends.items request end taking.run served);
       ready = ready;
-      same = same_twice first.ring old.ring new.ring taking.same same;
-      counted = ap (lines_since 0) more ∙ since_line 0 (received old.ring) line pool a ∙ ap (λ n. n + 1) taking.counted ∙ sym len;
+      same = same_twice first.queue old.queue new.queue taking.same same;
+      counted = ap (lines_since 0) more ∙ since_line 0 (received old.queue) line pool a ∙ ap (λ n. n + 1) taking.counted ∙ sym len;
       spare = omega (arith, taking.spare, capacity);
     }
 
   -- the mark is the end
-  pub takes_mark : (old : LiveLane D) → IsTaking old → (new : LiveLane D) → new.seat ≡ old.seat → new.ends ≡ old.ends → received new.ring ≡ received old.ring ++ handed.End ∷ [] → SameConsumer old.ring new.ring → HasServedSegment turn first new
+  pub takes_mark : (old : LiveLane D) → IsTaking old → (new : LiveLane D) → new.seat ≡ old.seat → new.ends ≡ old.ends → received new.queue ≡ received old.queue ++ handed.End ∷ [] → SameConsumer old.queue new.queue → HasServedSegment turn first new
   takes_mark old taking new seat ends more same = record {
     requests = taking.requests;
     own = taking.own;
-    taken = more ∙ ap (λ l. l ++ handed.End ∷ []) taking.taken ∙ append_assoc (received first.ring) (map handed_of taking.requests) (handed.End ∷ []);
+    taken = more ∙ ap (λ l. l ++ handed.End ∷ []) taking.taken ∙ append_assoc (received first.queue) (map handed_of taking.requests) (handed.End ∷ []);
     run = subst (λ e. HasRun first.seat new.seat taking.requests e.items) (sym ends) (subst (λ s. HasRun first.seat s taking.requests old.ends.items) (sym seat) taking.run);
     ready = subst (IsReady turn) (sym seat) taking.ready;
-    same = same_twice first.ring old.ring new.ring taking.same same;
+    same = same_twice first.queue old.queue new.queue taking.same same;
     spare = subst (λ e. MOST_HANDED ≤ vec_capacity e) (sym ends) taking.spare;
   }

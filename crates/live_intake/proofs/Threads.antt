@@ -2,10 +2,9 @@
 use denote.RattleType.{RattleType}
 use denote.Param.Send.{IsSend, Frees, sendable}
 use Rattle.std.proofs.Crossing.{crosses}
-use Rattle.std.proofs.Crossing as std
 use Rattle.lane_runner.specs.disk_model.specs.declared.disk.Disk.{Ghosts}
 use Rattle.lane_runner.specs.shared_bureau.proofs.Threads.{seat_field_of_desk_is_sent}
-use Rattle.live_intake.specs.contracts.lane.LiveLane as lane
+use Rattle.lane_runner.specs.contracts.lane.Lane as lane
 use Rattle.std.specs.declared.alloc.Allocator as alloc
 use Rattle.rtrb.specs.declared.Protocol as protocol
 use Rattle.rtrb.specs.contracts.end.End as end
@@ -39,9 +38,6 @@ handed_is_sent = search (name_is_sent, act_is_sent, sendable) depth 20
 pub end_at : {A : RattleType} {g : alloc.Ghosts A.Denot} → IsSend A → Frees g g.dealloc_token → (T P : RattleType) (gp : protocol.Ghosts P.Denot T.Denot) → IsSend T → IsSend (end.the_row T A P g gp)
 end_at {A} {g} s f T P gp t = sent.the_send T A P g gp t s f
 
--- a lane
-pub lane_is_sent : (D : RattleType) (g : Ghosts D.Denot) → IsSend D → IsSend (lane.the_row D g)
-lane_is_sent D g d =
-    let ends = end_at std.send std.frees in
-    let s = seat_field_of_desk_is_sent D g d in
-    search (ends, handed_is_sent, std.send, crosses, sendable) depth 20
+-- a lane, where what hands it its lines may
+pub lane_is_sent : (D : RattleType) (g : Ghosts D.Denot) → IsSend D → (Q : RattleType) → IsSend Q → IsSend (lane.the_row D Q g)
+lane_is_sent D g d Q q = let s = seat_field_of_desk_is_sent D g d in search (crosses, sendable) depth 20

@@ -1,46 +1,21 @@
--- The segments of a batch: the answers of each, and what all lanes have done so far.
+-- The segments of a batch, and what all lanes have done so far.
 use Rattle.std.specs.Prelude.{◌≡◌, ◌+◌, ◌<◌, ℕ, Option, List, ◌++◌, All, length, map, slice_index_or}
 use Rattle.setoff_model.specs.declared.limits.TheConstants.{MOST_LANES}
 use Rattle.lane_runner.specs.claim_history.specs.declared.call.PoolEntry.{PoolEntry}
 use Rattle.turn_lock.specs.declared.turn.Turn.{Turn}
-use Rattle.turn_lock.specs.Turns.{EachOf}
 use Rattle.lane_runner.specs.bureau_desk.specs.declared.base.DeskBase.{DeskBase}
 use Rattle.lane_runner.specs.bureau_desk.specs.Desks.{DeskView}
 use Rattle.lane_runner.specs.request_text.specs.declared.request.Request.{Request}
 use Rattle.lane_runner.specs.request_text.specs.Lanes.{IsLane}
 use Rattle.lane_runner.specs.served_lines.specs.declared.answer.Answer.{Answer}
-use Rattle.lane_runner.specs.served_lines.specs.Served.{lane_lines, of_lane}
-use Rattle.lane_runner.specs.Lanes.{HasServedLines, ended}
-use Rattle.lane_runner.specs.Seating.{IsNewSeatAt}
-use Rattle.live_intake.specs.declared.lane.LiveLane.{LiveLane}
+use Rattle.lane_runner.specs.served_lines.specs.Served.{lane_lines}
+use Rattle.lane_runner.specs.Lanes.{HasServedLines}
 use Rattle.live_reading.specs.declared.stop.Stop.{Stop}
 use Rattle.live_reading.specs.input_front.specs.Taken.{IntakeView}
 use Rattle.live_intake.specs.Joining.{AreJoined}
 use Rattle.live_reading.specs.Reading.{Ends}
 use Rattle.live_reading.specs.Rings.{Ring}
-use Rattle.live_intake.specs.Segments.{IsFitLiveLane}
-
-module _ {D : Type 0} (requests : List Request) (lanes : List (LiveLane D)) where
-  -- each lane, of which the first has number 1, has an end for each of its requests
-  abbrev pub HaveLiveEnds : Type 0
-  HaveLiveEnds = EachOf (λ k lane. length lane.ends.items ≡ length (of_lane (k + 1) requests)) lanes
-
-  -- each request has its answer, and the answers of each lane are those that the lane has, in order
-  pub record HaveAnswers (answers : List Answer) : Type 0 where
-    pub answered : map (λ answer. answer.line) answers ≡ map (λ request. request.line) requests
-    pub each : EachOf (λ k lane. lane_lines (k + 1) requests answers ≡ ended (of_lane (k + 1) requests) lane.ends.items) lanes
-
-  -- they stand behind others
-  pub record HasMergedMore (old new : List Answer) : Type 0 where
-    pub later : List Answer
-    pub is : new ≡ old ++ later
-    pub have : HaveAnswers later
-
--- a lane that has served nothing, at this place of the list, for a lock that was opened with so many members
-pub record IsNewLiveLane {D : Type 0} (turn : Turn (DeskView D) PoolEntry (DeskBase D)) (before : ℕ) (k : ℕ)
-    (lane : LiveLane D) : Type 0 where
-  pub seat : IsNewSeatAt before k lane.seat
-  pub fit : IsFitLiveLane turn lane
+use Rattle.live_intake.specs.Segments.{IsFitLiveLane, LiveLane}
 
 -- the lanes and their rings, between two segments
 pub record AreReady {D : Type 0} (turn : Turn (DeskView D) PoolEntry (DeskBase D))

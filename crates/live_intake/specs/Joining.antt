@@ -11,15 +11,15 @@ use Rattle.lane_runner.specs.shared_bureau.specs.Adding.{IsReady}
 use Rattle.lane_runner.specs.request_text.specs.declared.request.Request.{Request}
 use Rattle.lane_runner.specs.served_lines.specs.Served.{of_lane}
 use Rattle.lane_runner.specs.Lanes.{HasRun}
-use Rattle.live_intake.specs.declared.lane.LiveLane.{LiveLane}
+use Rattle.live_intake.specs.Segments.{LiveLane}
 use Rattle.live_reading.specs.Handing.{IsMarked}
 use Rattle.live_reading.specs.Rings.{Ring}
 
 -- Between segments: all that was sent was received, the mark was the last of it, and the whole ring is known to be free. The lane has
 -- its number.
 pub record IsJoined {D : Type 0} (k : ℕ) (ring : Ring) (lane : LiveLane D) : Type 0 where
-  pub pair : IsPair ring lane.ring
-  pub all : received lane.ring ≡ sent ring
+  pub pair : IsPair ring lane.queue
+  pub all : received lane.queue ≡ sent ring
   pub marked : IsMarked (sent ring)
   pub places : producer_capacity ring ≡ MOST_HANDED + 1
   pub free : known_free ring ≡ MOST_HANDED + 1

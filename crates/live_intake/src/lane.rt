@@ -4,23 +4,21 @@ ghost use Rattle.rtrb.specs.Ring.{received, SameConsumer};
 ghost use Rattle.live_reading.specs.Handing.{MayHand};
 ghost use Rattle.live_intake.specs.Segments.{HasServedSegment, IsFitLiveLane};
 
-use lane_runner::{Desk, Disk, Gate, LineEnd, Pause, Request, Service, Solver, serve};
+use lane_runner::{Disk, Gate, Lane, Pause, Request, Service, Solver, serve};
 use live_reading::{Handed, InSegments};
 use rtrb::Consumer;
 use std::alloc::Global;
 use std::sync::Wait;
 use std::thread::{self, Parker};
-use turn_lock::Seat;
 
 // How often a lane looks into its ring before it sleeps.
 const MOST_LOOKS: u32 = 100;
 
-/// The seat of a lane, the ring by which it is handed lines, and what came of those of the last segment, in order.
-pub struct LiveLane<D: Disk> {
-    pub seat: Seat<Desk<D>>,
-    pub ring: Consumer<Handed, Global, InSegments>,
-    pub ends: Vec<LineEnd>,
-}
+/// The end of a ring by which a lane is handed its lines.
+pub type RingEnd = Consumer<Handed, Global, InSegments>;
+
+/// A lane that is handed its lines. It has what came of those of the last segment.
+pub type LiveLane<D> = Lane<D, RingEnd>;
 
 /// Serves in order the lines that the lane is handed, up to the end of the segment. It waits for each of them, and sleeps by its bell
 /// where it has one.
@@ -34,7 +32,7 @@ pub fn serve_segment<D: Disk, R: Wait, V: Solver, G: Gate, P: Pause>(
 {
     lane.ends.clear();
     for _ in service.rt.forever() {
-        match take(service.rt, bell, &mut lane.ring) {
+        match take(service.rt, bell, &mut lane.queue) {
             Handed::Line { line, pool, act } => {
                 let request = Request {
                     line,
@@ -65,11 +63,7 @@ pub fn serve_segment<D: Disk, R: Wait, V: Solver, G: Gate, P: Pause>(
 // After a hundred looks into the ring it sleeps between one and the next. No wake-up is lost: whoever hands it something puts that into
 // the ring first and gives the token of the bell then. A token stays until it is taken, and each time that one was taken the lane looks
 // into the ring again. So of what came after the last look the token is still there, or wakes the lane; one that is older costs a look.
-fn take<R: Wait>(
-    rt: &R,
-    bell: Option<&Parker>,
-    ring: &mut Consumer<Handed, Global, InSegments>,
-) -> Handed
+fn take<R: Wait>(rt: &R, bell: Option<&Parker>, ring: &mut RingEnd) -> Handed
     ensures same { SameConsumer ring.old ring.new }
     ensures taken { received ring.new ≡ received ring.old ++ result ∷ [] }
     ensures allowed { MayHand (received ring.old) result }

@@ -8,13 +8,11 @@
 //! serves one batch, and `HasRunLive` says which, and why it ended.
 #![tactic(auto)]
 
-mod answers;
 mod fork;
 mod lane;
 mod live;
 mod meeting;
 mod room;
-mod seats;
 mod segment;
 mod segments;
 

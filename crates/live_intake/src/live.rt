@@ -7,9 +7,10 @@ ghost use Rattle.live_intake.specs.Rooms.{IsRoom};
 ghost use Rattle.live_reading.specs.Sparing.{HasSpare};
 
 use crate::room::LiveRoom;
-use crate::seats::{seat_lanes, unseat};
 use crate::segments::serve_segments;
-use lane_runner::{Answer, Answers, BatchEnd, Desk, Disk, Gate, Pause, Service, Shared, Solver};
+use lane_runner::{
+    Answer, Answers, BatchEnd, Desk, Disk, Gate, Pause, Service, Shared, Solver, seat_lanes, unseat,
+};
 use live_reading::{Intake, Source, Stop, pass_over};
 use std::alloc::Global;
 use std::sync::Wait;
@@ -146,15 +147,15 @@ fn serve_live<
 {
     let mut registrar = registrar;
     let LiveRoom {
+        mut rings,
         places,
         bells,
-        mut rings,
         mut requests,
         mut answers,
         mut lanes,
         mut seats,
     } = room;
-    seat_lanes(&shared, &mut registrar, places, &mut rings, &mut lanes);
+    seat_lanes(&shared, &mut registrar, places, &mut lanes);
     let service = Service {
         rt,
         alloc,

@@ -1,30 +1,22 @@
 //! The memory for a batch of an input that is still read.
-ghost use Rattle.std.specs.Prelude.{◌≡◌, ◌+◌, ◌<◌, ◌≤◌, [], All, IfOk, length, vec_capacity};
+ghost use Rattle.std.specs.Prelude.{◌≡◌, ◌+◌, ◌<◌, ◌≤◌, [], IfOk, length, vec_capacity};
 ghost use Rattle.setoff_model.specs.declared.limits.TheConstants.{MOST_LANES, MOST_INPUT_BYTES};
-ghost use Rattle.live_intake.specs.Rooms.{IsPlace, IsRoom};
+ghost use Rattle.live_intake.specs.Rooms.{ArePlaces, IsPlace, IsRoom};
 
-use crate::lane::LiveLane;
-use lane_runner::{Answer, Desk, Disk, LineEnd, Request};
-use live_reading::{Handed, InSegments, MOST_ASKED, MOST_HANDED, Ring};
-use rtrb::{Consumer, RingBuffer};
+use crate::lane::{LiveLane, RingEnd};
+use lane_runner::{Answer, Desk, Disk, Place, Request, lanes_and_seats};
+use live_reading::{InSegments, MOST_ASKED, MOST_HANDED, Ring};
+use rtrb::RingBuffer;
 use setoff_model::limits::MOST_LANES;
 use std::alloc::{AllocError, Global};
 use std::thread::Parker;
 use turn_lock::Seat;
 
-/// Both ends of the ring of a lane, and the room for what comes of its lines in a segment.
-#[derive(Drop)]
-pub struct Place {
-    pub ring: Ring,
-    pub end: Consumer<Handed, Global, InSegments>,
-    pub ends: Vec<LineEnd>,
-}
-
 /// The memory that a batch takes, with that for the answers of the lines that were taken before it.
 pub struct LiveRoom<D: Disk> {
-    pub places: Vec<Place>,
-    pub bells: Vec<Parker>,
     pub rings: Vec<Ring>,
+    pub places: Vec<Place<RingEnd>>,
+    pub bells: Vec<Parker>,
     pub requests: Vec<Request>,
     pub answers: Vec<Answer>,
     pub lanes: Vec<LiveLane<D>>,
@@ -38,16 +30,15 @@ impl<D: Disk> LiveRoom<D> {
         ensures room { IfOk result IsRoom }
         ensures answers { IfOk result (λ r. left < vec_capacity r.answers) }
     {
-        let places = places(alloc)?;
+        let (rings, places) = rings_and_places(alloc)?;
         let bells = bells(alloc)?;
-        let rings = Vec::with_capacity(alloc, MOST_LANES)?;
         let requests = Vec::with_capacity(alloc, MOST_ASKED)?;
         let answers = Vec::with_capacity(alloc, left + 1)?;
         let (lanes, seats) = lanes_and_seats(alloc)?;
         Ok(LiveRoom {
+            rings,
             places,
             bells,
-            rings,
             requests,
             answers,
             lanes,
@@ -61,9 +52,9 @@ impl<D: Disk> LiveRoom<D> {
         requires seats { self.seats.items ≡ [] }
     {
         let LiveRoom {
+            rings: _,
             places: _,
             bells: _,
-            rings: _,
             requests: _,
             answers: _,
             lanes,
@@ -74,24 +65,27 @@ impl<D: Disk> LiveRoom<D> {
     }
 }
 
-// The rings of all lanes, and the room for what comes of their lines.
-fn places(alloc: Global) -> Result<Vec<Place>, AllocError>
-    ensures { IfOk result (λ v. (length v.items ≡ MOST_LANES) × All IsPlace v.items) }
+// The rings of all lanes, and beside each the place of its lane.
+fn rings_and_places(alloc: Global) -> Result<(Vec<Ring>, Vec<Place<RingEnd>>), AllocError>
+    ensures { IfOk result (λ r. (length r.1.items ≡ MOST_LANES) × ArePlaces r.0.items r.1.items) }
 {
+    let mut rings = Vec::with_capacity(alloc, MOST_LANES)?;
     let mut places = Vec::with_capacity(alloc, MOST_LANES)?;
     while places.len() < MOST_LANES {
-        places.push_reserved(one_place(alloc)?);
+        let (ring, place) = one_place(alloc)?;
+        rings.push_reserved(ring);
+        places.push_reserved(place);
     }
-    Ok(places)
+    Ok((rings, places))
 }
 
-// One of them.
-fn one_place(alloc: Global) -> Result<Place, AllocError>
-    ensures { IfOk result IsPlace }
+// One of them, with room for what comes of the lines of a segment.
+fn one_place(alloc: Global) -> Result<(Ring, Place<RingEnd>), AllocError>
+    ensures { IfOk result (λ r. IsPlace r.0 r.1) }
 {
-    let (ring, end) = RingBuffer::with_protocol::<Global, InSegments>(alloc, MOST_HANDED + 1)?;
+    let (ring, queue) = RingBuffer::with_protocol::<Global, InSegments>(alloc, MOST_HANDED + 1)?;
     let ends = Vec::with_capacity(alloc, MOST_HANDED)?;
-    Ok(Place { ring, end, ends })
+    Ok((ring, Place { queue, ends }))
 }
 
 // What wakes the lanes, one for each.
@@ -101,21 +95,4 @@ fn bells(alloc: Global) -> Result<Vec<Parker>, AllocError> {
         bells.push(Parker::new())?;
     }
     Ok(bells)
-}
-
-// The room for the lanes, and for their seats.
-fn lanes_and_seats<D: Disk>(
-    alloc: Global,
-) -> Result<(Vec<LiveLane<D>>, Vec<Seat<Desk<D>>>), AllocError>
-    ensures lanes { IfOk result (λ r. (r.0.items ≡ []) × (MOST_LANES ≤ vec_capacity r.0)) }
-    ensures seats { IfOk result (λ r. (r.1.items ≡ []) × (MOST_LANES ≤ vec_capacity r.1)) }
-{
-    let lanes = Vec::with_capacity(alloc, MOST_LANES)?;
-    match Vec::with_capacity(alloc, MOST_LANES) {
-        Ok(seats) => Ok((lanes, seats)),
-        Err(error) => {
-            lanes.destroy_empty();
-            Err(error)
-        }
-    }
 }

@@ -5,10 +5,9 @@ ghost use Rattle.live_intake.specs.Batching.{AreReady, HasServedBatch, HasServed
 ghost use Rattle.live_reading.specs.Reading.{HasTakenPiece};
 ghost use Rattle.live_reading.specs.Sparing.{HasMoved, HasSpare};
 
-use crate::answers::merge;
 use crate::lane::LiveLane;
 use crate::segment::run_segment;
-use lane_runner::{Answer, Disk, Gate, Pause, Request, Service, Solver};
+use lane_runner::{Answer, Disk, Gate, Pause, Request, Service, Solver, merge};
 use live_reading::{Intake, Ring, Source, Stop};
 use std::sync::Wait;
 use std::thread::{Parker, Threads};

@@ -19,7 +19,7 @@ loop-request-preserved g c =
     elim c.if-request-number.branch [
       | then-request-number w ↦ subst (IsRunning turn rs c.args.lane.now (i + 1)) (sym w.lane-is)
           (runs_own turn rs c.args.lane.now i c.loop-request.lane c.loop-request.invariant c.request-item.result c.loop-request-test.true c.request-item.is
-          (record { seat = w.serve-end.new.seat; ends = w.push_reserved.new.self }) w.serve-end.result (w.if-request-number.true ∙ c.number.ensures)
+          (record c.loop-request.lane { seat = w.serve-end.new.seat; ends = w.push_reserved.new.self }) w.serve-end.result (w.if-request-number.true ∙ c.number.ensures)
           w.serve-end.ensures.served w.serve-end.ensures.ready w.push_reserved.ensures.items w.push_reserved.ensures.len w.push_reserved.ensures.capacity)
       | else-request-number w ↦ subst (IsRunning turn rs c.args.lane.now (i + 1)) (sym w.lane-is)
           (runs_on turn rs c.args.lane.now i c.loop-request.lane c.loop-request.invariant c.request-item.result c.loop-request-test.true c.request-item.is

@@ -16,7 +16,7 @@ one_given {X} {S} seat left lanes lane seats given lanes_are given_is =
 
 pub loop-lane-preserved : goal.loop-lane-preserved
 loop-lane-preserved g c =
-    let L : Type 0 = Lane g.row.D.Denot in
+    let L : Type 0 = Lane g.row.D.Denot g.row.Q.Denot in
     let inv = c.loop-lane.invariant in
     let left : List L = c.pop.new.self.items in
     let lane : L = c.in-Some.lane in

@@ -3,8 +3,7 @@ use Rattle.lane_runner.specs.claim_history.specs.declared.call.PoolEntry.{PoolEn
 use Rattle.turn_lock.specs.declared.turn.Turn.{Turn}
 use Rattle.lane_runner.specs.bureau_desk.specs.declared.base.DeskBase.{DeskBase}
 use Rattle.lane_runner.specs.bureau_desk.specs.Desks.{DeskView}
-use Rattle.live_intake.specs.declared.lane.LiveLane.{LiveLane}
-use Rattle.live_intake.specs.Segments.{HasServedSegment, HaveServedSegment}
+use Rattle.live_intake.specs.Segments.{HasServedSegment, HaveServedSegment, LiveLane}
 use Rattle.live_intake.proofs.fork.serve_first.Goals as goal
 
 -- what holds of each place of two lists holds of them behind one another

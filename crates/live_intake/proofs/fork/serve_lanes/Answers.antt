@@ -3,8 +3,7 @@ use denote.Param.Send.{param_send, param_sync, sendable}
 use Rattle.std.proofs.Crossing.{crosses, sync}
 use Rattle.std.proofs.Crossing as std
 use Rattle.lane_runner.specs.shared_bureau.proofs.Threads.{desk_is_shared, seat_field_of_desk_is_sent}
-use Rattle.live_intake.specs.declared.lane.LiveLane.{LiveLane}
-use Rattle.live_intake.specs.Segments.{HasServedSegment}
+use Rattle.live_intake.specs.Segments.{HasServedSegment, LiveLane}
 use Rattle.live_intake.proofs.Threads.{end_at, handed_is_sent}
 use Rattle.live_intake.proofs.fork.serve_lanes.Lts.{arg-0-1, arg-0-2}
 use Rattle.live_intake.proofs.fork.serve_lanes.Goals as goal

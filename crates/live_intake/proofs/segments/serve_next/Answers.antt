@@ -1,6 +1,6 @@
 use Rattle.std.proofs.Common.{rules, ◌≡◌, ◌∙◌, ◌≤◌, List, ◌++◌, All, arith, length, sym, ap, subst, vec_len}
 use Rattle.lane_runner.specs.request_text.specs.declared.request.Request.{Request}
-use Rattle.live_intake.specs.Batching.{HasMergedMore, HaveLiveEnds}
+use Rattle.lane_runner.specs.Merging.{HasMergedMore, HaveEnds}
 use Rattle.live_intake.proofs.Served.{all_among, have_ends, ready_again, served_so}
 use Rattle.live_intake.proofs.segments.serve_next.Goals as goal
 
@@ -25,7 +25,7 @@ merge-requires-clause-lanes g c =
 pub merge-requires-clause-all : goal.merge-requires-clause-all
 merge-requires-clause-all g c =
     let told = c.run_segment-ended.ensures in
-    subst (λ (l : List Request). HaveLiveEnds l c.run_segment-ended.new.lanes) (sym c.as_slice.ensures.value)
+    subst (λ (l : List Request). HaveEnds l c.run_segment-ended.new.lanes) (sym c.as_slice.ensures.value)
     (have_ends c.args.service.now.shared.now.turn c.run_segment-ended.new.requests.items c.args.rings.now c.run_segment-ended.new.rings c.args.lanes.now c.run_segment-ended.new.lanes c.requires.ready told.joined told.served)
 
 pub returns-clause-served : goal.returns-clause-served

@@ -1,12 +1,13 @@
-use Rattle.std.proofs.Common.{◌-◌, ◌≤◌, All, length, vec_capacity}
+use Rattle.std.proofs.Common.{◌-◌, ◌≤◌, length, vec_capacity}
 use Rattle.setoff_model.specs.declared.limits.TheConstants.{MOST_LANES}
-use Rattle.live_intake.specs.Rooms.{IsPlace}
-use Rattle.live_intake.proofs.room.places.Given as goal
+use Rattle.live_intake.specs.Rooms.{ArePlaces}
+use Rattle.live_intake.proofs.room.rings_and_places.Given as goal
 
 abbrev pub invariant-loop-alloc : goal.invariant-loop-alloc
 invariant-loop-alloc l = record {
-  each : All IsPlace l.places.items;
+  each : ArePlaces l.rings.items l.places.items;
   few : length l.places.items ≤ MOST_LANES;
+  rings_spare : MOST_LANES ≤ vec_capacity l.rings;
   spare : MOST_LANES ≤ vec_capacity l.places;
 }
 
