@@ -1,9 +1,8 @@
 #!/usr/bin/env bash
 # Prints how many nanoseconds it takes to show one entry of a book with 100 and with 16,384 firms, and what 1, 2, 4 and 8 readers read
 # a second, in rows, beside a writer that shows an entry at a time, one at once after another, or with the nanoseconds between them that
-# an act takes which is synced to a disk: of a board, and of a book behind a lock. The program is
-# bench/timed_readers.txt with its proofs in bench/timed_readers_proofs.txt. It is proved and linked in a copy of the repository under
-# bench/out, and run three times, each with the load of the machine. Run by hand.
+# an act takes which is synced to a disk: of a board, and of a book behind a lock. The program of bench/programs/timed_readers is proved
+# and linked in a copy of the repository under bench/out, and run three times, each with the load of the machine. Run by hand.
 set -eu
 
 here=$(cd "$(dirname "$0")" && pwd)
@@ -16,10 +15,10 @@ find "$copy" -mindepth 1 \( -name out -o -name .git \) -prune -o -type f -exec r
 tar c -C "$here/.." --exclude out --exclude must-fail crates crates.txt HANDLES | tar x -C "$copy"
 mkdir -p "$program/src" "$program/specs" "$program/proofs"
 echo 'readers_timed: claim_book claim_history logbook read_copies setoff_model' >>"$copy/crates.txt"
-cp "$here/timed_readers.txt" "$program/src/main.rt"
+cp "$here/programs/timed_readers/main.rt.in" "$program/src/main.rt"
+cp -r "$here/programs/timed_readers/proofs/." "$program/proofs"
+find "$program/proofs" -name '*.in' -exec sh -c 'mv "$1" "${1%.in}"' sh {} \;
 touch "$program/specs/Lib.antt"
-# A line `== FILE` begins each file of proofs.
-(cd "$program/proofs" && mkdir -p copies_read read_until show_until && awk '$1 == "==" { file = $2; next } { print > file }' "$here/timed_readers_proofs.txt")
 
 echo 'bench: proving and linking the readers' >&2
 cd "$program"

@@ -79,7 +79,7 @@ def program(name):
 def put_source(name):
     """Puts the sources of a program among the copies."""
     folder = COPY / "crates" / name
-    text = (HERE / f"{name}.txt").read_bytes()
+    text = (HERE / "programs" / name / "main.rt.in").read_bytes()
     source = folder / "src/main.rt"
     if not source.exists() or source.read_bytes() != text:
         source.parent.mkdir(parents=True, exist_ok=True)
