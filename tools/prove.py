@@ -106,12 +106,17 @@ def build_statements(rtlib):
     rtlib.Crate.__init__, rtlib.Crate.is_built, rtlib.Crate.build_rlib = make, is_built, build_rlib
 
 
+def listed_costs():
+    """What bench/costs.txt lists: the processor seconds that a check of a crate takes."""
+    if not os.path.isfile(COSTS):
+        return {}
+    with open(COSTS, encoding="utf-8") as table:
+        return {words[0]: float(words[1]) for words in map(str.split, table) if words}
+
+
 def costs(crates):
     """Processor seconds that a check of each crate takes."""
-    found = {}
-    if os.path.isfile(COSTS):
-        with open(COSTS, encoding="utf-8") as table:
-            found = {words[0]: float(words[1]) for words in map(str.split, table) if words}
+    found = listed_costs()
     return {it.name: found.get(it.name, 12 + 0.05 * it.count(rb"\n")) for it in crates}
 
 
@@ -203,7 +208,7 @@ class Work:
 
     def write_costs(self):
         """Puts what the crates took that were proved from scratch into the table."""
-        found = {**self.cost, **{name: spent for name, spent in self.spent.items() if name in self.new and self.done[name] == 0}}
+        found = {**listed_costs(), **{name: spent for name, spent in self.spent.items() if name in self.new and self.done[name] == 0}}
         with open(COSTS, "w", encoding="utf-8") as table:
             table.writelines(f"{name} {seconds:.0f}\n" for name, seconds in sorted(found.items()))
 
