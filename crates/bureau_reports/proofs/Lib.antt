@@ -1,3 +1,4 @@
+pub mod Accounts
 pub mod Counted
 pub mod Explained
 pub mod Held

@@ -1,5 +1,5 @@
 -- Which status and which text a report on a journal comes to.
-use Rattle.std.specs.Prelude.{◌≡◌, ◌<◌, Bool, not, true, ℕ, List, [], ◌∷◌, ◌++◌}
+use Rattle.std.specs.Prelude.{◌≡◌, ◌<◌, Bool, not, true, ℕ, List, [], ◌∷◌, ◌++◌, Option, Some, None}
 use Rattle.setoff_model.specs.declared.limits.TheConstants.{MOST_ROUNDS}
 use Rattle.weighed_round.specs.claim_history.specs.declared.call.PoolEntry.{PoolEntry}
 use Rattle.weighed_round.specs.claim_history.specs.Facts.{Ledger, is_registered}
@@ -74,7 +74,12 @@ report_status (journals.Account firm pool) history = account_status (pool_of (jo
 report_status (journals.Parts round pool) history = round_status round (pool_of (journals.Parts round pool)) history
 report_status (journals.Forecast kind horizon pool) history = statuses.Done
 
--- the report makes its text whole before it is printed
+-- the firm whose register the report is, if it is one
+abbrev pub firm_of : JournalReport → Option (List ℕ)
+firm_of (journals.Account firm pool) = Some firm
+firm_of _ = None
+
+-- the report makes its text of the books, and whole before it is printed
 abbrev pub IsMade : JournalReport → Type 0
 IsMade journals.Audit = Unit {0}
 IsMade (journals.Positions pool) = Unit {0}
@@ -85,7 +90,7 @@ IsMade (journals.Statement round pool) = ⊥
 IsMade journals.Pools = Unit {0}
 IsMade (journals.Since acts pool) = ⊥
 IsMade (journals.Seal acts) = Unit {0}
-IsMade (journals.Account firm pool) = Unit {0}
+IsMade (journals.Account firm pool) = ⊥
 IsMade (journals.Parts round pool) = ⊥
 IsMade (journals.Forecast kind horizon pool) = ⊥
 

@@ -1,3 +1,4 @@
+pub mod Accounts
 pub use Rattle.journal_texts.specs.DiskTexts as DiskTexts
 pub mod Inputs
 pub mod Journals

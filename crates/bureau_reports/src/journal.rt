@@ -1,22 +1,24 @@
 //! Reports on a journal.
-ghost use Rattle.std.specs.Prelude.{◌≡◌, ◌≤◌, [], IfOk, vec_len, vec_capacity};
+ghost use Rattle.std.specs.Prelude.{◌≡◌, ◌≤◌, [], Some, None, IfOk, vec_len, vec_capacity};
 ghost use Rattle.weighed_round.specs.fault_count.specs.Counts.{HasRisen};
 ghost use Rattle.journal_texts.specs.bureau_desk.specs.round_journal.specs.Opened.{IsQuiet};
 ghost use Rattle.weighed_round.specs.printed_text.specs.declared.exit_status.ExitStatus.TheVariants as statuses;
 ghost use Rattle.weighed_round.specs.printed_text.specs.Statuses.{IsOneOf, TellsSinkFault};
-ghost use Rattle.weighed_round.specs.printed_text.specs.Writing.{Wrote};
+ghost use Rattle.weighed_round.specs.printed_text.specs.Writing.{IsWritten, Wrote};
 ghost use Rattle.setoff_model.specs.declared.limits.TheConstants.{OUTPUT_BYTES};
 ghost use Rattle.bureau_reports.specs.DiskTexts.{IsTellable, sound_text};
 ghost use Rattle.bureau_reports.specs.Journals.{IsBookDue, HasFewOpenings, IsJournalDue, IsMade, IsTextOf};
-ghost use Rattle.bureau_reports.specs.Journals.{journal_statuses, report_status, unviewed_status, unviewed_text};
+ghost use Rattle.bureau_reports.specs.Journals.{firm_of, journal_statuses, report_status, unviewed_status, unviewed_text};
 
+use crate::account::view_account;
 use crate::sound_line::{status_of_unsound, write_sound, write_unsound};
 use bureau_edge::Sink;
 use command_words::JournalReport;
 use disk_model::Disk;
 use history_text::{print_history, print_parts, print_round, print_since};
-use journal_summaries::{account, account_status, pools, seal, seal_status};
+use journal_summaries::{pools, seal, seal_status};
 use journal_texts::{Desk, DeskCause, status_of_opening, write_opening_fault};
+use setoff_model::Name;
 use setoff_model::limits::LINE_BYTES;
 use std::alloc::{AllocError, Global};
 use weighed_round::{
@@ -46,7 +48,7 @@ fn text_of(alloc: Global, report: &JournalReport, books: &Books) -> Result<Vec<u
         JournalReport::Weigh { kind, today } => weigh(alloc, book, *kind, *today),
         JournalReport::Pools => pools(alloc, books),
         JournalReport::Seal { acts } => seal(alloc, books, *acts),
-        JournalReport::Account { firm, .. } => account(alloc, books, &report.pool(), firm),
+        JournalReport::Account { .. } => unreachable!(),
         JournalReport::History { .. } => unreachable!(),
         JournalReport::Statement { .. } => unreachable!(),
         JournalReport::Since { .. } => unreachable!(),
@@ -67,7 +69,7 @@ fn status_of(report: &JournalReport, books: &Books) -> ExitStatus
         JournalReport::Weigh { .. } => ExitStatus::Done,
         JournalReport::Pools => ExitStatus::Done,
         JournalReport::Seal { acts } => seal_status(books, *acts),
-        JournalReport::Account { firm, .. } => account_status(books, &report.pool(), firm),
+        JournalReport::Account { .. } => unreachable!(),
         JournalReport::History { .. } => unreachable!(),
         JournalReport::Statement { .. } => unreachable!(),
         JournalReport::Since { .. } => unreachable!(),
@@ -146,6 +148,7 @@ fn print_books<K: Sink>(
     sink: &mut K,
     buffer: &mut Vec<u8>,
 ) -> ExitStatus
+    requires no_register { firm_of report.now ≡ None }
     requires few { HasFewOpenings books.now.members }
     requires empty { buffer.old.items ≡ [] }
     requires len { vec_len buffer.old ≡ 0 }
@@ -162,7 +165,7 @@ fn print_books<K: Sink>(
         JournalReport::Weigh { .. } => print_made(alloc, report, books, sink),
         JournalReport::Pools => print_made(alloc, report, books, sink),
         JournalReport::Seal { .. } => print_made(alloc, report, books, sink),
-        JournalReport::Account { .. } => print_made(alloc, report, books, sink),
+        JournalReport::Account { .. } => unreachable!(),
         JournalReport::History { pool } => print_history(alloc, sink, buffer, books, pool),
         JournalReport::Statement { round, .. } => {
             print_round(alloc, sink, buffer, books, report.pool(), *round)
@@ -181,6 +184,93 @@ fn print_books<K: Sink>(
             *kind,
             *horizon,
         ),
+    }
+}
+
+// The firm whose register a report is, if it is one.
+fn firm_of(report: &JournalReport) -> Option<Name>
+    ensures { result ≡ firm_of report.now }
+{
+    match report {
+        JournalReport::Account { firm, .. } => Some(*firm),
+        _ => None,
+    }
+}
+
+// Prints why there are no books.
+#[tactic(none)]
+fn print_unviewed<K: Sink>(
+    report: &JournalReport,
+    cause: DeskCause,
+    sink: &mut K,
+    buffer: &mut Vec<u8>,
+) -> ExitStatus
+    requires tellable { IsTellable cause }
+    requires empty { buffer.old.items ≡ [] }
+    requires spare { OUTPUT_BYTES ≤ vec_capacity buffer.old }
+
+    // What was told.
+    ensures written { IsWritten (K.held sink.old) (K.held sink.new) (unviewed_status report.now cause) (unviewed_text report.now cause) result }
+    ensures write_fault { TellsSinkFault (K.faults sink.old) (K.faults sink.new) result }
+{
+    write_unviewed(buffer, report, cause);
+    end_with(sink, status_of_unviewed(report, cause), buffer.as_slice())
+}
+
+// Replays the journal of a disk, and prints a report that is no register.
+#[tactic(none)]
+fn print_view<K: Sink, D: Disk>(
+    alloc: Global,
+    report: &JournalReport,
+    sink: &mut K,
+    disk: &mut D,
+    buffer: &mut Vec<u8>,
+) -> ExitStatus
+    requires no_register { firm_of report.now ≡ None }
+    requires empty { buffer.old.items ≡ [] }
+    requires len { vec_len buffer.old ≡ 0 }
+    requires spare { OUTPUT_BYTES ≤ vec_capacity buffer.old }
+
+    // What was told.
+    ensures wrote { Wrote (IsJournalDue report.now (D.seen disk.old).tells (D.seen disk.old).reads (D.seen disk.old).count
+        (D.seen disk.new).count) (K.held sink.old) (K.held sink.new) result }
+    ensures write_fault { TellsSinkFault (K.faults sink.old) (K.faults sink.new) result }
+    ensures quiet { IsQuiet (D.seen disk.old) (D.seen disk.new) }
+{
+    match Desk::view(alloc, disk) {
+        Ok(books) => {
+            let _len = books.len();
+            let status = print_books(alloc, report, &books, sink, buffer);
+            drop(books);
+            status
+        }
+        Err(cause) => print_unviewed(report, cause, sink, buffer),
+    }
+}
+
+// Replays the journal of a disk, and prints the register of a firm.
+#[tactic(none)]
+fn print_account<K: Sink, D: Disk>(
+    alloc: Global,
+    report: &JournalReport,
+    firm: Name,
+    sink: &mut K,
+    disk: &mut D,
+    buffer: &mut Vec<u8>,
+) -> ExitStatus
+    requires register { firm_of report.now ≡ Some firm }
+    requires empty { buffer.old.items ≡ [] }
+    requires spare { OUTPUT_BYTES ≤ vec_capacity buffer.old }
+
+    // What was told.
+    ensures wrote { Wrote (IsJournalDue report.now (D.seen disk.old).tells (D.seen disk.old).reads (D.seen disk.old).count
+        (D.seen disk.new).count) (K.held sink.old) (K.held sink.new) result }
+    ensures write_fault { TellsSinkFault (K.faults sink.old) (K.faults sink.new) result }
+    ensures quiet { IsQuiet (D.seen disk.old) (D.seen disk.new) }
+{
+    match view_account(alloc, disk, report.pool(), firm) {
+        Ok(told) => end_with(sink, told.status, told.text.as_slice()),
+        Err(cause) => print_unviewed(report, cause, sink, buffer),
     }
 }
 
@@ -206,16 +296,8 @@ pub fn report_journal<K: Sink, D: Disk>(
     let Ok(mut buffer) = output_buffer(alloc) else {
         return tell_no_memory(sink);
     };
-    match Desk::view(alloc, disk) {
-        Ok(books) => {
-            let _len = books.len();
-            let status = print_books(alloc, &report, &books, sink, &mut buffer);
-            drop(books);
-            status
-        }
-        Err(cause) => {
-            write_unviewed(&mut buffer, &report, cause);
-            end_with(sink, status_of_unviewed(&report, cause), buffer.as_slice())
-        }
+    match firm_of(&report) {
+        Some(firm) => print_account(alloc, &report, firm, sink, disk, &mut buffer),
+        None => print_view(alloc, &report, sink, disk, &mut buffer),
     }
 }

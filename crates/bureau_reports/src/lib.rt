@@ -7,10 +7,11 @@
 //! there is a definition in `specs/` that says which status and which text are due; the sink takes that text, or some first bytes of it
 //! where it failed, and then the status is 4. No report writes to a disk.
 //!
-//! A table is made whole before it is printed. A history is printed as it is replayed, so that it takes no memory for its text; where
+//! A table is made whole before it is printed, and the register of a firm while the journal is replayed. A history is printed as it is replayed, so that it takes no memory for its text; where
 //! memory is missing on the way, that is told behind what was printed.
 #![tactic(auto)]
 
+mod account;
 mod check;
 mod explain;
 mod import;

@@ -1,10 +1,13 @@
 -- The replay of a journal's records: the history of their calls, and the first record that is refused or full.
-use Rattle.std.specs.Prelude.{◌≡◌, ℕ, Bool, true, false, not, ◌||◌, List, All, ◌∷◌, ◌++◌}
+use Rattle.std.specs.Prelude.{◌≡◌, ℕ, Bool, true, false, not, ◌||◌, List, All, ◌∷◌, ◌++◌, Option, None, if◌then◌else◌}
+use Rattle.setoff_model.specs.CutView.{CutView}
+use Rattle.limited_book.specs.claim_history.specs.Acts.{is_publication}
 use Rattle.limited_book.specs.claim_history.specs.declared.call.Call.{Call}
 use Rattle.limited_book.specs.claim_history.specs.declared.call.PoolEntry.{PoolEntry}
 use Rattle.limited_book.specs.claim_history.specs.History.{is_accepted, is_no_refusal}
 use Rattle.limited_book.specs.claim_history.specs.Pools.{due_reply, with_due}
 use Rattle.limited_book.specs.claim_history.specs.PoolNeeds.{Fits, IsWithinLimits, is_full}
+use Rattle.limited_book.specs.claim_history.specs.PoolRounds.{open_cut_in}
 use Rattle.round_journal.specs.declared.record.Record.{Record}
 pub use Rattle.round_journal.specs.Records.{history_of, recorded_call}
 use Rattle.journal_replay.specs.declared.replay_stop.ReplayStop.{ReplayStop}
@@ -33,6 +36,10 @@ pub record IsReplayed (before after : List PoolEntry) (call : Call) : Type 0 whe
   pub history : after ≡ with_due before call
   pub accepted : is_no_refusal (due_reply before call) ≡ true
   pub fits : Fits before call
+
+-- The cut of the round that an accepted call publishes: the one that was open in its pool. A call that is no publication has none.
+abbrev pub published_cut : List PoolEntry → Call → Option CutView
+published_cut history call = if is_publication call.act then open_cut_in history call.pool else None
 
 -- what is told of a call after a history: that it is refused, else that it is full
 abbrev pub Tells : List PoolEntry → ℕ → Call → ReplayStop → Type 0

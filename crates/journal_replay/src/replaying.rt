@@ -1,17 +1,19 @@
 //! The replay of a journal's records.
-ghost use Rattle.std.specs.Prelude.{◌≡◌, ◌≤◌, [], IfOk, IfErr, OnOk, true, false};
+ghost use Rattle.std.specs.Prelude.{◌≡◌, ◌≤◌, [], Some, IfOk, IfErr, OnOk, true, false};
 ghost use Rattle.limited_book.specs.claim_history.specs.Acts.{is_valid, is_publication, is_close};
 ghost use Rattle.limited_book.specs.claim_history.specs.History.{is_opening, is_no_refusal};
 ghost use Rattle.limited_book.specs.claim_history.specs.Pools.{due_reply, state_in};
+ghost use Rattle.limited_book.specs.claim_history.specs.PoolRounds.{open_cut_in};
 ghost use Rattle.limited_book.specs.claim_book.specs.Book.{room_for};
 ghost use Rattle.limited_book.specs.claim_book.specs.Pools.{room_in};
 ghost use Rattle.limited_book.specs.act_bodies.specs.Bodies.{is_keepable};
 ghost use Rattle.round_journal.specs.Records.{AreKeepable};
-ghost use Rattle.journal_replay.specs.Replays.{history_of, recorded_call, AreSound, StopsFirst, Tells, IsReplayed};
+ghost use Rattle.journal_replay.specs.Replays.{history_of, recorded_call, AreSound, StopsFirst, Tells, IsReplayed, published_cut};
 
 use crate::replay_stop::ReplayStop;
 use limited_book::{Act, Call, Entry, LimitedBooks, Reply};
 use round_journal::Record;
+use setoff_model::Cut;
 use std::alloc::Global;
 
 /// The books of the calls of records in turn, each with the one reply of its pool. The calls can be kept in a journal.
@@ -50,15 +52,24 @@ fn replay_all(
     ensures stopped { IfErr result (StopsFirst records.items) }
 {
     for kept in records {
-        replay_one(alloc, books, kept)?;
+        drop(replay_next(alloc, books, kept)?);
     }
     Ok(())
 }
 
-// Puts the call of a record at the end, where it is accepted and within the limits.
-fn replay_one(alloc: Global, books: &mut LimitedBooks, kept: Record) -> Result<(), ReplayStop>
+/// Puts the call of a record at the end of books, where it is accepted and within the limits, and gives the cut of the round that
+/// it publishes; None where it is no publication. The call can be kept in a journal.
+///
+/// `BadAct` comes where the call is refused, with the reply, and `Overfull` where it is not refused and above the limits. `Memory`
+/// comes where memory is missing.
+pub fn replay_next(
+    alloc: Global,
+    books: &mut LimitedBooks,
+    kept: Record,
+) -> Result<Option<Cut>, ReplayStop>
     requires keepable { is_keepable (recorded_call kept) ≡ true }
     ensures done { OnOk result (IsReplayed books.old.members books.new.members (recorded_call kept)) }
+    ensures cut { IfOk result (λ cut. cut ≡ published_cut books.old.members (recorded_call kept)) }
     ensures stopped { IfErr result (Tells books.old.members kept.offset (recorded_call kept)) }
 {
     let Record {
@@ -69,8 +80,25 @@ fn replay_one(alloc: Global, books: &mut LimitedBooks, kept: Record) -> Result<(
     } = kept;
     let call = Call { caller, pool, act };
     if call.act.publishes() {
-        return replay_publication(alloc, books, offset, call);
+        let cut = replay_publication(alloc, books, offset, call)?;
+        return Ok(Some(cut));
     }
+    replay_unpublished(alloc, books, offset, call)?;
+    Ok(None)
+}
+
+// Puts a call at the end that is no publication, where it is accepted and within the limits.
+fn replay_unpublished(
+    alloc: Global,
+    books: &mut LimitedBooks,
+    offset: u64,
+    call: Call,
+) -> Result<(), ReplayStop>
+    requires valid { is_valid call.act ≡ true }
+    requires apart { is_publication call.act ≡ false }
+    ensures done { OnOk result (IsReplayed books.old.members books.new.members call) }
+    ensures stopped { IfErr result (Tells books.old.members offset call) }
+{
     if closes(&call.act) {
         return replay_close(alloc, books, offset, call);
     }
@@ -179,16 +207,17 @@ fn replay_opening(
     Ok(())
 }
 
-// The same of a publication. Where it is accepted, the room for it was kept.
+// The same of a publication, with the cut of its round. Where it is accepted, the room for it was kept.
 fn replay_publication(
     alloc: Global,
     books: &mut LimitedBooks,
     offset: u64,
     call: Call,
-) -> Result<(), ReplayStop>
+) -> Result<Cut, ReplayStop>
     requires valid { is_valid call.act ≡ true }
     requires publishes { is_publication call.act ≡ true }
     ensures done { OnOk result (IsReplayed books.old.members books.new.members call) }
+    ensures cut { IfOk result (λ cut. Some cut ≡ open_cut_in books.old.members call.pool) }
     ensures stopped { IfErr result (Tells books.old.members offset call) }
 {
     let known = books.books();
@@ -199,8 +228,10 @@ fn replay_publication(
     }
     books.reserve(&call)?;
     let Call { caller, pool, act } = call;
-    let _cut = books.apply_publish(pool, Entry { caller, act, reply });
-    Ok(())
+    match books.apply_publish(pool, Entry { caller, act, reply }) {
+        Some(cut) => Ok(cut),
+        None => unreachable!(),
+    }
 }
 
 fn accepts(reply: Reply) -> bool

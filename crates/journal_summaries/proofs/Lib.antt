@@ -1,7 +1,7 @@
 pub mod Listed
 pub mod Replayed
 pub mod Flowing
-pub mod Register
+pub mod Registers
 pub mod Counted
 pub mod Sealed
 pub mod Running

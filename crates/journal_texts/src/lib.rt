@@ -10,7 +10,10 @@ mod fault_line;
 mod reading;
 mod refused;
 
-pub use bureau_desk::{Desk, DeskCause, DeskRefused};
+pub use bureau_desk::{
+    Desk, DeskCause, DeskRefused, LimitedBooks, Record, ReplayStop, records_of, replay_cause,
+    replay_next,
+};
 pub use ended::Ended;
 pub use fault_line::{status_of_opening, write_opening_fault, write_told};
 pub use reading::tell_unread;

@@ -6,6 +6,7 @@ use Rattle.weighed_round.specs.claim_history.specs.States.{state_of}
 use Rattle.weighed_round.specs.printed_text.specs.Writing.{Wrote}
 use Rattle.history_text.specs.Since.{IsSinceDue}
 use Rattle.command_words.specs.declared.journal_report.JournalReport.TheVariants as journals
+use Rattle.bureau_reports.specs.Journals.{firm_of}
 use Rattle.bureau_reports.proofs.Held.{is_made, wrote_forecast, wrote_history, wrote_parts, wrote_round, wrote_since}
 use Rattle.bureau_reports.proofs.journal.print_books.Goals as goal
 
@@ -90,15 +91,6 @@ returns-in-Seal-clause-wrote g c = c.print_made-in-Seal.ensures.wrote
 pub returns-in-Seal-clause-write_fault : goal.returns-in-Seal-clause-write_fault
 returns-in-Seal-clause-write_fault g c = c.print_made-in-Seal.ensures.write_fault
 
-pub print_made-requires-in-Account : goal.print_made-requires-in-Account
-print_made-requires-in-Account g c = is_made c.args.report.now (journals.Account c.in-Account.firm c.in-Account.pool) c.in-Account.is tt
-
-pub returns-in-Account-clause-wrote : goal.returns-in-Account-clause-wrote
-returns-in-Account-clause-wrote g c = c.print_made-in-Account.ensures.wrote
-
-pub returns-in-Account-clause-write_fault : goal.returns-in-Account-clause-write_fault
-returns-in-Account-clause-write_fault g c = c.print_made-in-Account.ensures.write_fault
-
 pub print_since-requires-clause-empty : goal.print_since-requires-clause-empty
 print_since-requires-clause-empty g c = c.requires.empty
 
@@ -145,3 +137,9 @@ returns-in-Forecast-clause-wrote g c = wrote_forecast c.args.report.now c.in-For
 
 pub returns-in-Forecast-clause-write_fault : goal.returns-in-Forecast-clause-write_fault
 returns-in-Forecast-clause-write_fault g c = c.print_forecast.ensures.write_fault
+
+pub unreachable-requires : goal.unreachable-requires
+unreachable-requires g c = cc (sym (ap firm_of c.in-Account.is) ∙ c.requires.no_register)
+
+pub unreachable-unreachable : goal.unreachable-unreachable
+unreachable-unreachable g c = cc (sym (ap firm_of c.in-Account.is) ∙ c.requires.no_register)

@@ -1,12 +1,10 @@
-use Rattle.std.proofs.Common.{◌∙◌, ◌∷◌, [], refl, sym, arith}
+use Rattle.std.proofs.Common.{◌∙◌, refl, sym, arith}
 use Rattle.disk_model.proofs.Moments.{passes_still}
 use Rattle.weighed_round.specs.printed_text.specs.declared.exit_status.ExitStatus.TheVariants as statuses
 use Rattle.weighed_round.specs.printed_text.specs.Texts.{memory_text}
-use Rattle.weighed_round.specs.printed_text.proofs.Statuses.{other_than}
-use Rattle.bureau_reports.specs.Journals.{IsJournalDue, no_view_memory, unviewed, unviewed_status, unviewed_text}
-use Rattle.bureau_reports.proofs.Held.{few_opened}
-use Rattle.bureau_reports.proofs.Viewed.{as_opening, book_due, journal_among, journal_rose, tellable, unviewed_among}
-use Rattle.bureau_reports.proofs.Written.{written_as, wrote_for, wrote_line}
+use Rattle.bureau_reports.specs.Journals.{IsJournalDue, no_view_memory}
+use Rattle.bureau_reports.proofs.Viewed.{journal_among, journal_rose}
+use Rattle.bureau_reports.proofs.Written.{wrote_line}
 use Rattle.bureau_reports.proofs.journal.report_journal.Goals as goal
 
 -- ---- there was no memory for a line
@@ -26,64 +24,57 @@ returns-in_default-clause-write_fault g c = c.tell_no_memory.ensures.failed
 pub returns-in_default-clause-disk_fault : goal.returns-in_default-clause-disk_fault
 returns-in_default-clause-disk_fault g c = journal_rose _ _ _ _ _ _ _ _ (returns-in_default-clause-wrote g c)
 
--- ---- the book
+-- ---- the register of a firm
 
-pub print_books-status-requires-clause-few : goal.print_books-status-requires-clause-few
-print_books-status-requires-clause-few g c = few_opened _ _ c.in-Ok-view.books.members c.len-len.ensures.legal c.in-Ok-view.ensures.ok
+pub print_account-requires-clause-register : goal.print_account-requires-clause-register
+print_account-requires-clause-register g c = sym c.firm_of.ensures ∙ c.in-Some.is
 
-pub print_books-status-requires-clause-empty : goal.print_books-status-requires-clause-empty
-print_books-status-requires-clause-empty g c = c.in-Ok.ensures.empty
+pub print_account-requires-clause-empty : goal.print_account-requires-clause-empty
+print_account-requires-clause-empty g c = c.in-Ok.ensures.empty
 
-pub print_books-status-requires-clause-len : goal.print_books-status-requires-clause-len
-print_books-status-requires-clause-len g c = c.in-Ok.ensures.len
+pub print_account-requires-clause-spare : goal.print_account-requires-clause-spare
+print_account-requires-clause-spare g c = c.in-Ok.ensures.room
 
-pub print_books-status-requires-clause-spare : goal.print_books-status-requires-clause-spare
-print_books-status-requires-clause-spare g c = c.in-Ok.ensures.room
+pub returns-in-Some-clause-wrote : goal.returns-in-Some-clause-wrote
+returns-in-Some-clause-wrote g c = c.print_account.ensures.wrote
 
-pub returns-in-Ok-view-clause-wrote : goal.returns-in-Ok-view-clause-wrote
-returns-in-Ok-view-clause-wrote g c =
-    wrote_for _ (IsJournalDue c.args.report _ _ _ _) _ _ _ (book_due c.args.report _ _ _ _ c.in-Ok-view.books.members c.in-Ok-view.ensures.ok) c.print_books-status.ensures.wrote
+pub returns-in-Some-clause-among : goal.returns-in-Some-clause-among
+returns-in-Some-clause-among g c = journal_among _ _ _ _ _ _ _ _ c.print_account.ensures.wrote
 
-pub returns-in-Ok-view-clause-among : goal.returns-in-Ok-view-clause-among
-returns-in-Ok-view-clause-among g c = journal_among _ _ _ _ _ _ _ _ (returns-in-Ok-view-clause-wrote g c)
+pub returns-in-Some-clause-quiet : goal.returns-in-Some-clause-quiet
+returns-in-Some-clause-quiet g c = c.print_account.ensures.quiet
 
-pub returns-in-Ok-view-clause-quiet : goal.returns-in-Ok-view-clause-quiet
-returns-in-Ok-view-clause-quiet g c = c.view.ensures.quiet
+pub returns-in-Some-clause-write_fault : goal.returns-in-Some-clause-write_fault
+returns-in-Some-clause-write_fault g c = c.print_account.ensures.write_fault
 
-pub returns-in-Ok-view-clause-write_fault : goal.returns-in-Ok-view-clause-write_fault
-returns-in-Ok-view-clause-write_fault g c = c.print_books-status.ensures.write_fault
+pub returns-in-Some-clause-disk_fault : goal.returns-in-Some-clause-disk_fault
+returns-in-Some-clause-disk_fault g c = journal_rose _ _ _ _ _ _ _ _ c.print_account.ensures.wrote
 
-pub returns-in-Ok-view-clause-disk_fault : goal.returns-in-Ok-view-clause-disk_fault
-returns-in-Ok-view-clause-disk_fault g c = journal_rose _ _ _ _ _ _ _ _ (returns-in-Ok-view-clause-wrote g c)
+-- ---- another report
 
--- ---- there is no book
+pub print_view-requires-clause-no_register : goal.print_view-requires-clause-no_register
+print_view-requires-clause-no_register g c = sym c.firm_of.ensures ∙ c.in-None.is
 
-pub write_unviewed-requires-clause-tellable : goal.write_unviewed-requires-clause-tellable
-write_unviewed-requires-clause-tellable g c = tellable _ _ _ _ c.in-Err.cause (as_opening _ _ _ _ c.in-Err.cause c.in-Err.ensures.err)
+pub print_view-requires-clause-empty : goal.print_view-requires-clause-empty
+print_view-requires-clause-empty g c = c.in-Ok.ensures.empty
 
-pub write_unviewed-requires-clause-empty : goal.write_unviewed-requires-clause-empty
-write_unviewed-requires-clause-empty g c = c.in-Ok.ensures.empty
+pub print_view-requires-clause-len : goal.print_view-requires-clause-len
+print_view-requires-clause-len g c = c.in-Ok.ensures.len
 
-pub write_unviewed-requires-clause-spare : goal.write_unviewed-requires-clause-spare
-write_unviewed-requires-clause-spare g c = omega (arith, c.in-Ok.ensures.room)
-
-pub end_with-requires : goal.end_with-requires
-end_with-requires g c = λ sink.
-    other_than statuses.Sink (statuses.No ∷ statuses.Disk ∷ statuses.Unsound ∷ statuses.Memory ∷ []) (unviewed_status c.args.report c.in-Err.cause) refl (sym c.status_of_unviewed.ensures ∙ sink) (unviewed_among c.args.report c.in-Err.cause)
+pub print_view-requires-clause-spare : goal.print_view-requires-clause-spare
+print_view-requires-clause-spare g c = c.in-Ok.ensures.room
 
 pub returns-clause-wrote : goal.returns-clause-wrote
-returns-clause-wrote g c =
-    wrote_line (IsJournalDue c.args.report _ _ _ _) _ _ (unviewed_status c.args.report c.in-Err.cause) (unviewed_text c.args.report c.in-Err.cause) _ (unviewed c.in-Err.cause c.in-Err.ensures.err)
-    (written_as _ _ (unviewed_status c.args.report c.in-Err.cause) c.status_of_unviewed.result (unviewed_text c.args.report c.in-Err.cause) c.as_slice.result.now _ c.status_of_unviewed.ensures (c.as_slice.ensures.value ∙ c.write_unviewed.ensures) c.end_with.ensures.written)
+returns-clause-wrote g c = c.print_view.ensures.wrote
 
 pub returns-clause-among : goal.returns-clause-among
-returns-clause-among g c = journal_among _ _ _ _ _ _ _ _ (returns-clause-wrote g c)
+returns-clause-among g c = journal_among _ _ _ _ _ _ _ _ c.print_view.ensures.wrote
 
 pub returns-clause-quiet : goal.returns-clause-quiet
-returns-clause-quiet g c = c.view.ensures.quiet
+returns-clause-quiet g c = c.print_view.ensures.quiet
 
 pub returns-clause-write_fault : goal.returns-clause-write_fault
-returns-clause-write_fault g c = c.end_with.ensures.failed
+returns-clause-write_fault g c = c.print_view.ensures.write_fault
 
 pub returns-clause-disk_fault : goal.returns-clause-disk_fault
-returns-clause-disk_fault g c = journal_rose _ _ _ _ _ _ _ _ (returns-clause-wrote g c)
+returns-clause-disk_fault g c = journal_rose _ _ _ _ _ _ _ _ c.print_view.ensures.wrote

@@ -3,7 +3,7 @@ use Rattle.bureau_reports.specs.Journals.{IsMade}
 use Rattle.bureau_reports.proofs.journal.status_of.Goals as goal
 
 pub unreachable-requires : goal.unreachable-requires
-unreachable-requires c = subst IsMade c.in-History.is c.requires
+unreachable-requires c = subst IsMade c.in-Account.is c.requires
 
 pub unreachable-requires-in-Statement : goal.unreachable-requires-in-Statement
 unreachable-requires-in-Statement c = subst IsMade c.in-Statement.is c.requires
@@ -16,3 +16,6 @@ unreachable-requires-in-Parts c = subst IsMade c.in-Parts.is c.requires
 
 pub unreachable-requires-in-Forecast : goal.unreachable-requires-in-Forecast
 unreachable-requires-in-Forecast c = subst IsMade c.in-Forecast.is c.requires
+
+pub unreachable-requires-in-History : goal.unreachable-requires-in-History
+unreachable-requires-in-History c = subst IsMade c.in-History.is c.requires

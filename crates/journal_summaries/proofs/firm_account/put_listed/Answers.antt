@@ -1,7 +1,7 @@
 use Rattle.std.proofs.Common.{◌∙◌, sym}
 use Rattle.printed_text.specs.claim_book.specs.Book.{ledger_of}
 use Rattle.journal_summaries.specs.Account.{row_of}
-use Rattle.journal_summaries.proofs.Register.{position_known, row_is, rows_written}
+use Rattle.journal_summaries.proofs.Registers.{position_known, row_is, rows_written}
 use Rattle.journal_summaries.proofs.firm_account.put_listed.Goals as goal
 
 pub returns : goal.returns

@@ -1,15 +1,17 @@
 -- The rows of a register, entry by entry.
-use Rattle.std.specs.Prelude.{Option, Some, None, reverse, slice_get, if◌then◌else◌, Result, Ok, Err, OnOk, Vec}
+use Rattle.std.specs.Prelude.{◌-◌, Option, Some, None, reverse, slice_get, if◌then◌else◌, Result, Ok, Err, IfOk, OnOk, Vec}
 use Rattle.std.specs.declared.alloc.Global.{Global}
 use Rattle.std.specs.declared.alloc.AllocError.{AllocError}
 use Rattle.csv.specs.declared.writer.Writer.{Writer}
 use Rattle.std.specs.Option.{option_map}
-use Rattle.std.proofs.Common.{◌≡◌, ℕ, ◌+◌, Bool, true, false, List, [], ◌∷◌, ◌++◌, length, map, take, drop, refl, sym, ◌∙◌, ap, subst, arith}
-use Rattle.std.proofs.lemmas.List.{append-nil, length-reverse, length-take-le, map-append, reverse-append}
-use Rattle.std.proofs.lemmas.Option.{slice_get_within}
+use Rattle.std.proofs.Common.{◌≡◌, ℕ, ◌+◌, Bool, true, false, List, [], ◌∷◌, ◌++◌, length, map, refl, sym, ◌∙◌, ap, ap₂, subst, length-append, arith}
+use Rattle.std.proofs.lemmas.List.{append-nil, get_or_at, length-reverse, map-append, reverse-append, reverse-reverse}
+use Rattle.std.proofs.lemmas.Option.{slice_get-get_or}
 use Rattle.csv.specs.Writing.{row_text, default_writer}
 use Rattle.setoff_model.specs.CutView.{CutView, obligations}
 use Rattle.setoff_model.proofs.Deciding.{proof_test_law}
+use Rattle.setoff_model.proofs.Lists.{All-first}
+use Rattle.setoff_model.proofs.SameNames.{same_name_is}
 use Rattle.printed_text.specs.claim_history.specs.declared.act.Act.{Act}
 use Rattle.printed_text.specs.claim_history.specs.declared.call.PoolEntry.{PoolEntry}
 use Rattle.printed_text.specs.claim_history.specs.declared.entry.Entry.{Entry}
@@ -19,20 +21,28 @@ use Rattle.printed_text.specs.claim_history.specs.declared.fact.Position.{Positi
 use Rattle.printed_text.specs.claim_history.specs.Facts.{Ledger, is_registered, position_of}
 use Rattle.printed_text.specs.claim_history.specs.States.{OpenRound, state, state_of}
 use Rattle.printed_text.specs.claim_history.specs.History as one
-use Rattle.printed_text.specs.claim_history.specs.History.{MayFollowInPool}
-use Rattle.printed_text.specs.claim_history.specs.Pools.{IsLegal, entries_in, is_in}
+use Rattle.printed_text.specs.claim_history.specs.History.{MayFollowInPool, is_accepted}
+use Rattle.printed_text.specs.claim_history.specs.Pools.{AreValid, IsLegal, entries_in, is_in, ledger_in}
+use Rattle.printed_text.specs.claim_history.specs.Acts.{is_publication, is_valid}
+use Rattle.printed_text.specs.claim_history.specs.PoolRounds.{open_cut_in}
 use Rattle.printed_text.specs.claim_history.specs.Rounds.{open_cut, open_cut_of}
 use Rattle.printed_text.specs.claim_history.proofs.Greatest.{reply_published}
 use Rattle.printed_text.specs.claim_history.proofs.Pasts.{entry_of, legal_first}
-use Rattle.printed_text.specs.claim_history.proofs.Pools.{in_append, in_other, in_reverse, legal_in, past_own}
+use Rattle.printed_text.specs.claim_history.proofs.Pools.{in_append, in_reverse, legal_in, past_own, valid_in}
 use Rattle.printed_text.specs.claim_book.specs.Book.{ledger_of, position_in}
 use Rattle.printed_text.specs.firm_notices.specs.Tables.{HoldsText, csv_text}
 use Rattle.printed_text.specs.firm_notices.proofs.Growing.{one_more}
 use Rattle.printed_text.specs.round_cut.proofs.OpenCut.{open_formed_law}
-use Rattle.printed_text.proofs.Members.{one_more as next_member, whole}
-use Rattle.journal_summaries.specs.Account.{AccountRow, account_names, account_rows, added, is_listed, past_rows, register_text, row_fields, row_of, rows_of, rows_with, settled_by, taken}
-use Rattle.journal_summaries.specs.Replay.{IsCutOf, IsPublicationOf, cut_ended}
+use Rattle.journal_summaries.specs.Account.{AccountRow, account_names, account_rows, account_text, added, is_listed, no_firm_text, past_rows, register_text, row_fields, row_of, rows_of, rows_with, settled_by, taken}
+use Rattle.journal_summaries.specs.Replay.{EndsWith, IsCutOf, IsLast, IsPublicationOf, IsRegister, cut_ended}
+use Rattle.journal_summaries.specs.declared.firm_account.Register.{Register}
 use Rattle.journal_summaries.proofs.Listed.{listed_known}
+use Rattle.journal_summaries.proofs.Replayed.{ended_is}
+
+-- the element behind a list
+get_behind : (xs ys : List PoolEntry) (x : PoolEntry) → slice_get (xs ++ x ∷ ys) (length xs) ≡ Some x
+get_behind xs ys x =
+    slice_get-get_or (xs ++ x ∷ ys) (length xs) x (omega (arith, length-append xs (x ∷ ys))) ∙ ap (λ (y : PoolEntry). Some y) (get_or_at xs x ys x (length xs) refl)
 
 -- ---- the text
 
@@ -139,15 +149,6 @@ module _ (history : List Entry) (legal : one.IsLegalPool history) (valid : one.A
       let here : is_listed firm (open_cut_of history) (state (e ∷ reverse history)).ledger e ≡ true = subst (λ (p : List Entry). is_listed firm (open_cut_of history) (state p).ledger e ≡ true) past by_open in
       subst (λ (p : List Entry). is_registered (state p).ledger firm ≡ true) (sym past) (listed_known firm e (reverse history) (next, legal) here)
 
--- the entry of a member of a pool may stand next there
-pub may_follow : (history : List PoolEntry) (pool : List ℕ) (i : ℕ) (m : PoolEntry) → slice_get history i ≡ Some m → is_in pool m ≡ true → IsLegal history → MayFollowInPool (entries_in pool (take i history)) m.entry
-may_follow history pool i m is own legal =
-    let before = take i history in
-    let later = drop (i + 1) history in
-    let parts : entries_in pool history ≡ entries_in pool before ++ m.entry ∷ entries_in pool later =
-    ap (entries_in pool) (whole history i m is) ∙ in_append pool before (m ∷ later) ∙ ap (λ (es : List Entry). entries_in pool before ++ es) (past_own pool m later own) in
-    (legal_first (entries_in pool before) (entries_in pool later) m.entry (subst one.IsLegalPool parts (legal_in history pool legal))).0
-
 -- ---- one more row
 
 -- a row that was written behind any text stands behind the rows so far
@@ -158,38 +159,114 @@ rows_written (Ok done) old new written row same puts = λ rows held.
     subst (HoldsText new) (sym (row_more rows row)) (subst (λ (r : AccountRow). HoldsText new (register_text rows ++ row_text default_writer (row_fields r))) same (puts (register_text rows) held))
 rows_written (Err e) old new written row same puts = tt
 
--- ---- members in order
+-- ---- the last member
 
-module _ (pool firm : List ℕ) (members : List PoolEntry) (i : ℕ) (m : PoolEntry) (is : slice_get members i ≡ Some m) where
-  abbrev so_far : List AccountRow
-  so_far = account_rows pool firm (take i members)
+same_reverse : (xs ys : List PoolEntry) (x y : PoolEntry) → x ∷ reverse xs ≡ y ∷ reverse ys → (xs ≡ ys) × (x ≡ y)
+same_reverse xs ys x y same =
+    let rest : reverse xs ≡ reverse ys = cc same in
+    let head : x ≡ y = cc same in
+    (sym (reverse-reverse xs) ∙ ap reverse rest ∙ reverse-reverse ys, head)
 
-  -- the rows so far are written, and those with this member
-  abbrev HasRows : Writer (Vec ℕ Global) → Writer (Vec ℕ Global) → ℕ → Type 0
-  HasRows first table count = HoldsText first (register_text []) → HoldsText table (register_text (account_rows pool firm (take count members)))
+-- a history has one last member, behind the same members
+pub one_last : (xs ys : List PoolEntry) (x y : PoolEntry) → xs ++ x ∷ [] ≡ ys ++ y ∷ [] → (xs ≡ ys) × (x ≡ y)
+one_last xs ys x y same = same_reverse xs ys x y (sym (reverse-append xs (x ∷ [])) ∙ ap reverse same ∙ reverse-append ys (y ∷ []))
 
-  count_is : length (take i members) ≡ i
-  count_is = length-take-le i members (omega (arith, slice_get_within members i m is))
+module _ (history before : List PoolEntry) (last : PoolEntry) (parts : history ≡ before ++ last ∷ []) where
+  pub many_is : length history ≡ length before + 1
+  many_is = ap length parts ∙ length-append before (last ∷ [])
 
-  pub own_entries : (history later : List Entry) → is_in pool m ≡ true → history ≡ entries_in pool (take i members) → later ≡ history ++ m.entry ∷ [] → later ≡ entries_in pool (take (i + 1) members)
-  own_entries history later own history_is later_is =
-      later_is ∙ ap (λ (es : List Entry). es ++ m.entry ∷ []) history_is ∙ ap (λ (es : List Entry). entries_in pool (take i members) ++ es) (sym (past_own pool m [] own))
-      ∙ sym (in_append pool (take i members) (m ∷ [])) ∙ sym (ap (entries_in pool) (next_member members i m is))
+  pub last_is : (i : ℕ) (m : PoolEntry) → i + 1 ≡ length history → slice_get history i ≡ Some m → last ≡ m
+  last_is i m count is =
+      let place : length before ≡ i = omega (arith, many_is, count) in
+      let both : Some last ≡ Some m = sym (get_behind before [] last) ∙ ap (λ (n : ℕ). slice_get (before ++ last ∷ []) n) place ∙ ap (λ (h : List PoolEntry). slice_get h i) (sym parts) ∙ is in
+      cc both
 
-  pub own_written : (first old new : Writer (Vec ℕ Global)) (history : List Entry) → is_in pool m ≡ true → history ≡ entries_in pool (take i members) → HasRows first old i
-      → ((rows : List AccountRow) → HoldsText old (register_text rows) → HoldsText new (register_text (rows ++ rows_of firm (i + 1) (open_cut_of history) (ledger_of (history ++ m.entry ∷ [])) m.entry)))
-      → HasRows first new (i + 1)
-  own_written first old new history own history_is held puts =
-      let grown : account_rows pool firm (take (i + 1) members) ≡ so_far ++ rows_of firm (i + 1) (open_cut_of history) (ledger_of (history ++ m.entry ∷ [])) m.entry =
-      ap (account_rows pool firm) (next_member members i m is) ∙ rows_own pool firm (take i members) m own
-      ∙ ap (λ (n : ℕ). so_far ++ rows_of firm (n + 1) (open_cut_of (entries_in pool (take i members))) (ledger_of (entries_in pool (take i members) ++ m.entry ∷ [])) m.entry) count_is
-      ∙ ap (λ (es : List Entry). so_far ++ rows_of firm (i + 1) (open_cut_of es) (ledger_of (es ++ m.entry ∷ [])) m.entry) (sym history_is) in
-      λ start. subst (λ (rows : List AccountRow). HoldsText new (register_text rows)) (sym grown) (puts so_far (held start))
+  module _ (pool firm : List ℕ) where
+    pub other_rows : is_in pool last ≡ false → account_rows pool firm history ≡ account_rows pool firm before
+    other_rows other = ap (account_rows pool firm) parts ∙ rows_other pool firm before last other
 
-  pub other_entries : (history : List Entry) → is_in pool m ≡ false → history ≡ entries_in pool (take i members) → history ≡ entries_in pool (take (i + 1) members)
-  other_entries history other history_is = history_is ∙ sym (in_other (take i members) m pool other) ∙ sym (ap (entries_in pool) (next_member members i m is))
+    -- of the pool of the member
+    module _ (own : is_in pool last ≡ true) where
+      pub entries_are : entries_in pool history ≡ entries_in pool before ++ last.entry ∷ []
+      entries_are = ap (entries_in pool) parts ∙ in_append pool before (last ∷ []) ∙ ap (λ (es : List Entry). entries_in pool before ++ es) (past_own pool last [] own)
 
-  pub other_written : (first table : Writer (Vec ℕ Global)) → is_in pool m ≡ false → HasRows first table i → HasRows first table (i + 1)
-  other_written first table other held =
-      let same : account_rows pool firm (take (i + 1) members) ≡ so_far = ap (account_rows pool firm) (next_member members i m is) ∙ rows_other pool firm (take i members) m other in
-      λ start. subst (λ (rows : List AccountRow). HoldsText table (register_text rows)) (sym same) (held start)
+      -- its row, by the cut that is given
+      pub own_rows_are : (number : ℕ) (cut : Option CutView) (l : Ledger) → number ≡ length history → cut ≡ cut_ended (open_cut_of (entries_in pool before)) last.entry.reply → l ≡ ledger_of (entries_in pool history)
+          → account_rows pool firm history ≡ account_rows pool firm before ++ rows_of firm number cut l last.entry
+      own_rows_are number cut l number_is cut_is l_is =
+          let so_far = account_rows pool firm before in
+          let was_open = open_cut_of (entries_in pool before) in
+          let e = last.entry in
+          ap (account_rows pool firm) parts ∙ rows_own pool firm before last own
+          ∙ ap (λ (es : List Entry). so_far ++ rows_of firm (length before + 1) was_open (ledger_of es) e) (sym entries_are)
+          ∙ ap (λ (n : ℕ). so_far ++ rows_of firm n was_open (ledger_of (entries_in pool history)) e) (sym (number_is ∙ many_is))
+          ∙ ap (λ (x : Ledger). so_far ++ rows_of firm number was_open x e) (sym l_is)
+          ∙ ap (λ (rows : List AccountRow). so_far ++ rows) (sym (rows_ended firm number was_open l e.caller e.act e.reply))
+          ∙ ap (λ (c : Option CutView). so_far ++ rows_of firm number c l e) (sym cut_is)
+
+      module _ (cut : Option CutView) (legal : IsLegal history) (accepted : is_accepted last.entry ≡ true)
+          (cut_is : cut ≡ (if is_publication last.entry.act then open_cut_in before last.pool else None)) where
+        abbrev es : List Entry
+        es = entries_in pool before
+
+        may_follow : MayFollowInPool es last.entry × one.IsLegalPool es
+        may_follow = legal_first es [] last.entry (subst one.IsLegalPool entries_are (legal_in history pool legal))
+
+        -- the cut of the round that the entry ends by its reply
+        pub cut_ends : cut ≡ cut_ended (open_cut_of es) last.entry.reply
+        cut_ends =
+            let here : pool ≡ last.pool = (same_name_is pool last.pool).0 own in
+            cut_is ∙ ap (λ (p : List ℕ). if is_publication last.entry.act then open_cut_in before p else None) (sym here) ∙ ended_is es last.entry may_follow.0 accepted
+
+        pub is_last : AreValid history → IsLast (entries_in pool history) last.entry cut
+        is_last valid = record {
+          before = es;
+          parts = entries_are;
+          legal = may_follow.1;
+          valid = All-first (λ (e : Entry). is_valid e.act ≡ true) es (last.entry ∷ []) (subst one.AreValidEntries entries_are (valid_in history pool valid));
+          next = may_follow.0;
+          cut_is = cut_ends;
+        }
+
+-- ---- the member at the last place
+
+abbrev pub EndsAt : List PoolEntry → Option CutView → List PoolEntry → PoolEntry → Type 0
+EndsAt history cut before m = (history ≡ before ++ m ∷ []) × (is_accepted m.entry ≡ true) × (cut ≡ (if is_publication m.entry.act then open_cut_in before m.pool else None))
+
+module _ (history : List PoolEntry) (cut : Option CutView) (ends : EndsWith history cut) (len : ℕ) (len_is : len ≡ length history) (m : PoolEntry) (is : slice_get history (len - 1) ≡ Some m) where
+  pub ends_at : EndsAt history cut ends.before m
+  ends_at =
+      subst (EndsAt history cut ends.before) (last_is history ends.before ends.last ends.parts (len - 1) m (omega (arith, len_is, many_is history ends.before ends.last ends.parts)) is)
+      (ends.parts, ends.accepted, ends.cut_is)
+
+  module _ (pool firm : List ℕ) (before : List PoolEntry) (last : PoolEntry) (parts : history ≡ before ++ last ∷ []) (table : Writer (Vec ℕ Global))
+      (held : HoldsText table (register_text (account_rows pool firm before))) where
+    held_before : HoldsText table (register_text (account_rows pool firm ends.before))
+    held_before =
+        subst (λ (ms : List PoolEntry). HoldsText table (register_text (account_rows pool firm ms)))
+        (one_last before ends.before last ends.last (sym parts ∙ ends.parts)).0 held
+
+    pub other_held : is_in pool m ≡ false → HoldsText table (register_text (account_rows pool firm history))
+    other_held other = subst (λ (rows : List AccountRow). HoldsText table (register_text rows)) (sym (other_rows history ends.before m ends_at.0 pool firm other)) held_before
+
+    pub own_held : is_in pool m ≡ true → IsLegal history → (entries : List Entry) → entries ≡ entries_in pool history → (new : Writer (Vec ℕ Global))
+        → ((rows : List AccountRow) → HoldsText table (register_text rows) → HoldsText new (register_text (rows ++ rows_of firm len cut (ledger_of entries) m.entry)))
+        → HoldsText new (register_text (account_rows pool firm history))
+    own_held own legal entries entries_is new puts =
+        let at = ends_at in
+        let given = cut_ends history ends.before m at.0 pool firm own cut legal at.1 at.2 in
+        let grown = own_rows_are history ends.before m at.0 pool firm own len cut (ledger_of entries) len_is given (ap ledger_of entries_is) in
+        subst (λ (rows : List AccountRow). HoldsText new (register_text rows)) (sym grown) (puts (account_rows pool firm ends.before) held_before)
+
+-- ---- the text of a register
+
+-- that of a registered firm is its table
+pub text_is : (r : Register) (members : List PoolEntry) (result : Result (Vec ℕ Global) AllocError) → is_registered (ledger_in members r.pool) r.firm ≡ true
+    → IfOk result (λ bytes. (text : List ℕ) → HoldsText r.table text → bytes.items ≡ text)
+    → IfOk result (λ text. (pool firm : List ℕ) → IsRegister pool firm members r → text.items ≡ account_text pool firm members)
+text_is r members (Ok bytes) known gives = λ pool firm is.
+    let known_is : is_registered (ledger_in members pool) firm ≡ true =
+    sym (ap₂ (λ (p f : List ℕ). is_registered (ledger_in members p) f) is.pool_is is.firm_is) ∙ known in
+    gives (register_text (account_rows pool firm members)) is.rows
+    ∙ sym (ap (λ (b : Bool). if b then register_text (account_rows pool firm members) else no_firm_text firm) known_is)
+text_is r members (Err e) known gives = tt
