@@ -7,8 +7,8 @@
 //! there is a definition in `specs/` that says which status and which text are due; the sink takes that text, or some first bytes of it
 //! where it failed, and then the status is 4. No report writes to a disk.
 //!
-//! A table is made whole before it is printed, and the register of a firm while the journal is replayed. A history is printed as it is replayed, so that it takes no memory for its text; where
-//! memory is missing on the way, that is told behind what was printed.
+//! A table is made whole before it is printed; the register of a firm is written while the journal is replayed. A history is printed
+//! entry by entry, so that it takes no memory for its text; where memory is missing on the way, that is told behind what was printed.
 #![tactic(auto)]
 
 mod account;
