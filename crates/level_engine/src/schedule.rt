@@ -125,9 +125,9 @@ pub const LARGE: u64 = 256;
 /// Claims are of many sizes where one in so many is not large.
 pub const CLAIMS_BY_SIZE: usize = 32;
 
-/// They come by shares from where nothing is set off where one in so many is not large, and else, or where that is too long, from where
-/// the large claims are settled.
-pub const CLAIMS_BY_SHARES: usize = 2;
+/// They come by shares from where nothing is set off where at most one in so many is large, and else from where the large claims are
+/// settled.
+pub const CLAIMS_BY_SHARES: usize = 3;
 
 /// The work of the simplex that starts where a drain at first ended, before that, besides one for each `WHOLE_SQUARES` of the square of
 /// the nodes.
@@ -136,20 +136,36 @@ pub const DRAINED: u64 = 448;
 /// The work of one from risen prices before that.
 pub const RISEN: u64 = 640;
 
-/// The work of a simplex to which arcs come by shares, besides one for each `WHOLE_SQUARES` of the square of the nodes.
-pub const SHARED: u64 = 4_000;
+/// The work of a simplex to which arcs come by shares, for each arc that has come, besides one for each `WHOLE_SQUARES` of the square of
+/// the nodes.
+pub const SHARED: u64 = 30_000;
+
+/// And at most, for each arc of all, besides `SHARED_SQUARES` times the square of the nodes.
+pub const SHARED_MOST: u64 = 2_000;
+
+/// See `SHARED_MOST`.
+pub const SHARED_SQUARES: u64 = 8;
 
 /// They come in so many shares.
 pub const SHARES: usize = 16;
 
+/// Of each share, arcs are filled together as far as the tree lets them through: if not all of those that are left, one in so many.
+pub const FILLED_PART: usize = 4;
+
+/// But no fewer than so many.
+pub const FILLED_LEAST: usize = 16;
+
+/// Not after so few did not pass so many times in turn.
+pub const FILLED_IN_VAIN: usize = 8;
+
 /// After so many turns, each of twice as much work as the one before, the levels go on alone.
-pub const TURNS: u32 = 8;
+pub const TURNS: u32 = 10;
 
 /// The work of the first turn, besides `TURN_SQUARES` times the square of the nodes.
 pub const TURN: u64 = 500;
 
 /// See `TURN`.
-pub const TURN_SQUARES: u64 = 6;
+pub const TURN_SQUARES: u64 = 2;
 
 /// Arcs are priced in runs that stand together in the list of arcs, at first of so many.
 pub const RUN: usize = 16;

@@ -30,8 +30,8 @@ pub(crate) fn take_by_size(
     Ok(())
 }
 
-// A whole solution, where claims are of many sizes: one that a simplex finds soon from where the rest is drained, one by shares from where
-// nothing is set off, if most claims are small, or one from where the large claims are settled.
+// A whole solution, where claims are of many sizes: one that a simplex finds soon from where the rest is drained, or else one by shares
+// from where nothing is set off, if most claims are small, and if not, from where the large claims are settled.
 fn find_by_size(
     alloc: Global,
     state: &State,
@@ -54,12 +54,10 @@ fn find_by_size(
         return Ok(drained);
     }
     if sizes.are_mostly_small() {
-        let by_shares = find_by_shares(alloc, &start, &net)?;
-        if by_shares.is_some() {
-            return Ok(by_shares);
-        }
+        find_by_shares(alloc, &start, &net)
+    } else {
+        find_onward(alloc, &start, &net, sizes.least, turns)
     }
-    find_onward(alloc, &start, &net, sizes.least, turns)
 }
 
 // A whole solution by shares from where nothing is set off.
@@ -72,7 +70,7 @@ fn find_by_shares(
     let flows = none.flows(alloc, net, &[])?;
     let prices = vec![in alloc; 0i64; net.windows.len()]?;
     let found = Solution { flows, prices };
-    seek_onward(alloc, start, net.halves, &found, u64::MAX)
+    seek_onward(alloc, start, &found, u64::MAX)
 }
 
 // A whole solution from where the large claims are settled.
@@ -84,7 +82,7 @@ fn find_onward(
     turns: u32,
 ) -> Result<Option<Solution>, AllocError> {
     match solve_large(alloc, net, least, turns)? {
-        Some(found) => seek_onward(alloc, start, net.halves, &found, least),
+        Some(found) => seek_onward(alloc, start, &found, least),
         None => Ok(None),
     }
 }

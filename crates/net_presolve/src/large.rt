@@ -110,8 +110,8 @@ impl Sizes {
         0 < self.small && self.claims / CLAIMS_BY_SIZE <= self.small
     }
 
-    /// Whether so many claims are not large that they come by shares from where nothing is set off.
+    /// Whether so few claims are large that all come by shares from where nothing is set off.
     pub fn are_mostly_small(&self) -> bool {
-        self.claims / CLAIMS_BY_SHARES <= self.small
+        self.claims.saturating_sub(self.small) <= self.claims / CLAIMS_BY_SHARES
     }
 }

@@ -150,8 +150,14 @@ const CROSSED: [Owed; 5] = [
     (0, 2, 300),
 ];
 
-// The whole solution, from that of the ring alone.
-fn crossed_from_ring(rt: &impl Abort, alloc: Global, state: &State) -> Solution {
+// The whole solution, from that of the ring alone: so much on each of its claims, with these prices.
+fn found_from_ring(
+    rt: &impl Abort,
+    alloc: Global,
+    state: &State,
+    flow: u64,
+    prices: &[i64],
+) -> Solution {
     let begun = beginning_of(rt, alloc, state);
     let net = Unused {
         edges: &state.edges,
@@ -159,15 +165,15 @@ fn crossed_from_ring(rt: &impl Abort, alloc: Global, state: &State) -> Solution 
         windows: &begun.windows,
     };
     let sizes = Sizes::of(&net);
-    assert!(rt; sizes.are_many() && sizes.small == 2);
+    assert!(rt; sizes.are_many());
     let large = Large::of(alloc, &net, sizes.least).expect(rt, "memory");
-    assert!(rt; large.claims.len() == 3);
-    let ring = [998_000, 998_000, 998_000, 0, 0, 0];
+    assert!(rt; large.claims.len() == prices.len());
+    let ring = vec![in alloc; flow; prices.len()].expect(rt, "memory");
     let flows = large.flows(alloc, &net, &ring).expect(rt, "memory");
-    let prices = Vec::from_slice(alloc, &[0, 1, 2]).expect(rt, "memory");
+    let prices = Vec::from_slice(alloc, prices).expect(rt, "memory");
     let found = Solution { flows, prices };
     let start = start_of(state, &begun);
-    let whole = seek_onward(alloc, &start, &begun.halves, &found, sizes.least).expect(rt, "memory");
+    let whole = seek_onward(alloc, &start, &found, sizes.least).expect(rt, "memory");
     whole.expect(rt, "a solution")
 }
 
@@ -180,9 +186,16 @@ fn sum(flows: &[u64]) -> u64 {
 }
 
 // Whether it is taken, and sets off so much.
-fn is_crossed(rt: &impl Abort, alloc: Global, net: &netting_graph::Net, total: u64) -> bool {
+fn is_set_off(
+    rt: &impl Abort,
+    alloc: Global,
+    net: &netting_graph::Net,
+    flow: u64,
+    prices: &[i64],
+    total: u64,
+) -> bool {
     let mut state = state_of_net(alloc, net).expect(rt, "memory");
-    let Solution { flows, prices } = crossed_from_ring(rt, alloc, &state);
+    let Solution { flows, prices } = found_from_ring(rt, alloc, &state, flow, prices);
     let is_all = sum(&flows) == total;
     is_all && adopt(alloc, &mut state, flows, prices).expect(rt, "memory")
 }
@@ -194,5 +207,41 @@ fn small_claims_come_behind_large_ones(rt: HostRuntime) {
     let cut = cut_of(&rt, alloc, Kind::Plain, &[(0, 0); 3], &CROSSED);
     assert!(rt; cut.well_formed());
     let net = netting_graph::Net::of(alloc, &cut).expect(&rt, "memory");
-    assert!(rt; is_crossed(&rt, alloc, &net, 2_995_000));
+    assert!(rt; is_set_off(&rt, alloc, &net, 998_000, &[0, 1, 2], 2_995_000));
+}
+
+// A ring of 20 firms, whose first claim holds least, and for each of the others a small claim back.
+fn ring_with_small(rt: &impl Abort, alloc: Global) -> Vec<Owed> {
+    let mut owed = Vec::new(alloc);
+    owed.push((0, 1, 1_000_000)).expect(rt, "memory");
+    for firm in 1..20u32 {
+        let next = (firm + 1) % 20;
+        owed.push((firm, next, 1_010_000)).expect(rt, "memory");
+        owed.push((next, firm, 10 + u64::from(firm)))
+            .expect(rt, "memory");
+    }
+    owed
+}
+
+// Its prices, at which the first claim alone gains.
+fn ring_prices(rt: &impl Abort, alloc: Global) -> Vec<i64> {
+    let mut prices = Vec::new(alloc);
+    prices.push(20).expect(rt, "memory");
+    for firm in 1..20u32 {
+        prices.push(i64::from(firm)).expect(rt, "memory");
+    }
+    prices
+}
+
+// The small claims come in shares of five, and each share is filled at once. They hold 3.80 together, and the ring takes as much more.
+#[test]
+fn a_share_is_filled_at_once(rt: HostRuntime) {
+    let alloc = rt.alloc();
+    let owed = ring_with_small(&rt, alloc);
+    assert!(rt; total_of(&rt, alloc, Kind::Plain, &[(0, 0); 20], &owed) == 20_000_760);
+    let cut = cut_of(&rt, alloc, Kind::Plain, &[(0, 0); 20], &owed);
+    assert!(rt; cut.well_formed());
+    let net = netting_graph::Net::of(alloc, &cut).expect(&rt, "memory");
+    let prices = ring_prices(&rt, alloc);
+    assert!(rt; is_set_off(&rt, alloc, &net, 1_000_000, &prices, 20_000_760));
 }

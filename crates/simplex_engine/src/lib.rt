@@ -6,7 +6,8 @@
 //! and moves and no time, so the answer is the same on each machine. Nothing is proved of the solution but that it comes, or none:
 //! `adopt` of `residual_state` tests it.
 //!
-//! A simplex may also go on from where the large claims are set off. The other arcs come to it by shares, those that hold most first.
+//! A simplex may also go on from where the large claims are set off. The other arcs come to it by shares, those that hold most first, and
+//! what the tree lets through of a share is filled at once.
 //!
 //! Its words: an arc is bad where flow would gain by leaving the bound that it is at; the tree joins all nodes to a root that no
 //! claim has; a pivot brings a bad arc into the tree, moves what the circle holds, and lets another arc go. The rules are those of
@@ -16,6 +17,7 @@
 mod buckets;
 mod candidates;
 mod draining;
+mod filling;
 mod ranking;
 mod shares;
 mod simplex;

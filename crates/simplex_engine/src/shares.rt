@@ -3,7 +3,7 @@ use crate::ranking::largest_first;
 use crate::simplex::Simplex;
 use crate::turns::{Solution, node_prices};
 use loose_places::{at, put};
-use spanning_tree::schedule::SHARES;
+use spanning_tree::schedule::{SHARED, SHARED_MOST, SHARED_SQUARES, SHARES, WHOLE_SQUARES};
 use spanning_tree::{Edge, Halves};
 use std::alloc::{AllocError, Global};
 
@@ -62,24 +62,34 @@ impl Shares {
         self.simplex.open(self.open);
     }
 
-    // Opens the next share of the arcs.
-    fn open_more(&mut self) {
+    // Opens the next share of the arcs, and fills of these what can be filled together.
+    fn open_more(&mut self, alloc: Global) -> Result<(), AllocError> {
+        let before = self.open;
         let share = (self.edges.len() / SHARES).saturating_add(1);
-        self.open_to(self.open.saturating_add(share));
+        self.open_to(before.saturating_add(share));
+        self.simplex.fill(alloc, &self.edges, before, self.open)
     }
 
-    // Goes on for so much work. Whether all arcs are open, and none is bad any more.
-    pub(crate) fn run(&mut self, work: u64) -> Result<bool, AllocError> {
-        let most = self.simplex.work().saturating_add(work);
+    // How much work may be done before more arcs are opened, with this for the square of the nodes.
+    fn most_work(&self, square: u64) -> u64 {
+        let open = (self.open as u64).saturating_mul(SHARED);
+        let all = (self.edges.len() as u64).saturating_mul(SHARED_MOST);
+        let most = all.saturating_add(square.saturating_mul(SHARED_SQUARES));
+        open.saturating_add(square / WHOLE_SQUARES).min(most)
+    }
+
+    // Goes on for as much work as the open arcs allow, with this for the square of the nodes. Whether all arcs are open, and none is bad
+    // any more.
+    pub(crate) fn run(&mut self, alloc: Global, square: u64) -> Result<bool, AllocError> {
         for _ in 0..SHARES.saturating_add(1) {
-            let left = most.saturating_sub(self.simplex.work());
+            let left = self.most_work(square).saturating_sub(self.simplex.work());
             if !self.simplex.run(&self.edges, &self.halves, left)? {
                 return Ok(false);
             }
             if self.edges.len() <= self.open {
                 return Ok(true);
             }
-            self.open_more();
+            self.open_more(alloc)?;
         }
         Ok(false)
     }

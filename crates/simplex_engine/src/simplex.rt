@@ -1,5 +1,6 @@
 //! A network simplex.
 use crate::candidates::Candidates;
+use crate::filling::Filling;
 use loose_places::{at, put, short, small};
 use spanning_tree::{
     Arc, Branch, Circle, Edge, Halves, MUCH, NO_ARC, NOBODY, Part, Start, Tree, arcs_of, own_code,
@@ -83,6 +84,20 @@ impl Simplex {
     // Lets only the first so many arcs enter.
     pub(crate) fn open(&mut self, arcs: usize) {
         self.candidates.open(arcs);
+    }
+
+    // Fills or empties many bad arcs at once, of those from one place to before another, where the tree lets them through.
+    pub(crate) fn fill(
+        &mut self,
+        alloc: Global,
+        edges: &[Edge],
+        first: usize,
+        end: usize,
+    ) -> Result<(), AllocError> {
+        let mut filling = Filling::new(alloc, &self.arcs, &self.tree, first, end)?;
+        filling.run(&mut self.arcs, edges, &mut self.tree);
+        self.candidates.work = self.candidates.work.saturating_add(filling.work);
+        Ok(())
     }
 
     // How much work was done.

@@ -4,7 +4,7 @@ use crate::shares::Shares;
 use crate::simplex::Simplex;
 use loose_places::narrow;
 use spanning_tree::schedule::{
-    ALONE, DRAIN, DRAIN_BRIEF, DRAINED, FAR_OF, FAR_PARTS, FEW_HALVES, FULL_TRIAL, SHARED, SLICE,
+    ALONE, DRAIN, DRAIN_BRIEF, DRAINED, FAR_OF, FAR_PARTS, FEW_HALVES, FULL_TRIAL, SLICE,
     SLICE_MORE, SLICE_MOST, SLICES, SPARSE_HALVES, SPARSE_TRIAL, TURN, TURN_SQUARES, Trial, WARM,
     WHOLE, WHOLE_SQUARES,
 };
@@ -140,12 +140,11 @@ pub fn seek_drained(
 pub fn seek_onward(
     alloc: Global,
     start: &Start,
-    halves: &Halves,
     found: &Solution,
     least: u64,
 ) -> Result<Option<Solution>, AllocError> {
     let mut shares = Shares::new(alloc, start.edges, start.windows, found, least)?;
-    if !shares.run(work_of(start, halves, SHARED))? {
+    if !shares.run(alloc, square_of(start))? {
         return Ok(None);
     }
     let flows = shares.flows(alloc, claims_of(start), start.windows)?;
@@ -160,9 +159,14 @@ fn claims_of(start: &Start) -> usize {
 
 // So much work for each half, and a share of the square of the nodes.
 fn work_of(start: &Start, halves: &Halves, each: u64) -> u64 {
-    let nodes = start.excess.len() as u64;
     let work = (halves.len() as u64).saturating_mul(each);
-    work.saturating_add(nodes.saturating_mul(nodes) / WHOLE_SQUARES)
+    work.saturating_add(square_of(start) / WHOLE_SQUARES)
+}
+
+// The square of the nodes.
+fn square_of(start: &Start) -> u64 {
+    let nodes = start.excess.len() as u64;
+    nodes.saturating_mul(nodes)
 }
 
 /// A solution on these arcs alone, with the flows of the windows' arcs at which no balance changes, if one is found in time.
