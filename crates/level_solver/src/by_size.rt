@@ -3,8 +3,8 @@ ghost use Rattle.std.specs.Prelude.{OnOk};
 ghost use Rattle.flow_solver.specs.residual_state.specs.States.{IsState, StaysOn};
 
 use crate::inner_state::{parties_of, solution_of, start_at, state_of};
-use crate::settling::settle_at_once;
-use flow_solver::{State, adopt, surplus_of};
+use crate::settling::{settle_at_once, take_found};
+use flow_solver::{State, surplus_of};
 use net_presolve::{Large, Sizes, Unused};
 use simplex_engine::schedule::SPARSE_HALVES;
 use simplex_engine::{Halves, Solution, Start, seek_drained, seek_onward};
@@ -24,10 +24,8 @@ pub(crate) fn take_by_size(
     if turns == 0 || surplus_of(&state.excess) == 0 {
         return Ok(());
     }
-    if let Some(Solution { flows, prices }) = find_by_size(alloc, state, halves, windows, turns)? {
-        let _ = adopt(alloc, state, flows, prices)?;
-    }
-    Ok(())
+    let found = find_by_size(alloc, state, halves, windows, turns)?;
+    take_found(alloc, state, found)
 }
 
 // A whole solution, where claims are of many sizes: one that a simplex finds soon from where the rest is drained, or else one by shares

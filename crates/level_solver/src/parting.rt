@@ -3,8 +3,8 @@ ghost use Rattle.std.specs.Prelude.{OnOk};
 ghost use Rattle.flow_solver.specs.residual_state.specs.States.{IsState, StaysOn};
 
 use crate::inner_state::{parties_of, solution_of, start_at, state_of};
-use crate::settling::settle_whole;
-use flow_solver::{State, adopt, surplus_of};
+use crate::settling::{settle_whole, take_found};
+use flow_solver::{State, surplus_of};
 use net_presolve::{Inner, Parts, Series, Sizes, Unused, risen};
 use setoff_model::Party;
 use simplex_engine::schedule::{DENSE_HALVES, RISEN};
@@ -25,10 +25,8 @@ pub(crate) fn take_parts(
     if turns == 0 || halves.len() / DENSE_HALVES > windows.len() || surplus_of(&state.excess) == 0 {
         return Ok(());
     }
-    if let Some(Solution { flows, prices }) = find_in_parts(alloc, state, halves, windows, turns)? {
-        let _ = adopt(alloc, state, flows, prices)?;
-    }
-    Ok(())
+    let found = find_in_parts(alloc, state, halves, windows, turns)?;
+    take_found(alloc, state, found)
 }
 
 // A whole solution that is put together of those of the parts, where many claims are between parts, or else of series, or one from

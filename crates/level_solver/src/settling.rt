@@ -157,10 +157,8 @@ fn take_cold(
     if !now || turns == 0 || surplus_of(&state.excess) == 0 {
         return Ok(());
     }
-    if let Some(Solution { flows, prices }) = find_cold(alloc, state, halves, windows)? {
-        let _ = adopt(alloc, state, flows, prices)?;
-    }
-    Ok(())
+    let found = find_cold(alloc, state, halves, windows)?;
+    take_found(alloc, state, found)
 }
 
 // Goes from one level of prices to the next until no node has an excess above 0.
@@ -199,8 +197,21 @@ fn take_solution(
     if surplus_of(&state.excess) == 0 {
         return Ok(());
     }
-    if let Some(Solution { flows, prices }) = find_solution(alloc, state, halves, windows, turns)? {
-        let _ = adopt(alloc, state, flows, prices)?;
+    let found = find_solution(alloc, state, halves, windows, turns)?;
+    take_found(alloc, state, found)
+}
+
+// Takes a whole solution, where one was found that proves.
+pub(crate) fn take_found(
+    alloc: Global,
+    state: &mut State,
+    found: Option<Solution>,
+) -> Result<(), AllocError>
+    requires { IsState state.old }
+    ensures { OnOk result (StaysOn state.old state.new) }
+{
+    if let Some(Solution { flows, prices }) = found {
+        let _taken = adopt(alloc, state, flows, prices)?;
     }
     Ok(())
 }
