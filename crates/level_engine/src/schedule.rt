@@ -141,10 +141,10 @@ pub const RISEN: u64 = 640;
 pub const SHARED: u64 = 30_000;
 
 /// And at most, for each arc of all, besides `SHARED_SQUARES` times the square of the nodes.
-pub const SHARED_MOST: u64 = 2_000;
+pub const SHARED_MOST: u64 = 3_000;
 
 /// See `SHARED_MOST`.
-pub const SHARED_SQUARES: u64 = 8;
+pub const SHARED_SQUARES: u64 = 12;
 
 /// They come in so many shares.
 pub const SHARES: usize = 16;
