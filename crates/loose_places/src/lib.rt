@@ -7,5 +7,5 @@
 mod numbers;
 mod places;
 
-pub use numbers::{narrow, short, small};
+pub use numbers::{narrow, near, short, small};
 pub use places::{at, count_at, fill, put};

@@ -31,3 +31,14 @@ pub fn narrow(number: i128) -> i64 {
         MOST
     }
 }
+
+/// The number, or the nearest of the type.
+pub fn near(number: i64) -> i32 {
+    if number < i64::from(i32::MIN) {
+        i32::MIN
+    } else if number < i64::from(i32::MAX) {
+        number as i32
+    } else {
+        i32::MAX
+    }
+}

@@ -43,7 +43,7 @@ impl Unused<'_> {
         let window = ((half.code / 2) as usize).wrapping_sub(self.claims());
         let flow = at(self.windows, window, 0);
         if half.code % 2 == 0 {
-            flow < half.capacity
+            flow == 0 || flow < self.halves.capacity(&half)
         } else {
             0 < flow
         }
