@@ -125,9 +125,12 @@ pub const LARGE: u64 = 256;
 /// Claims are of many sizes where one in so many is not large.
 pub const CLAIMS_BY_SIZE: usize = 32;
 
-/// They come by shares from where nothing is set off where at most one in so many is large, and else from where the large claims are
-/// settled.
+/// All come by shares where at most one in so many is large, and else those that are not, from where the large claims are settled.
 pub const CLAIMS_BY_SHARES: usize = 3;
+
+/// They come by shares from where nothing is set off before the levels, too, with at most so many halves for each node, and more than
+/// `FEW_HALVES`.
+pub const SHARES_HALVES: usize = 12;
 
 /// The work of the simplex that starts where a drain at first ended, before that, besides one for each `WHOLE_SQUARES` of the square of
 /// the nodes.
@@ -136,18 +139,48 @@ pub const DRAINED: u64 = 448;
 /// The work of one from risen prices before that.
 pub const RISEN: u64 = 640;
 
-/// The work of a simplex to which arcs come by shares, for each arc that has come, besides one for each `WHOLE_SQUARES` of the square of
-/// the nodes.
-pub const SHARED: u64 = 30_000;
-
-/// And at most, for each arc of all, besides `SHARED_SQUARES` times the square of the nodes.
-pub const SHARED_MOST: u64 = 3_000;
+/// The work of a simplex to which small arcs come by shares, for each arc, and for each `SHARED_SQUARES` of the square of the nodes.
+pub const SHARED_MOST: u64 = 4_500;
 
 /// See `SHARED_MOST`.
-pub const SHARED_SQUARES: u64 = 12;
+pub const SHARED_SQUARES: u64 = 400;
 
-/// They come in so many shares.
-pub const SHARES: usize = 16;
+/// The same of one to which all come by shares from where nothing is set off, before the levels.
+pub const SHARED_EARLY: u64 = 400;
+
+/// The same of the two to which all come by shares where the levels stall: from where nothing is set off, and from where these stand.
+#[derive(Clone, Copy)]
+pub struct ShareTurn {
+    /// So much in all for the first.
+    pub cold: u64,
+    /// And for the second.
+    pub warm: u64,
+}
+
+/// They go by these turns.
+pub const SHARE_TURNS: [ShareTurn; 3] = [
+    ShareTurn {
+        cold: 40,
+        warm: 350,
+    },
+    ShareTurn {
+        cold: 450,
+        warm: 1_000,
+    },
+    ShareTurn {
+        cold: 2_500,
+        warm: 2_000,
+    },
+];
+
+/// Arcs come in so many shares.
+pub const SHARES: usize = 8;
+
+/// The work, for each of all these arcs, behind which it is asked whether the open ones still bring in excess.
+pub const SHARE_SLICE: u64 = 100;
+
+/// They do no longer where less than one cent in so many of what was left came in meanwhile.
+pub const SHARE_GAIN: u64 = 64;
 
 /// Of each share, arcs are filled together as far as the tree lets them through: if not all of those that are left, one in so many.
 pub const FILLED_PART: usize = 4;

@@ -6,8 +6,10 @@ use crate::inner_state::{parties_of, solution_of, start_at, state_of};
 use crate::settling::{settle_at_once, take_found};
 use flow_solver::{State, surplus_of};
 use net_presolve::{Large, Sizes, Unused};
-use simplex_engine::schedule::SPARSE_HALVES;
-use simplex_engine::{Halves, Solution, Start, seek_drained, seek_onward};
+use simplex_engine::schedule::{FEW_HALVES, SHARES_HALVES, SPARSE_HALVES};
+use simplex_engine::{
+    Halves, Solution, Start, seek_by_shares, seek_cold_by_shares, seek_drained, seek_onward,
+};
 use std::alloc::{AllocError, Global};
 
 // Takes a whole solution that is found by the sizes of the claims, where any excess is left and there are turns.
@@ -28,8 +30,50 @@ pub(crate) fn take_by_size(
     take_found(alloc, state, found)
 }
 
-// A whole solution, where claims are of many sizes: one that a simplex finds soon from where the rest is drained, or else one by shares
-// from where nothing is set off, if most claims are small, and if not, from where the large claims are settled.
+// Takes a whole solution that is found by shares from where nothing is set off, where any excess is left.
+pub(crate) fn take_by_shares(
+    alloc: Global,
+    state: &mut State,
+    halves: &Halves,
+    windows: &[u64],
+) -> Result<(), AllocError>
+    requires { IsState state.old }
+    ensures { OnOk result (StaysOn state.old state.new) }
+{
+    if surplus_of(&state.excess) == 0 {
+        return Ok(());
+    }
+    let found = find_cold_by_shares(alloc, state, halves, windows)?;
+    take_found(alloc, state, found)
+}
+
+// A whole solution by shares from where nothing is set off, where nodes have neither few halves nor many, and claims are of many sizes and
+// most of them small.
+fn find_cold_by_shares(
+    alloc: Global,
+    state: &State,
+    halves: &Halves,
+    windows: &[u64],
+) -> Result<Option<Solution>, AllocError> {
+    let (many, nodes) = (halves.len(), windows.len());
+    if many / FEW_HALVES <= nodes || nodes < many / SHARES_HALVES {
+        return Ok(None);
+    }
+    let net = Unused {
+        edges: &state.edges,
+        halves,
+        windows,
+    };
+    let sizes = Sizes::of(&net);
+    if sizes.are_many() && sizes.are_mostly_small() {
+        seek_cold_by_shares(alloc, &start_at(state, windows))
+    } else {
+        Ok(None)
+    }
+}
+
+// A whole solution, where claims are of many sizes: one that a simplex finds soon from where the rest is drained, or else one by shares, if
+// most claims are small, and if not, one from where the large claims are settled.
 fn find_by_size(
     alloc: Global,
     state: &State,
@@ -52,23 +96,10 @@ fn find_by_size(
         return Ok(drained);
     }
     if sizes.are_mostly_small() {
-        find_by_shares(alloc, &start, &net)
+        seek_by_shares(alloc, &start)
     } else {
         find_onward(alloc, &start, &net, sizes.least, turns)
     }
-}
-
-// A whole solution by shares from where nothing is set off.
-fn find_by_shares(
-    alloc: Global,
-    start: &Start,
-    net: &Unused,
-) -> Result<Option<Solution>, AllocError> {
-    let none = Large::of(alloc, net, u64::MAX)?;
-    let flows = none.flows(alloc, net, &[])?;
-    let prices = vec![in alloc; 0i64; net.windows.len()]?;
-    let found = Solution { flows, prices };
-    seek_onward(alloc, start, &found, u64::MAX)
 }
 
 // A whole solution from where the large claims are settled.

@@ -3,7 +3,7 @@ ghost use Rattle.std.specs.Prelude.{◌<◌, ℕ, OnOk, length, pos, ◌≤ℤ�
 ghost use Rattle.flow_solver.specs.residual_state.specs.Excesses.{excess_of};
 ghost use Rattle.flow_solver.specs.residual_state.specs.States.{IsState, StaysOn};
 
-use crate::by_size::take_by_size;
+use crate::by_size::{take_by_shares, take_by_size};
 use crate::inner_state::start_at;
 use crate::levels::{all_levels, first_levels};
 use crate::parting::take_parts;
@@ -142,7 +142,8 @@ fn levels_before_cold(halves: usize, nodes: usize) -> usize {
     }
 }
 
-// Takes a whole solution that is found from where nothing is set off, where it is time, any excess is left, and there are turns.
+// Takes a whole solution that is found from where nothing is set off, by all claims or by shares, where it is time, any excess is left,
+// and there are turns.
 fn take_cold(
     alloc: Global,
     state: &mut State,
@@ -158,7 +159,8 @@ fn take_cold(
         return Ok(());
     }
     let found = find_cold(alloc, state, halves, windows)?;
-    take_found(alloc, state, found)
+    take_found(alloc, state, found)?;
+    take_by_shares(alloc, state, halves, windows)
 }
 
 // Goes from one level of prices to the next until no node has an excess above 0.

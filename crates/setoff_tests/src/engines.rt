@@ -6,7 +6,9 @@ use level_engine::Halves;
 use net_presolve::{Inner, Large, Parts, Sizes, Unused};
 use residual_state::{State, adopt};
 use setoff_model::Kind;
-use simplex_engine::{Solution, Start, seek_onward, seek_solution};
+use simplex_engine::{
+    Solution, Start, seek_by_shares, seek_cold_by_shares, seek_onward, seek_solution,
+};
 use std::alloc::Global;
 use std::process::Abort;
 
@@ -244,4 +246,29 @@ fn a_share_is_filled_at_once(rt: HostRuntime) {
     let net = netting_graph::Net::of(alloc, &cut).expect(&rt, "memory");
     let prices = ring_prices(&rt, alloc);
     assert!(rt; is_set_off(&rt, alloc, &net, 1_000_000, &prices, 20_000_760));
+}
+
+// What is found where all claims come by shares. From where nothing is set off alone as much is found.
+fn found_by_shares(rt: &impl Abort, alloc: Global, state: &State) -> Solution {
+    let begun = beginning_of(rt, alloc, state);
+    let start = start_of(state, &begun);
+    let cold = seek_cold_by_shares(alloc, &start).expect(rt, "memory");
+    let cold = cold.expect(rt, "a solution");
+    let found = seek_by_shares(alloc, &start).expect(rt, "memory");
+    let found = found.expect(rt, "a solution");
+    assert!(rt; sum(&cold.flows) == sum(&found.flows));
+    found
+}
+
+#[test]
+fn all_claims_come_by_shares(rt: HostRuntime) {
+    let alloc = rt.alloc();
+    let owed = ring_with_small(&rt, alloc);
+    let cut = cut_of(&rt, alloc, Kind::Plain, &[(0, 0); 20], &owed);
+    assert!(rt; cut.well_formed());
+    let net = netting_graph::Net::of(alloc, &cut).expect(&rt, "memory");
+    let mut state = state_of_net(alloc, &net).expect(&rt, "memory");
+    let Solution { flows, prices } = found_by_shares(&rt, alloc, &state);
+    assert!(rt; sum(&flows) == 20_000_760);
+    assert!(rt; adopt(alloc, &mut state, flows, prices).expect(&rt, "memory"));
 }

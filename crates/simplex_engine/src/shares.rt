@@ -1,18 +1,19 @@
 //! A simplex whose arcs come by shares, those that hold most first.
 use crate::ranking::largest_first;
 use crate::simplex::Simplex;
-use crate::turns::{Solution, node_prices};
+use crate::turns::{Start, cents, node_prices};
 use loose_places::{at, put};
-use spanning_tree::schedule::{SHARED, SHARED_MOST, SHARED_SQUARES, SHARES, WHOLE_SQUARES};
+use spanning_tree::schedule::{SHARE_GAIN, SHARE_SLICE, SHARED_SQUARES, SHARES};
 use spanning_tree::{Edge, Halves};
 use std::alloc::{AllocError, Global};
 
-// A simplex from where the large claims are set off, over arcs of its own: those of claims, and for each window one to the ground, for
-// what the balance may rise by, and one from it, for what it may fall by. Pieces are the places of these, and stand in the order of the
-// arcs. The first arcs are open: no other may enter.
+// A simplex over arcs of its own: those of claims, and for each window one to the ground, for what the balance may rise by, and one from
+// it, for what it may fall by. Pieces are the places of these, and stand in the order of the arcs. The first arcs are open: no other may
+// enter.
 //
 // Where the largest arcs are at rest, a smaller one mostly holds less than any arc of the tree, so that it is filled at once, and the tree
-// stays as it is. In any other order nearly each claim that a circle passes is filled and emptied many times.
+// stays as it is. In any other order nearly each claim that a circle passes is filled and emptied many times. Excess too is brought in over
+// the largest arcs first, where few ways hold all of it.
 #[derive(Drop)]
 pub(crate) struct Shares {
     edges: Vec<Edge>,
@@ -31,20 +32,15 @@ const NO_EDGE: Edge = Edge {
 };
 
 impl Shares {
-    // A simplex over these arcs, from the flow of each and the price of each party. The arcs that hold at least so much are open.
-    pub(crate) fn new(
-        alloc: Global,
-        edges: &[Edge],
-        windows: &[u64],
-        found: &Solution,
-        least: u64,
-    ) -> Result<Shares, AllocError> {
-        let amounts = amounts_of(alloc, edges, windows)?;
+    // A simplex from a start. The arcs that hold at least so much are open.
+    pub(crate) fn new(alloc: Global, start: &Start, least: u64) -> Result<Shares, AllocError> {
+        let amounts = amounts_of(alloc, start.edges, start.windows)?;
         let pieces = largest_first(alloc, &amounts)?;
-        let edges = edges_of(alloc, edges, windows.len(), &amounts, &pieces)?;
-        let halves = Halves::of(alloc, &edges, windows.len().saturating_add(1))?;
-        let flows = flows_of(alloc, windows, &found.flows, &pieces)?;
-        let simplex = simplex_from(alloc, &edges, &halves, flows, &found.prices)?;
+        let parties = start.windows.len();
+        let edges = edges_of(alloc, start.edges, parties, &amounts, &pieces)?;
+        let halves = Halves::of(alloc, &edges, parties.saturating_add(1))?;
+        let flows = flows_of(alloc, start.windows, start.flows, &pieces)?;
+        let simplex = simplex_from(alloc, &edges, &halves, flows, start)?;
         let mut shares = Shares {
             edges,
             pieces,
@@ -65,31 +61,40 @@ impl Shares {
     // Opens the next share of the arcs, and fills of these what can be filled together.
     fn open_more(&mut self, alloc: Global) -> Result<(), AllocError> {
         let before = self.open;
+        if self.edges.len() <= before {
+            return Ok(());
+        }
         let share = (self.edges.len() / SHARES).saturating_add(1);
         self.open_to(before.saturating_add(share));
         self.simplex.fill(alloc, &self.edges, before, self.open)
     }
 
-    // How much work may be done before more arcs are opened, with this for the square of the nodes.
-    fn most_work(&self, square: u64) -> u64 {
-        let open = (self.open as u64).saturating_mul(SHARED);
-        let all = (self.edges.len() as u64).saturating_mul(SHARED_MOST);
-        let most = all.saturating_add(square.saturating_mul(SHARED_SQUARES));
-        open.saturating_add(square / WHOLE_SQUARES).min(most)
-    }
-
-    // Goes on for as much work as the open arcs allow, with this for the square of the nodes. Whether all arcs are open, and none is bad
-    // any more.
-    pub(crate) fn run(&mut self, alloc: Global, square: u64) -> Result<bool, AllocError> {
-        for _ in 0..SHARES.saturating_add(1) {
-            let left = self.most_work(square).saturating_sub(self.simplex.work());
-            if !self.simplex.run(&self.edges, &self.halves, left)? {
+    // Goes on until so much work is done for each arc, and for each `SHARED_SQUARES` of the square of the nodes. Whether all arcs are open,
+    // and none is bad any more.
+    pub(crate) fn run(
+        &mut self,
+        alloc: Global,
+        square: u64,
+        work: u64,
+    ) -> Result<bool, AllocError> {
+        let all = (self.edges.len() as u64).saturating_add(square / SHARED_SQUARES);
+        let most = all.saturating_mul(work);
+        let slice = (self.edges.len() as u64).saturating_mul(SHARE_SLICE);
+        let mut before = u64::MAX;
+        for _ in 0..u32::MAX {
+            let work = most.saturating_sub(self.simplex.work()).min(slice);
+            if work == 0 {
                 return Ok(false);
             }
-            if self.edges.len() <= self.open {
+            let over = self.simplex.run(&self.edges, &self.halves, work)?;
+            if over && self.edges.len() <= self.open {
                 return Ok(true);
             }
-            self.open_more(alloc)?;
+            let left = self.simplex.still_outside();
+            if over || is_stuck(before, left) {
+                self.open_more(alloc)?;
+            }
+            before = left;
         }
         Ok(false)
     }
@@ -116,16 +121,21 @@ impl Shares {
     }
 }
 
-// A simplex from these flows and the price of each party, where no node has any excess.
+// Whether the open arcs hardly bring in any more of the excess: in the last slice less than one cent in so many of what was left.
+fn is_stuck(before: u64, left: u64) -> bool {
+    0 < left && before.saturating_sub(before / SHARE_GAIN) <= left
+}
+
+// A simplex over these arcs, from the flow of each, and from the prices and the excess of a start.
 fn simplex_from(
     alloc: Global,
     edges: &[Edge],
     halves: &Halves,
     flows: Vec<u64>,
-    prices: &[i64],
+    start: &Start,
 ) -> Result<Simplex, AllocError> {
-    let prices = node_prices(alloc, prices)?;
-    let excess = vec![in alloc; 0i64; prices.len()]?;
+    let prices = node_prices(alloc, start.prices)?;
+    let excess = cents(alloc, start.excess)?;
     let mut simplex = Simplex::new(alloc, edges, halves, flows, &prices, excess)?;
     simplex.stop_looking();
     simplex.lengthen_runs();

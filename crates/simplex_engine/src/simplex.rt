@@ -100,6 +100,19 @@ impl Simplex {
         Ok(())
     }
 
+    // How many cents of the excess that the tree has taken are still on arcs to the root.
+    pub(crate) fn still_outside(&self) -> u64 {
+        let root = self.tree.root();
+        let mut cents = 0u64;
+        for node in 0..self.excess.len() {
+            let own = self.tree.node(small(node));
+            if own.parent == root {
+                cents = cents.saturating_add(own.up.min(own.down));
+            }
+        }
+        cents
+    }
+
     // How much work was done.
     pub(crate) fn work(&self) -> u64 {
         self.candidates.work

@@ -2,11 +2,11 @@
 use crate::draining::Drain;
 use crate::shares::Shares;
 use crate::simplex::Simplex;
-use loose_places::narrow;
+use loose_places::{narrow, near};
 use spanning_tree::schedule::{
-    ALONE, DRAIN, DRAIN_BRIEF, DRAINED, FAR_OF, FAR_PARTS, FEW_HALVES, FULL_TRIAL, SLICE,
-    SLICE_MORE, SLICE_MOST, SLICES, SPARSE_HALVES, SPARSE_TRIAL, TURN, TURN_SQUARES, Trial, WARM,
-    WHOLE, WHOLE_SQUARES,
+    ALONE, DRAIN, DRAIN_BRIEF, DRAINED, FAR_OF, FAR_PARTS, FEW_HALVES, FULL_TRIAL, SHARE_TURNS,
+    SHARED_EARLY, SHARED_MOST, SLICE, SLICE_MORE, SLICE_MOST, SLICES, SPARSE_HALVES, SPARSE_TRIAL,
+    TURN, TURN_SQUARES, Trial, WARM, WHOLE, WHOLE_SQUARES,
 };
 use spanning_tree::{Edge, Halves};
 use std::alloc::{AllocError, Global};
@@ -143,8 +143,73 @@ pub fn seek_onward(
     found: &Solution,
     least: u64,
 ) -> Result<Option<Solution>, AllocError> {
-    let mut shares = Shares::new(alloc, start.edges, start.windows, found, least)?;
-    if !shares.run(alloc, square_of(start))? {
+    let mut shares = shares_at_rest(alloc, start, found, least)?;
+    run_shares(alloc, start, &mut shares, SHARED_MOST)
+}
+
+/// A solution to which all arcs come by shares, those that hold most first, if one is found in time: from where nothing is set off, or from
+/// this start.
+///
+/// Nothing is proved of it. The only error is running out of memory.
+pub fn seek_by_shares(alloc: Global, start: &Start) -> Result<Option<Solution>, AllocError> {
+    let mut cold = cold_shares(alloc, start)?;
+    let mut warm = Shares::new(alloc, start, u64::MAX)?;
+    for turn in SHARE_TURNS {
+        let found = run_shares(alloc, start, &mut cold, turn.cold)?;
+        if found.is_some() {
+            return Ok(found);
+        }
+        let found = run_shares(alloc, start, &mut warm, turn.warm)?;
+        if found.is_some() {
+            return Ok(found);
+        }
+    }
+    Ok(None)
+}
+
+/// A solution to which all arcs come by shares from where nothing is set off, if one is found soon.
+///
+/// Nothing is proved of it. The only error is running out of memory.
+pub fn seek_cold_by_shares(alloc: Global, start: &Start) -> Result<Option<Solution>, AllocError> {
+    let mut cold = cold_shares(alloc, start)?;
+    run_shares(alloc, start, &mut cold, SHARED_EARLY)
+}
+
+// All arcs by shares, from where nothing is set off.
+fn cold_shares(alloc: Global, start: &Start) -> Result<Shares, AllocError> {
+    let unused = Solution {
+        flows: unused_flows(alloc, start)?,
+        prices: vec![in alloc; 0i64; start.windows.len()]?,
+    };
+    shares_at_rest(alloc, start, &unused, u64::MAX)
+}
+
+// Arcs by shares from this solution, in which no node has any excess. Those that hold at least so much are there at first.
+fn shares_at_rest(
+    alloc: Global,
+    start: &Start,
+    found: &Solution,
+    least: u64,
+) -> Result<Shares, AllocError> {
+    let excess = vec![in alloc; 0i128; start.excess.len()]?;
+    let at_rest = Start {
+        edges: start.edges,
+        flows: &found.flows,
+        prices: &found.prices,
+        excess: &excess,
+        windows: start.windows,
+    };
+    Shares::new(alloc, &at_rest, least)
+}
+
+// The solution of the shares, if they come to their end with so much work for each arc.
+fn run_shares(
+    alloc: Global,
+    start: &Start,
+    shares: &mut Shares,
+    work: u64,
+) -> Result<Option<Solution>, AllocError> {
+    if !shares.run(alloc, square_of(start), work)? {
         return Ok(None);
     }
     let flows = shares.flows(alloc, claims_of(start), start.windows)?;
@@ -390,16 +455,20 @@ fn cold_simplex(
     halves: &Halves,
     prices: &[i32],
 ) -> Result<Simplex, AllocError> {
-    let nodes = start.excess.len();
-    let claims = start.flows.len().saturating_sub(start.windows.len());
-    let mut flows = vec![in alloc; 0u64; claims]?;
-    for &flow in start.windows {
-        flows.push(flow)?;
-    }
-    let excess = vec![in alloc; 0i64; nodes]?;
+    let flows = unused_flows(alloc, start)?;
+    let excess = vec![in alloc; 0i64; start.excess.len()]?;
     let mut cold = Simplex::new(alloc, start.edges, halves, flows, prices, excess)?;
     cold.stop_looking();
     Ok(cold)
+}
+
+// The flow of each arc where nothing is set off, and no balance changes.
+fn unused_flows(alloc: Global, start: &Start) -> Result<Vec<u64>, AllocError> {
+    let mut flows = vec![in alloc; 0u64; claims_of(start)]?;
+    for &flow in start.windows {
+        flows.push(flow)?;
+    }
+    Ok(flows)
 }
 
 // The start drained of its excess, with so much work for each half.
@@ -448,19 +517,8 @@ pub(crate) fn node_prices(alloc: Global, prices: &[i64]) -> Result<Vec<i32>, All
     Ok(list)
 }
 
-// The number, or one of the type's ends.
-fn near(number: i64) -> i32 {
-    if number < i32::MIN as i64 {
-        i32::MIN
-    } else if number < i32::MAX as i64 {
-        number as i32
-    } else {
-        i32::MAX
-    }
-}
-
 // The excess of each node, or the nearest number of the type.
-fn cents(alloc: Global, excess: &[i128]) -> Result<Vec<i64>, AllocError> {
+pub(crate) fn cents(alloc: Global, excess: &[i128]) -> Result<Vec<i64>, AllocError> {
     let mut list = Vec::with_capacity(alloc, excess.len())?;
     for &amount in excess {
         list.push(narrow(amount))?;
