@@ -158,7 +158,7 @@ pub struct ShareTurn {
 }
 
 /// They go by these turns.
-pub const SHARE_TURNS: [ShareTurn; 3] = [
+pub const SHARE_TURNS: [ShareTurn; 4] = [
     ShareTurn {
         cold: 40,
         warm: 350,
@@ -169,7 +169,11 @@ pub const SHARE_TURNS: [ShareTurn; 3] = [
     },
     ShareTurn {
         cold: 2_500,
-        warm: 2_000,
+        warm: 3_000,
+    },
+    ShareTurn {
+        cold: 4_000,
+        warm: 5_000,
     },
 ];
 
@@ -205,6 +209,12 @@ pub const RUN: usize = 16;
 
 /// A block of runs, of which the worst arc enters, has the root of the number of arcs, divided by this.
 pub const BLOCK: usize = 8;
+
+/// Where arcs come by shares, a block is as long as so many.
+pub const SHARED_BLOCKS: usize = 2;
+
+/// The nodes of the tree are numbered anew after so much work in the tree for each arc.
+pub const NUMBERED: u64 = 32;
 
 /// A change of potentials is followed by a look at the arcs around it where they have at most so many halves.
 pub const AROUND: u64 = 1_024;

@@ -91,6 +91,15 @@ fn the_simplex_is_taken(rt: HostRuntime) {
     assert!(rt; is_answered(&rt, alloc, &tight));
 }
 
+// A tree that is deep, and changes so often that its nodes are numbered anew.
+#[test]
+fn a_long_chain_is_taken(rt: HostRuntime) {
+    let alloc = rt.alloc();
+    let mut tight = firms(&rt, alloc, 300, Some(5));
+    chain(&rt, &mut tight, 0, 299, 1_000_000);
+    assert!(rt; is_answered(&rt, alloc, &tight));
+}
+
 // Two rings, and a claim from one to the other, of which nothing can be set off.
 const RINGS: [Owed; 7] = [
     (0, 1, 500),

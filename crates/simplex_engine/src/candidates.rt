@@ -163,9 +163,9 @@ impl Candidates {
         self.looks = false;
     }
 
-    // Lets each block be one run. There are so many arcs.
-    pub(crate) fn lengthen_runs(&mut self, arcs: usize) {
-        self.length = self.block.wrapping_mul(self.length);
+    // Lets each block be one run, as long as so many blocks were. There are so many arcs.
+    pub(crate) fn lengthen_runs(&mut self, arcs: usize, blocks: usize) {
+        self.length = self.block.wrapping_mul(self.length).wrapping_mul(blocks);
         self.block = 1;
         self.begin_round(arcs);
     }
@@ -195,7 +195,7 @@ impl Candidates {
             if node == NOBODY {
                 return Ok(());
             }
-            self.look_at(arcs, halves, &tree.potentials, node)?;
+            self.look_at(arcs, halves, tree, node)?;
             node = tree.step(part, node);
         }
         Ok(())
@@ -206,13 +206,13 @@ impl Candidates {
         &mut self,
         arcs: &mut [Arc],
         halves: &Halves,
-        potentials: &[i32],
+        tree: &Tree,
         node: u16,
     ) -> Result<(), AllocError> {
-        for half in halves.around(usize::from(node)) {
+        for half in halves.around(usize::from(tree.name(node))) {
             let place = (half.code / 2) as usize;
             let arc = at(arcs, place, NO_ARC);
-            if !arc.listed && 0 < arc.badness(potentials) {
+            if !arc.listed && 0 < arc.badness(&tree.potentials) {
                 put(
                     arcs,
                     place,

@@ -3,7 +3,7 @@ use crate::ranking::largest_first;
 use crate::simplex::Simplex;
 use crate::turns::{Start, cents, node_prices};
 use loose_places::{at, put};
-use spanning_tree::schedule::{SHARE_GAIN, SHARE_SLICE, SHARED_SQUARES, SHARES};
+use spanning_tree::schedule::{SHARE_GAIN, SHARE_SLICE, SHARED_BLOCKS, SHARED_SQUARES, SHARES};
 use spanning_tree::{Edge, Halves};
 use std::alloc::{AllocError, Global};
 
@@ -86,7 +86,7 @@ impl Shares {
             if work == 0 {
                 return Ok(false);
             }
-            let over = self.simplex.run(&self.edges, &self.halves, work)?;
+            let over = self.simplex.run(alloc, &self.edges, &self.halves, work)?;
             if over && self.edges.len() <= self.open {
                 return Ok(true);
             }
@@ -138,7 +138,7 @@ fn simplex_from(
     let excess = cents(alloc, start.excess)?;
     let mut simplex = Simplex::new(alloc, edges, halves, flows, &prices, excess)?;
     simplex.stop_looking();
-    simplex.lengthen_runs();
+    simplex.lengthen_runs(SHARED_BLOCKS);
     Ok(simplex)
 }
 

@@ -2,6 +2,7 @@
 use crate::candidates::Candidates;
 use crate::filling::Filling;
 use loose_places::{at, put, short, small};
+use spanning_tree::schedule::NUMBERED;
 use spanning_tree::{
     Arc, Branch, Circle, Edge, Halves, MUCH, NO_ARC, NOBODY, Part, Start, Tree, arcs_of, own_code,
     plant,
@@ -9,7 +10,8 @@ use spanning_tree::{
 use std::alloc::{AllocError, Global};
 
 // The arcs, the tree, the bad arcs, and what is still to be brought into the tree: arcs that were neither full nor empty at the
-// start, and then arcs to the root that hold anything.
+// start, and then arcs to the root that hold anything. And how many arcs have entered, and how much work was done in the tree since its nodes
+// were numbered.
 #[derive(Drop)]
 pub(crate) struct Simplex {
     arcs: Vec<Arc>,
@@ -21,6 +23,7 @@ pub(crate) struct Simplex {
     big: i32,
     begun: usize,
     pivots: u64,
+    moved: u64,
 }
 
 // An arc that enters the tree: the nodes that more is moved from and to over it, its half at the first, how much more and how much
@@ -68,6 +71,7 @@ impl Simplex {
             big,
             begun: 0,
             pivots: 0,
+            moved: 0,
         })
     }
 
@@ -76,9 +80,9 @@ impl Simplex {
         self.candidates.stop_looking();
     }
 
-    // Lets more arcs that stand together be priced at once, which takes fewer reads from afar.
-    pub(crate) fn lengthen_runs(&mut self) {
-        self.candidates.lengthen_runs(self.arcs.len());
+    // Lets more arcs that stand together be priced at once, which takes fewer reads from afar: those of so many blocks.
+    pub(crate) fn lengthen_runs(&mut self, blocks: usize) {
+        self.candidates.lengthen_runs(self.arcs.len(), blocks);
     }
 
     // Lets only the first so many arcs enter.
@@ -122,6 +126,7 @@ impl Simplex {
     #[inline(never)]
     pub(crate) fn run(
         &mut self,
+        alloc: Global,
         edges: &[Edge],
         halves: &Halves,
         work: u64,
@@ -135,8 +140,32 @@ impl Simplex {
                 return Ok(self.candidates.is_over());
             };
             self.pivot(halves, entering)?;
+            if self.has_begun() && self.is_scattered() {
+                self.renumber(alloc)?;
+            }
         }
         Ok(false)
+    }
+
+    // Whether all that the tree left out at the start was brought in.
+    fn has_begun(&self) -> bool {
+        self.arcs.len().saturating_add(self.excess.len()) <= self.begun
+    }
+
+    // Whether the tree has changed so much since its nodes were numbered that those which are read in turn stand far apart.
+    fn is_scattered(&self) -> bool {
+        (self.arcs.len() as u64).saturating_mul(NUMBERED) <= self.moved
+    }
+
+    // Numbers the nodes of the tree anew.
+    fn renumber(&mut self, alloc: Global) -> Result<(), AllocError> {
+        self.moved = 0;
+        let numbers = self.tree.renumber(alloc)?;
+        for arc in self.arcs.iter_mut() {
+            arc.tail = at(&numbers, usize::from(arc.tail), NOBODY);
+            arc.head = at(&numbers, usize::from(arc.head), NOBODY);
+        }
+        Ok(())
     }
 
     // Whether the work was no more than so much for each arc that entered.
@@ -248,16 +277,9 @@ impl Simplex {
     fn pivot(&mut self, halves: &Halves, entering: Entering) -> Result<(), AllocError> {
         self.pivots = self.pivots.wrapping_add(1);
         let circle = self.tree.circle(entering.from, entering.to, entering.room);
-        if 0 < circle.least {
-            self.tree
-                .move_down(entering.from, circle.join, circle.least);
-            self.tree.move_up(entering.to, circle.join, circle.least);
-        }
-        self.candidates.work = self
-            .candidates
-            .work
-            .saturating_add(circle.steps.wrapping_mul(4));
+        self.note_work(circle.steps.wrapping_mul(4));
         if circle.out == NOBODY {
+            self.tree.move_round(entering.from, entering.to, &circle);
             self.set_side(entering.code, entering.code % 2 == 1);
             return Ok(());
         }
@@ -265,7 +287,7 @@ impl Simplex {
         self.set_side(code, circle.behind == (code % 2 == 0));
         let branch = branch_of(entering, &circle);
         self.set_in_tree(entering.code);
-        self.tree.rehang(circle.out, circle.join, branch);
+        self.tree.rehang(&circle, branch);
         let by = if circle.behind {
             entering.gain
         } else {
@@ -286,8 +308,14 @@ impl Simplex {
         };
         let moved = self.tree.part(top, spared);
         let nodes = self.tree.change(moved, by);
-        self.candidates.work = self.candidates.work.saturating_add(nodes.wrapping_mul(2));
+        self.note_work(nodes.wrapping_mul(2));
         self.look(halves, moved)
+    }
+
+    // Notes work in the tree.
+    fn note_work(&mut self, work: u64) {
+        self.candidates.work = self.candidates.work.saturating_add(work);
+        self.moved = self.moved.saturating_add(work);
     }
 
     // Looks at the arcs around a part, where they are few.
@@ -335,11 +363,18 @@ impl Simplex {
 
     // The price of each party.
     pub(crate) fn prices(&self, alloc: Global) -> Result<Vec<i64>, AllocError> {
+        let mut potentials = vec![in alloc; 0i32; self.excess.len()]?;
+        for (node, &own) in self.tree.potentials.iter().enumerate() {
+            put(
+                &mut potentials,
+                usize::from(self.tree.name(small(node))),
+                own,
+            );
+        }
         let parties = self.excess.len().wrapping_sub(1);
-        let ground = at(&self.tree.potentials, parties, 0);
+        let ground = at(&potentials, parties, 0);
         let mut prices = Vec::with_capacity(alloc, self.excess.len())?;
-        for node in 0..parties {
-            let own = at(&self.tree.potentials, node, 0);
+        for &own in potentials.iter().take(parties) {
             prices.push(i64::from(ground.wrapping_sub(own)))?;
         }
         Ok(prices)

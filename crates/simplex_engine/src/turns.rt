@@ -83,8 +83,8 @@ fn try_cold(
 ) -> Result<Option<Solution>, AllocError> {
     let prices = vec![in alloc; 0i32; start.excess.len()]?;
     let mut cold = cold_simplex(alloc, start, halves, &prices)?;
-    cold.lengthen_runs();
-    if ends_lightly(&mut cold, start.edges, halves, trial)? {
+    cold.lengthen_runs(1);
+    if ends_lightly(alloc, &mut cold, start.edges, halves, trial)? {
         answer(alloc, start.edges, &cold)
     } else {
         Ok(None)
@@ -103,9 +103,9 @@ pub fn seek_from(
     work: u64,
 ) -> Result<Option<Solution>, AllocError> {
     let mut cold = cold_simplex(alloc, start, halves, prices)?;
-    cold.lengthen_runs();
+    cold.lengthen_runs(1);
     let most = (halves.len() as u64).saturating_mul(work);
-    if ends_in_slices(&mut cold, start, halves, most)? {
+    if ends_in_slices(alloc, &mut cold, start, halves, most)? {
         answer(alloc, start.edges, &cold)
     } else {
         Ok(None)
@@ -126,7 +126,7 @@ pub fn seek_drained(
     }
     let prices = node_prices(alloc, start.prices)?;
     let mut drained = drained_simplex(alloc, start, halves, drain, &prices)?;
-    if drained.run(start.edges, halves, work_of(start, halves, DRAINED))? {
+    if drained.run(alloc, start.edges, halves, work_of(start, halves, DRAINED))? {
         answer(alloc, start.edges, &drained)
     } else {
         Ok(None)
@@ -261,6 +261,7 @@ pub fn seek_alone(
 // Whether the simplex comes to its end in slices, each of half as much work more than the one before. It does not go on behind one
 // that was not light, or after so much work.
 fn ends_in_slices(
+    alloc: Global,
     simplex: &mut Simplex,
     start: &Start,
     halves: &Halves,
@@ -270,7 +271,7 @@ fn ends_in_slices(
     let mut work = many;
     for _ in 0..SLICES {
         let before = simplex.pivots();
-        if simplex.run(start.edges, halves, work)? {
+        if simplex.run(alloc, start.edges, halves, work)? {
             return Ok(true);
         }
         let each = work / simplex.pivots().saturating_sub(before).max(1);
@@ -293,20 +294,21 @@ fn is_heavy(each: u64, slice: u64, halves: u64, nodes: u64) -> bool {
 
 // Whether the simplex comes to its end. It does not go on where it is not light.
 fn ends_lightly(
+    alloc: Global,
     simplex: &mut Simplex,
     edges: &[Edge],
     halves: &Halves,
     trial: Trial,
 ) -> Result<bool, AllocError> {
     let many = halves.len() as u64;
-    if simplex.run(edges, halves, many.saturating_mul(trial.first))? {
+    if simplex.run(alloc, edges, halves, many.saturating_mul(trial.first))? {
         return Ok(true);
     }
     if !simplex.is_light(trial.light) {
         return Ok(false);
     }
     let more = trial.all.saturating_sub(trial.first);
-    simplex.run(edges, halves, many.saturating_mul(more))
+    simplex.run(alloc, edges, halves, many.saturating_mul(more))
 }
 
 /// A solution, if one is found in so many turns, each of twice as much work as the one before.
@@ -335,7 +337,7 @@ fn seek_warm(
     prices: &[i32],
     turns: u32,
 ) -> Result<Option<Solution>, AllocError> {
-    if warm.run(start.edges, halves, work_where_sparse(start, halves))? {
+    if warm.run(alloc, start.edges, halves, work_where_sparse(start, halves))? {
         return answer(alloc, start.edges, warm);
     }
     let drain = drain_for(alloc, start, halves, DRAIN_BRIEF)?;
@@ -396,7 +398,7 @@ fn whole_within(
 ) -> Result<Option<Solution>, AllocError> {
     let prices = vec![in alloc; 0i32; start.excess.len()]?;
     let mut cold = cold_simplex(alloc, start, halves, &prices)?;
-    if cold.run(start.edges, halves, work)? {
+    if cold.run(alloc, start.edges, halves, work)? {
         answer(alloc, start.edges, &cold)
     } else {
         Ok(None)
@@ -425,10 +427,10 @@ fn by_turns(
     let mut work = nodes.saturating_mul(nodes).saturating_mul(TURN_SQUARES);
     work = work.saturating_add((halves.len() as u64).saturating_mul(TURN));
     for _ in 0..turns {
-        if drained.run(start.edges, halves, work)? {
+        if drained.run(alloc, start.edges, halves, work)? {
             return answer(alloc, start.edges, drained);
         }
-        if warm.run(start.edges, halves, work)? {
+        if warm.run(alloc, start.edges, halves, work)? {
             return answer(alloc, start.edges, warm);
         }
         work = work.saturating_mul(2);
