@@ -125,7 +125,7 @@ pub const LARGE: u64 = 256;
 /// Claims are of many sizes where one in so many is not large.
 pub const CLAIMS_BY_SIZE: usize = 32;
 
-/// All come by shares where at most one in so many is large, and else those that are not, from where the large claims are settled.
+/// Claims are mostly small where at most one in so many is large.
 pub const CLAIMS_BY_SHARES: usize = 3;
 
 /// They come by shares from where nothing is set off before the levels, too, with at most so many halves for each node, and more than
@@ -139,14 +139,12 @@ pub const DRAINED: u64 = 448;
 /// The work of one from risen prices before that.
 pub const RISEN: u64 = 640;
 
-/// The work of a simplex to which small arcs come by shares, for each arc, and for each `SHARED_SQUARES` of the square of the nodes.
-pub const SHARED_MOST: u64 = 4_500;
-
-/// See `SHARED_MOST`.
-pub const SHARED_SQUARES: u64 = 400;
-
-/// The same of one to which all come by shares from where nothing is set off, before the levels.
+/// The work of a simplex to which all arcs come by shares from where nothing is set off, before the levels, for each arc, and for each
+/// `SHARED_SQUARES` of the square of the nodes.
 pub const SHARED_EARLY: u64 = 400;
+
+/// See `SHARED_EARLY`.
+pub const SHARED_SQUARES: u64 = 400;
 
 /// The same of the two to which all come by shares where the levels stall: from where nothing is set off, and from where these stand.
 #[derive(Clone, Copy)]
@@ -168,12 +166,12 @@ pub const SHARE_TURNS: [ShareTurn; 4] = [
         warm: 1_000,
     },
     ShareTurn {
-        cold: 2_500,
-        warm: 3_000,
+        cold: 3_000,
+        warm: 2_500,
     },
     ShareTurn {
-        cold: 4_000,
-        warm: 5_000,
+        cold: 6_000,
+        warm: 6_000,
     },
 ];
 

@@ -2,14 +2,12 @@
 ghost use Rattle.std.specs.Prelude.{OnOk};
 ghost use Rattle.flow_solver.specs.residual_state.specs.States.{IsState, StaysOn};
 
-use crate::inner_state::{parties_of, solution_of, start_at, state_of};
-use crate::settling::{settle_at_once, take_found};
+use crate::inner_state::start_at;
+use crate::settling::take_found;
 use flow_solver::{State, surplus_of};
-use net_presolve::{Large, Sizes, Unused};
+use net_presolve::{Sizes, Unused};
 use simplex_engine::schedule::{FEW_HALVES, SHARES_HALVES, SPARSE_HALVES};
-use simplex_engine::{
-    Halves, Solution, Start, seek_by_shares, seek_cold_by_shares, seek_drained, seek_onward,
-};
+use simplex_engine::{Halves, Solution, seek_by_shares, seek_cold_by_shares, seek_drained};
 use std::alloc::{AllocError, Global};
 
 // Takes a whole solution that is found by the sizes of the claims, where any excess is left and there are turns.
@@ -26,7 +24,7 @@ pub(crate) fn take_by_size(
     if turns == 0 || surplus_of(&state.excess) == 0 {
         return Ok(());
     }
-    let found = find_by_size(alloc, state, halves, windows, turns)?;
+    let found = find_by_size(alloc, state, halves, windows)?;
     take_found(alloc, state, found)
 }
 
@@ -72,22 +70,19 @@ fn find_cold_by_shares(
     }
 }
 
-// A whole solution, where claims are of many sizes: one that a simplex finds soon from where the rest is drained, or else one by shares, if
-// most claims are small, and if not, one from where the large claims are settled.
+// A whole solution, where claims are of many sizes: one that a simplex finds soon from where the rest is drained, or else one by shares.
 fn find_by_size(
     alloc: Global,
     state: &State,
     halves: &Halves,
     windows: &[u64],
-    turns: u32,
 ) -> Result<Option<Solution>, AllocError> {
     let net = Unused {
         edges: &state.edges,
         halves,
         windows,
     };
-    let sizes = Sizes::of(&net);
-    if !sizes.are_many() || halves.len() / SPARSE_HALVES <= windows.len() {
+    if !Sizes::of(&net).are_many() || halves.len() / SPARSE_HALVES <= windows.len() {
         return Ok(None);
     }
     let start = start_at(state, windows);
@@ -95,42 +90,5 @@ fn find_by_size(
     if drained.is_some() {
         return Ok(drained);
     }
-    if sizes.are_mostly_small() {
-        seek_by_shares(alloc, &start)
-    } else {
-        find_onward(alloc, &start, &net, sizes.least, turns)
-    }
-}
-
-// A whole solution from where the large claims are settled.
-fn find_onward(
-    alloc: Global,
-    start: &Start,
-    net: &Unused,
-    least: u64,
-    turns: u32,
-) -> Result<Option<Solution>, AllocError> {
-    match solve_large(alloc, net, least, turns)? {
-        Some(found) => seek_onward(alloc, start, &found, least),
-        None => Ok(None),
-    }
-}
-
-// The solution of the large claims, in which nothing is moved over the other arcs.
-fn solve_large(
-    alloc: Global,
-    net: &Unused,
-    least: u64,
-    turns: u32,
-) -> Result<Option<Solution>, AllocError> {
-    let large = Large::of(alloc, net, least)?;
-    let parties = parties_of(alloc, &large.windows)?;
-    let claims = Vec::from_slice(alloc, &large.claims)?;
-    let Some(mut state) = state_of(alloc, &parties, claims)? else {
-        return Ok(None);
-    };
-    settle_at_once(alloc, &mut state, turns)?;
-    let Solution { flows, prices } = solution_of(state);
-    let flows = large.flows(alloc, net, &flows)?;
-    Ok(Some(Solution { flows, prices }))
+    seek_by_shares(alloc, &start)
 }

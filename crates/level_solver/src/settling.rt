@@ -48,20 +48,7 @@ pub(crate) fn settle_whole(alloc: Global, state: &mut State, turns: u32) -> Resu
     settle_over(alloc, state, halves, &windows, turns)
 }
 
-// The same, where the large claims are not set off first either.
-pub(crate) fn settle_at_once(alloc: Global, state: &mut State, turns: u32) -> Result<(), AllocError>
-    requires { IsState state.old }
-    ensures state { OnOk result (StaysOn state.old state.new) }
-{
-    let windows = window_flows(alloc, state)?;
-    let halves = Halves::of(alloc, &state.edges, state.excess.len())?;
-    let halves = engines_at_first(alloc, state, halves, &windows, turns)?;
-    take_solution(alloc, state, &halves, &windows, turns)?;
-    levels_to_the_end(alloc, state)
-}
-
-// Settles over the halves of the arcs, with the flows of the windows' arcs at which no balance changes: where the engines come to no end
-// at first, from the solution of the large claims.
+// Settles over the halves of the arcs, with the flows of the windows' arcs at which no balance changes.
 fn settle_over(
     alloc: Global,
     state: &mut State,

@@ -1,5 +1,5 @@
-//! What the shape of a net tells before an engine is asked: which of its parts are solved apart, which claims are one series, which are
-//! large, how solutions are put together, and at which prices a simplex may start.
+//! What the shape of a net tells before an engine is asked: which of its parts are solved apart, which claims are one series,
+//! whether they are of many sizes, how solutions are put together, and at which prices a simplex may start.
 //!
 //! Nothing is proved of it but that it comes, and nothing has to be: it ends in a whole solution, which `adopt` of `residual_state` tests.
 //!
@@ -9,17 +9,17 @@
 #![tactic(auto)]
 
 mod inner;
-mod large;
 mod laying;
 mod parts;
 mod rising;
 mod search;
 mod series;
+mod sizes;
 mod unused;
 
 pub use inner::{Inner, Window};
-pub use large::{Large, Sizes};
 pub use parts::Parts;
 pub use rising::risen;
 pub use series::Series;
+pub use sizes::Sizes;
 pub use unused::Unused;

@@ -3,12 +3,10 @@ use crate::hard_nets::{Net, chain, comb, drawn_claims, firms, kind_of, ladder};
 use crate::solvers::{Owed, Window, cut_of, total_of};
 use flow_solver::state_of_net;
 use level_engine::Halves;
-use net_presolve::{Inner, Large, Parts, Sizes, Unused};
+use net_presolve::{Inner, Parts, Sizes, Unused};
 use residual_state::{State, adopt};
 use setoff_model::Kind;
-use simplex_engine::{
-    Solution, Start, seek_by_shares, seek_cold_by_shares, seek_onward, seek_solution,
-};
+use simplex_engine::{Solution, Start, seek_by_shares, seek_cold_by_shares, seek_solution};
 use std::alloc::Global;
 use std::process::Abort;
 
@@ -161,33 +159,6 @@ const CROSSED: [Owed; 5] = [
     (0, 2, 300),
 ];
 
-// The whole solution, from that of the ring alone: so much on each of its claims, with these prices.
-fn found_from_ring(
-    rt: &impl Abort,
-    alloc: Global,
-    state: &State,
-    flow: u64,
-    prices: &[i64],
-) -> Solution {
-    let begun = beginning_of(rt, alloc, state);
-    let net = Unused {
-        edges: &state.edges,
-        halves: &begun.halves,
-        windows: &begun.windows,
-    };
-    let sizes = Sizes::of(&net);
-    assert!(rt; sizes.are_many());
-    let large = Large::of(alloc, &net, sizes.least).expect(rt, "memory");
-    assert!(rt; large.claims.len() == prices.len());
-    let ring = vec![in alloc; flow; prices.len()].expect(rt, "memory");
-    let flows = large.flows(alloc, &net, &ring).expect(rt, "memory");
-    let prices = Vec::from_slice(alloc, prices).expect(rt, "memory");
-    let found = Solution { flows, prices };
-    let start = start_of(state, &begun);
-    let whole = seek_onward(alloc, &start, &found, sizes.least).expect(rt, "memory");
-    whole.expect(rt, "a solution")
-}
-
 fn sum(flows: &[u64]) -> u64 {
     let mut sum = 0u64;
     for &flow in flows {
@@ -196,17 +167,28 @@ fn sum(flows: &[u64]) -> u64 {
     sum
 }
 
-// Whether it is taken, and sets off so much.
+// What is found where all claims come by shares. From where nothing is set off alone as much is found.
+fn found_by_shares(rt: &impl Abort, alloc: Global, state: &State) -> Solution {
+    let begun = beginning_of(rt, alloc, state);
+    let start = start_of(state, &begun);
+    let cold = seek_cold_by_shares(alloc, &start).expect(rt, "memory");
+    let cold = cold.expect(rt, "a solution");
+    let found = seek_by_shares(alloc, &start).expect(rt, "memory");
+    let found = found.expect(rt, "a solution");
+    assert!(rt; sum(&cold.flows) == sum(&found.flows));
+    found
+}
+
+// Whether what is found so is taken, and sets off so much.
 fn is_set_off(
     rt: &impl Abort,
     alloc: Global,
-    net: &netting_graph::Net,
-    flow: u64,
-    prices: &[i64],
+    owed: &[Owed],
+    windows: &[Window],
     total: u64,
 ) -> bool {
-    let mut state = state_of_net(alloc, net).expect(rt, "memory");
-    let Solution { flows, prices } = found_from_ring(rt, alloc, &state, flow, prices);
+    let mut state = state_of(rt, alloc, Kind::Plain, windows, owed);
+    let Solution { flows, prices } = found_by_shares(rt, alloc, &state);
     let is_all = sum(&flows) == total;
     is_all && adopt(alloc, &mut state, flows, prices).expect(rt, "memory")
 }
@@ -215,10 +197,7 @@ fn is_set_off(
 fn small_claims_come_behind_large_ones(rt: HostRuntime) {
     let alloc = rt.alloc();
     assert!(rt; total_of(&rt, alloc, Kind::Plain, &[(0, 0); 3], &CROSSED) == 2_995_000);
-    let cut = cut_of(&rt, alloc, Kind::Plain, &[(0, 0); 3], &CROSSED);
-    assert!(rt; cut.well_formed());
-    let net = netting_graph::Net::of(alloc, &cut).expect(&rt, "memory");
-    assert!(rt; is_set_off(&rt, alloc, &net, 998_000, &[0, 1, 2], 2_995_000));
+    assert!(rt; is_set_off(&rt, alloc, &CROSSED, &[(0, 0); 3], 2_995_000));
 }
 
 // A ring of 20 firms, whose first claim holds least, and for each of the others a small claim back.
@@ -234,50 +213,11 @@ fn ring_with_small(rt: &impl Abort, alloc: Global) -> Vec<Owed> {
     owed
 }
 
-// Its prices, at which the first claim alone gains.
-fn ring_prices(rt: &impl Abort, alloc: Global) -> Vec<i64> {
-    let mut prices = Vec::new(alloc);
-    prices.push(20).expect(rt, "memory");
-    for firm in 1..20u32 {
-        prices.push(i64::from(firm)).expect(rt, "memory");
-    }
-    prices
-}
-
 // The small claims come in shares of five, and each share is filled at once. They hold 3.80 together, and the ring takes as much more.
 #[test]
 fn a_share_is_filled_at_once(rt: HostRuntime) {
     let alloc = rt.alloc();
     let owed = ring_with_small(&rt, alloc);
     assert!(rt; total_of(&rt, alloc, Kind::Plain, &[(0, 0); 20], &owed) == 20_000_760);
-    let cut = cut_of(&rt, alloc, Kind::Plain, &[(0, 0); 20], &owed);
-    assert!(rt; cut.well_formed());
-    let net = netting_graph::Net::of(alloc, &cut).expect(&rt, "memory");
-    let prices = ring_prices(&rt, alloc);
-    assert!(rt; is_set_off(&rt, alloc, &net, 1_000_000, &prices, 20_000_760));
-}
-
-// What is found where all claims come by shares. From where nothing is set off alone as much is found.
-fn found_by_shares(rt: &impl Abort, alloc: Global, state: &State) -> Solution {
-    let begun = beginning_of(rt, alloc, state);
-    let start = start_of(state, &begun);
-    let cold = seek_cold_by_shares(alloc, &start).expect(rt, "memory");
-    let cold = cold.expect(rt, "a solution");
-    let found = seek_by_shares(alloc, &start).expect(rt, "memory");
-    let found = found.expect(rt, "a solution");
-    assert!(rt; sum(&cold.flows) == sum(&found.flows));
-    found
-}
-
-#[test]
-fn all_claims_come_by_shares(rt: HostRuntime) {
-    let alloc = rt.alloc();
-    let owed = ring_with_small(&rt, alloc);
-    let cut = cut_of(&rt, alloc, Kind::Plain, &[(0, 0); 20], &owed);
-    assert!(rt; cut.well_formed());
-    let net = netting_graph::Net::of(alloc, &cut).expect(&rt, "memory");
-    let mut state = state_of_net(alloc, &net).expect(&rt, "memory");
-    let Solution { flows, prices } = found_by_shares(&rt, alloc, &state);
-    assert!(rt; sum(&flows) == 20_000_760);
-    assert!(rt; adopt(alloc, &mut state, flows, prices).expect(&rt, "memory"));
+    assert!(rt; is_set_off(&rt, alloc, &owed, &[(0, 0); 20], 20_000_760));
 }

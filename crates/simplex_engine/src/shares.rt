@@ -32,30 +32,23 @@ const NO_EDGE: Edge = Edge {
 };
 
 impl Shares {
-    // A simplex from a start. The arcs that hold at least so much are open.
-    pub(crate) fn new(alloc: Global, start: &Start, least: u64) -> Result<Shares, AllocError> {
+    // A simplex from a start. No arc is open.
+    pub(crate) fn new(alloc: Global, start: &Start) -> Result<Shares, AllocError> {
         let amounts = amounts_of(alloc, start.edges, start.windows)?;
         let pieces = largest_first(alloc, &amounts)?;
         let parties = start.windows.len();
         let edges = edges_of(alloc, start.edges, parties, &amounts, &pieces)?;
         let halves = Halves::of(alloc, &edges, parties.saturating_add(1))?;
         let flows = flows_of(alloc, start.windows, start.flows, &pieces)?;
-        let simplex = simplex_from(alloc, &edges, &halves, flows, start)?;
-        let mut shares = Shares {
+        let mut simplex = simplex_from(alloc, &edges, &halves, flows, start)?;
+        simplex.open(0);
+        Ok(Shares {
             edges,
             pieces,
             halves,
             simplex,
             open: 0,
-        };
-        shares.open_to(large_in(&amounts, least));
-        Ok(shares)
-    }
-
-    // Opens the first so many arcs.
-    fn open_to(&mut self, arcs: usize) {
-        self.open = arcs.min(self.edges.len());
-        self.simplex.open(self.open);
+        })
     }
 
     // Opens the next share of the arcs, and fills of these what can be filled together.
@@ -65,7 +58,8 @@ impl Shares {
             return Ok(());
         }
         let share = (self.edges.len() / SHARES).saturating_add(1);
-        self.open_to(before.saturating_add(share));
+        self.open = before.saturating_add(share).min(self.edges.len());
+        self.simplex.open(self.open);
         self.simplex.fill(alloc, &self.edges, before, self.open)
     }
 
@@ -97,6 +91,11 @@ impl Shares {
             before = left;
         }
         Ok(false)
+    }
+
+    // Whether all of the excess was brought in.
+    pub(crate) fn has_all_inside(&self) -> bool {
+        self.simplex.still_outside() == 0
     }
 
     // The flow of each arc of the net.
@@ -140,17 +139,6 @@ fn simplex_from(
     simplex.stop_looking();
     simplex.lengthen_runs(SHARED_BLOCKS);
     Ok(simplex)
-}
-
-// How many of the amounts are at least so much.
-fn large_in(amounts: &[u64], least: u64) -> usize {
-    let mut large = 0usize;
-    for &amount in amounts {
-        if least <= amount {
-            large = large.saturating_add(1);
-        }
-    }
-    large
 }
 
 // How much each piece holds: those of the claims, and then of each window by what the balance may rise and fall.

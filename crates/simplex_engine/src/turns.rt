@@ -5,7 +5,7 @@ use crate::simplex::Simplex;
 use loose_places::{narrow, near};
 use spanning_tree::schedule::{
     ALONE, DRAIN, DRAIN_BRIEF, DRAINED, FAR_OF, FAR_PARTS, FEW_HALVES, FULL_TRIAL, SHARE_TURNS,
-    SHARED_EARLY, SHARED_MOST, SLICE, SLICE_MORE, SLICE_MOST, SLICES, SPARSE_HALVES, SPARSE_TRIAL,
+    SHARED_EARLY, SLICE, SLICE_MORE, SLICE_MOST, SLICES, SPARSE_HALVES, SPARSE_TRIAL, ShareTurn,
     TURN, TURN_SQUARES, Trial, WARM, WHOLE, WHOLE_SQUARES,
 };
 use spanning_tree::{Edge, Halves};
@@ -133,38 +133,43 @@ pub fn seek_drained(
     }
 }
 
-/// A solution from this one, in which nothing is moved over arcs that hold less than so much, if one is found in time. These come by
-/// shares, those that hold most first.
-///
-/// Nothing is proved of it. The only error is running out of memory.
-pub fn seek_onward(
-    alloc: Global,
-    start: &Start,
-    found: &Solution,
-    least: u64,
-) -> Result<Option<Solution>, AllocError> {
-    let mut shares = shares_at_rest(alloc, start, found, least)?;
-    run_shares(alloc, start, &mut shares, SHARED_MOST)
-}
-
 /// A solution to which all arcs come by shares, those that hold most first, if one is found in time: from where nothing is set off, or from
 /// this start.
 ///
 /// Nothing is proved of it. The only error is running out of memory.
 pub fn seek_by_shares(alloc: Global, start: &Start) -> Result<Option<Solution>, AllocError> {
     let mut cold = cold_shares(alloc, start)?;
-    let mut warm = Shares::new(alloc, start, u64::MAX)?;
+    let mut warm = Shares::new(alloc, start)?;
     for turn in SHARE_TURNS {
-        let found = run_shares(alloc, start, &mut cold, turn.cold)?;
-        if found.is_some() {
-            return Ok(found);
-        }
-        let found = run_shares(alloc, start, &mut warm, turn.warm)?;
+        let found = run_turn(alloc, start, &mut cold, &mut warm, turn)?;
         if found.is_some() {
             return Ok(found);
         }
     }
     Ok(None)
+}
+
+// The solution that one of the two comes to in a turn. The warm one goes first where all of its excess was brought in, since it is soon done
+// then, and may be far from it before.
+fn run_turn(
+    alloc: Global,
+    start: &Start,
+    cold: &mut Shares,
+    warm: &mut Shares,
+    turn: ShareTurn,
+) -> Result<Option<Solution>, AllocError> {
+    let is_warm_first = warm.has_all_inside();
+    if is_warm_first {
+        let found = run_shares(alloc, start, warm, turn.warm)?;
+        if found.is_some() {
+            return Ok(found);
+        }
+    }
+    let found = run_shares(alloc, start, cold, turn.cold)?;
+    if found.is_some() || is_warm_first {
+        return Ok(found);
+    }
+    run_shares(alloc, start, warm, turn.warm)
 }
 
 /// A solution to which all arcs come by shares from where nothing is set off, if one is found soon.
@@ -177,29 +182,17 @@ pub fn seek_cold_by_shares(alloc: Global, start: &Start) -> Result<Option<Soluti
 
 // All arcs by shares, from where nothing is set off.
 fn cold_shares(alloc: Global, start: &Start) -> Result<Shares, AllocError> {
-    let unused = Solution {
-        flows: unused_flows(alloc, start)?,
-        prices: vec![in alloc; 0i64; start.windows.len()]?,
-    };
-    shares_at_rest(alloc, start, &unused, u64::MAX)
-}
-
-// Arcs by shares from this solution, in which no node has any excess. Those that hold at least so much are there at first.
-fn shares_at_rest(
-    alloc: Global,
-    start: &Start,
-    found: &Solution,
-    least: u64,
-) -> Result<Shares, AllocError> {
+    let flows = unused_flows(alloc, start)?;
+    let prices = vec![in alloc; 0i64; start.windows.len()]?;
     let excess = vec![in alloc; 0i128; start.excess.len()]?;
-    let at_rest = Start {
+    let unused = Start {
         edges: start.edges,
-        flows: &found.flows,
-        prices: &found.prices,
+        flows: &flows,
+        prices: &prices,
         excess: &excess,
         windows: start.windows,
     };
-    Shares::new(alloc, &at_rest, least)
+    Shares::new(alloc, &unused)
 }
 
 // The solution of the shares, if they come to their end with so much work for each arc.
