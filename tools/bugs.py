@@ -9,6 +9,7 @@ say little, since a proof names what the edit took away. `bad` ones do not compi
 figures. Run by hand. Status 0: each was refused; 1: one was not, or was not tried; 2: this kit's `rt` has another form."""
 import argparse
 import os
+import shutil
 import subprocess
 import sys
 from concurrent.futures import ThreadPoolExecutor, as_completed
@@ -34,6 +35,29 @@ def figures(name, tried):
     return line(name, len(tried), sum(refused for refused, _ in tried), named, sum(": BAD EDIT" in it for it in texts))
 
 
+def trial_of(rt):
+    """How the kit's `rt` tries the edits of a crate: whether each was refused, and what is said of it."""
+    if hasattr(rt, "must_fail_all"):
+        return rt.must_fail_all
+    seeded, linked, must_fail, refusals = rt.seeded, rt.linked, rt.must_fail, (rt.REFUSED, rt.AT_LIMIT)
+
+    def try_all(crate, edits, flags):
+        """Tries each over what a check of the crate as it stands proved, and from scratch where that gives no verdict."""
+        room, tried = seeded(crate, flags), []
+        for number, edit in enumerate(edits):
+            over = room and f"{room}/{number}"
+            if room:
+                linked(f"{room}/seed", over)
+            kind, text = must_fail(crate, edit, flags, over)
+            if room and kind not in rt.SETTLED:
+                kind, text = must_fail(crate, edit, flags)
+            tried.append((kind in refusals, text))
+        shutil.rmtree(room or "", ignore_errors=True)
+        return tried
+
+    return try_all
+
+
 def main():
     asks = argparse.ArgumentParser(description=__doc__, formatter_class=argparse.RawDescriptionHelpFormatter)
     asks.add_argument("--at-once", type=int, default=len(os.sched_getaffinity(0)))
@@ -41,7 +65,7 @@ def main():
     given = asks.parse_args()
     try:
         rtlib = prove.kit()
-        try_all = sys.modules["kit_rt"].must_fail_all
+        try_all = trial_of(sys.modules["kit_rt"])
     except (OSError, AttributeError, subprocess.CalledProcessError) as why:
         print(f"this kit's rt has another form: {why}", file=sys.stderr)
         return 2
