@@ -187,7 +187,10 @@ fn is_set_off(
     windows: &[Window],
     total: u64,
 ) -> bool {
-    let mut state = state_of(rt, alloc, Kind::Plain, windows, owed);
+    let cut = cut_of(rt, alloc, Kind::Plain, windows, owed);
+    assert!(rt; cut.well_formed());
+    let net = netting_graph::Net::of(alloc, &cut).expect(rt, "memory");
+    let mut state = state_of_net(alloc, &net).expect(rt, "memory");
     let Solution { flows, prices } = found_by_shares(rt, alloc, &state);
     let is_all = sum(&flows) == total;
     is_all && adopt(alloc, &mut state, flows, prices).expect(rt, "memory")
