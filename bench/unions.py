@@ -245,6 +245,8 @@ def search(first, last, seconds):
 
 
 if __name__ == "__main__":
+    if len(sys.argv) < 4:
+        sys.exit(__doc__)
     if sys.argv[1] == "search":
         search(int(sys.argv[2]), int(sys.argv[3]), float(sys.argv[4]))
     else:
