@@ -203,12 +203,12 @@ fn small_claims_come_behind_large_ones(rt: HostRuntime) {
     assert!(rt; is_set_off(&rt, alloc, &CROSSED, &[(0, 0); 3], 2_995_000));
 }
 
-// A ring of 20 firms, whose first claim holds least, and for each of the others a small claim back.
+// A ring of 200 firms, whose first claim holds least, and for each of the others a small claim back.
 fn ring_with_small(rt: &impl Abort, alloc: Global) -> Vec<Owed> {
     let mut owed = Vec::new(alloc);
     owed.push((0, 1, 1_000_000)).expect(rt, "memory");
-    for firm in 1..20u32 {
-        let next = (firm + 1) % 20;
+    for firm in 1..200u32 {
+        let next = (firm + 1) % 200;
         owed.push((firm, next, 1_010_000)).expect(rt, "memory");
         owed.push((next, firm, 10 + u64::from(firm)))
             .expect(rt, "memory");
@@ -216,11 +216,57 @@ fn ring_with_small(rt: &impl Abort, alloc: Global) -> Vec<Owed> {
     owed
 }
 
-// The small claims come in shares of five, and each share is filled at once. They hold 3.80 together, and the ring takes as much more.
+#[test]
+fn all_claims_come_by_shares(rt: HostRuntime) {
+    let alloc = rt.alloc();
+    let owed = ring_with_small(&rt, alloc);
+    assert!(rt; total_of(&rt, alloc, Kind::Plain, &[(0, 0); 200], &owed) == 200_043_780);
+    assert!(rt; is_set_off(&rt, alloc, &owed, &[(0, 0); 200], 200_043_780));
+}
+
+// The prices of the ring, at which the first claim alone gains.
+fn ring_prices(rt: &impl Abort, alloc: Global) -> Vec<i64> {
+    let mut prices = Vec::new(alloc);
+    prices.push(200).expect(rt, "memory");
+    for firm in 1..200u32 {
+        prices.push(i64::from(firm)).expect(rt, "memory");
+    }
+    prices
+}
+
+// What is found by shares from where the ring is at rest, and nothing of the small claims is set off.
+fn found_from_ring(rt: &impl Abort, alloc: Global, state: &State) -> Solution {
+    let begun = beginning_of(rt, alloc, state);
+    let mut flows = Vec::new(alloc);
+    for edge in &state.edges {
+        flows
+            .push(edge.capacity / 1_000_000 * 1_000_000)
+            .expect(rt, "memory");
+    }
+    let prices = ring_prices(rt, alloc);
+    let excess = vec![in alloc; 0i128; state.excess.len()].expect(rt, "memory");
+    let start = Start {
+        edges: &state.edges,
+        flows: &flows,
+        prices: &prices,
+        excess: &excess,
+        windows: &begun.windows,
+    };
+    let found = seek_by_shares(alloc, &start).expect(rt, "memory");
+    found.expect(rt, "a solution")
+}
+
+// The small claims come in shares of fifty, and the tree lets through at once what is bad of one. They hold 218.90 together, and the ring
+// takes as much more.
 #[test]
 fn a_share_is_filled_at_once(rt: HostRuntime) {
     let alloc = rt.alloc();
     let owed = ring_with_small(&rt, alloc);
-    assert!(rt; total_of(&rt, alloc, Kind::Plain, &[(0, 0); 20], &owed) == 20_000_760);
-    assert!(rt; is_set_off(&rt, alloc, &owed, &[(0, 0); 20], 20_000_760));
+    let cut = cut_of(&rt, alloc, Kind::Plain, &[(0, 0); 200], &owed);
+    assert!(rt; cut.well_formed());
+    let net = netting_graph::Net::of(alloc, &cut).expect(&rt, "memory");
+    let mut state = state_of_net(alloc, &net).expect(&rt, "memory");
+    let Solution { flows, prices } = found_from_ring(&rt, alloc, &state);
+    assert!(rt; sum(&flows) == 200_043_780);
+    assert!(rt; adopt(alloc, &mut state, flows, prices).expect(&rt, "memory"));
 }
