@@ -128,15 +128,15 @@ pub const CLAIMS_BY_SIZE: usize = 32;
 /// Claims are mostly small where at most one in so many is large.
 pub const CLAIMS_BY_SHARES: usize = 3;
 
-/// They come by shares from where nothing is set off before the levels, too, with at most so many halves for each node, and more than
-/// `FEW_HALVES`.
+/// Such claims come by shares from where nothing is set off before the levels, too, with at most so many halves for each node, and more
+/// than `FEW_HALVES`.
 pub const SHARES_HALVES: usize = 12;
 
-/// The work of the simplex that starts where a drain at first ended, before that, besides one for each `WHOLE_SQUARES` of the square of
-/// the nodes.
+/// Where claims are of many sizes, the work of the simplex that starts where a brief drain ended, besides one for each `WHOLE_SQUARES` of
+/// the square of the nodes.
 pub const DRAINED: u64 = 448;
 
-/// The work of one from risen prices before that.
+/// And that of one from risen prices.
 pub const RISEN: u64 = 640;
 
 /// The work of a simplex to which all arcs come by shares from where nothing is set off, before the levels, for each arc, and for each
@@ -146,34 +146,18 @@ pub const SHARED_EARLY: u64 = 400;
 /// See `SHARED_EARLY`.
 pub const SHARED_SQUARES: u64 = 400;
 
-/// The same of the two to which all come by shares where the levels stall: from where nothing is set off, and from where these stand.
-#[derive(Clone, Copy)]
-pub struct ShareTurn {
-    /// So much in all for the first.
-    pub cold: u64,
-    /// And for the second.
-    pub warm: u64,
-}
+/// Its work at first where the levels stall.
+pub const SHARED_COLD: u64 = 40;
 
-/// They go by these turns.
-pub const SHARE_TURNS: [ShareTurn; 4] = [
-    ShareTurn {
-        cold: 40,
-        warm: 350,
-    },
-    ShareTurn {
-        cold: 450,
-        warm: 1_000,
-    },
-    ShareTurn {
-        cold: 3_000,
-        warm: 2_500,
-    },
-    ShareTurn {
-        cold: 6_000,
-        warm: 6_000,
-    },
-];
+/// The simplex to which all arcs come by shares from where the levels stand goes by these steps then, as long as it gets on. So far its work
+/// goes, as that of `SHARED_EARLY`.
+pub const WARM_STEPS: [u64; 4] = [350, 700, 1_400, 2_800];
+
+/// It gets on where at most so many of a hundred cents that were outside before a step are so behind it.
+pub const WARM_LEFT: u64 = 85;
+
+/// How far the work of each of the two goes after that, first of the one from where the levels stand, if it got on, and else of the other.
+pub const SHARED: u64 = 9_000;
 
 /// Arcs come in so many shares.
 pub const SHARES: usize = 8;

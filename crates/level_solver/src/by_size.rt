@@ -1,4 +1,4 @@
-//! A whole solution where claims are of many sizes.
+//! A whole solution to which claims come by their sizes.
 ghost use Rattle.std.specs.Prelude.{OnOk};
 ghost use Rattle.flow_solver.specs.residual_state.specs.States.{IsState, StaysOn};
 
@@ -7,10 +7,12 @@ use crate::settling::take_found;
 use flow_solver::{State, surplus_of};
 use net_presolve::{Sizes, Unused};
 use simplex_engine::schedule::{FEW_HALVES, SHARES_HALVES, SPARSE_HALVES};
-use simplex_engine::{Halves, Solution, seek_by_shares, seek_cold_by_shares, seek_drained};
+use simplex_engine::{
+    Halves, Solution, seek_by_shares, seek_cold_by_shares, seek_drained, seek_first,
+};
 use std::alloc::{AllocError, Global};
 
-// Takes a whole solution that is found by the sizes of the claims, where any excess is left and there are turns.
+// Takes a whole solution that is found where the levels stall, where any excess is left and there are turns.
 pub(crate) fn take_by_size(
     alloc: Global,
     state: &mut State,
@@ -70,25 +72,29 @@ fn find_cold_by_shares(
     }
 }
 
-// A whole solution, where claims are of many sizes: one that a simplex finds soon from where the rest is drained, or else one by shares.
+// A whole solution, where nodes have not few halves: one that a simplex finds soon from where the rest is drained, or else one by shares.
 fn find_by_size(
     alloc: Global,
     state: &State,
     halves: &Halves,
     windows: &[u64],
 ) -> Result<Option<Solution>, AllocError> {
+    if halves.len() / SPARSE_HALVES <= windows.len() {
+        return Ok(None);
+    }
+    let start = start_at(state, windows);
     let net = Unused {
         edges: &state.edges,
         halves,
         windows,
     };
-    if !Sizes::of(&net).are_many() || halves.len() / SPARSE_HALVES <= windows.len() {
-        return Ok(None);
-    }
-    let start = start_at(state, windows);
-    let drained = seek_drained(alloc, &start, halves)?;
-    if drained.is_some() {
-        return Ok(drained);
+    let soon = if Sizes::of(&net).are_many() {
+        seek_drained(alloc, &start, halves)?
+    } else {
+        seek_first(alloc, &start, halves)?
+    };
+    if soon.is_some() {
+        return Ok(soon);
     }
     seek_by_shares(alloc, &start)
 }

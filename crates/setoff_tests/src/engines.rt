@@ -6,7 +6,9 @@ use level_engine::Halves;
 use net_presolve::{Inner, Parts, Sizes, Unused};
 use residual_state::{State, adopt};
 use setoff_model::Kind;
-use simplex_engine::{Solution, Start, seek_by_shares, seek_cold_by_shares, seek_solution};
+use simplex_engine::{
+    Solution, Start, seek_by_shares, seek_cold_by_shares, seek_drained, seek_first, seek_solution,
+};
 use std::alloc::Global;
 use std::process::Abort;
 
@@ -52,18 +54,22 @@ fn start_of<'a>(state: &'a State, begun: &'a Beginning) -> Start<'a> {
     }
 }
 
-// What the simplex finds where nothing was done before.
-fn found_from(rt: &impl Abort, alloc: Global, state: &State) -> Solution {
+// What the simplex finds where nothing was done before, by shares or by turns.
+fn found_from(rt: &impl Abort, alloc: Global, state: &State, by_shares: bool) -> Solution {
     let begun = beginning_of(rt, alloc, state);
     let start = start_of(state, &begun);
-    let found = seek_solution(alloc, &start, &begun.halves, 8).expect(rt, "memory");
+    let found = if by_shares {
+        seek_by_shares(alloc, &start).expect(rt, "memory")
+    } else {
+        seek_solution(alloc, &start, &begun.halves, 8).expect(rt, "memory")
+    };
     found.expect(rt, "a solution")
 }
 
 // Whether it is taken.
-fn is_taken(rt: &impl Abort, alloc: Global, net: &netting_graph::Net) -> bool {
+fn is_taken(rt: &impl Abort, alloc: Global, net: &netting_graph::Net, by_shares: bool) -> bool {
     let mut state = state_of_net(alloc, net).expect(rt, "memory");
-    let Solution { flows, prices } = found_from(rt, alloc, &state);
+    let Solution { flows, prices } = found_from(rt, alloc, &state, by_shares);
     adopt(alloc, &mut state, flows, prices).expect(rt, "memory")
 }
 
@@ -71,7 +77,7 @@ fn is_answered(rt: &impl Abort, alloc: Global, net: &Net) -> bool {
     let cut = cut_of(rt, alloc, kind_of(net), &net.windows, &net.owed);
     assert!(rt; cut.well_formed());
     let merged = netting_graph::Net::of(alloc, &cut).expect(rt, "memory");
-    is_taken(rt, alloc, &merged)
+    is_taken(rt, alloc, &merged, false) && is_taken(rt, alloc, &merged, true)
 }
 
 #[test]
@@ -89,7 +95,7 @@ fn the_simplex_is_taken(rt: HostRuntime) {
     assert!(rt; is_answered(&rt, alloc, &tight));
 }
 
-// A tree that is deep, and changes so often that its nodes are numbered anew.
+// A tree that is deep, and changes so often that its nodes are numbered anew. By shares, more is left than what is tried at first.
 #[test]
 fn a_long_chain_is_taken(rt: HostRuntime) {
     let alloc = rt.alloc();
@@ -167,15 +173,26 @@ fn sum(flows: &[u64]) -> u64 {
     sum
 }
 
-// What is found where all claims come by shares. From where nothing is set off alone as much is found.
+// Whether a solution was found that sets off so much.
+fn sets_off(rt: &impl Abort, found: Option<Solution>, total: u64) -> bool {
+    let found = found.expect(rt, "a solution");
+    sum(&found.flows) == total
+}
+
+// What is found where all claims come by shares. As much is found from where nothing is set off alone, from where the rest is drained, and
+// in the first turn.
 fn found_by_shares(rt: &impl Abort, alloc: Global, state: &State) -> Solution {
     let begun = beginning_of(rt, alloc, state);
     let start = start_of(state, &begun);
-    let cold = seek_cold_by_shares(alloc, &start).expect(rt, "memory");
-    let cold = cold.expect(rt, "a solution");
     let found = seek_by_shares(alloc, &start).expect(rt, "memory");
     let found = found.expect(rt, "a solution");
-    assert!(rt; sum(&cold.flows) == sum(&found.flows));
+    let total = sum(&found.flows);
+    let cold = seek_cold_by_shares(alloc, &start).expect(rt, "memory");
+    assert!(rt; sets_off(rt, cold, total));
+    let drained = seek_drained(alloc, &start, &begun.halves).expect(rt, "memory");
+    assert!(rt; sets_off(rt, drained, total));
+    let first = seek_first(alloc, &start, &begun.halves).expect(rt, "memory");
+    assert!(rt; sets_off(rt, first, total));
     found
 }
 

@@ -27,5 +27,5 @@ mod turns;
 pub use spanning_tree::{Advice, Edge, Halves, schedule};
 pub use turns::{
     Solution, Start, seek_alone, seek_by_shares, seek_cold, seek_cold_by_shares, seek_drained,
-    seek_from, seek_solution,
+    seek_first, seek_from, seek_solution,
 };

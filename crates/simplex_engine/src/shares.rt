@@ -3,13 +3,15 @@ use crate::ranking::largest_first;
 use crate::simplex::Simplex;
 use crate::turns::{Start, cents, node_prices};
 use loose_places::{at, put};
-use spanning_tree::schedule::{SHARE_GAIN, SHARE_SLICE, SHARED_BLOCKS, SHARED_SQUARES, SHARES};
+use spanning_tree::schedule::{
+    SHARE_GAIN, SHARE_SLICE, SHARED_BLOCKS, SHARED_SQUARES, SHARES, WARM_LEFT,
+};
 use spanning_tree::{Edge, Halves};
 use std::alloc::{AllocError, Global};
 
 // A simplex over arcs of its own: those of claims, and for each window one to the ground, for what the balance may rise by, and one from
 // it, for what it may fall by. Pieces are the places of these, and stand in the order of the arcs. The first arcs are open: no other may
-// enter.
+// enter. What is left is how much of the excess was outside when it was last asked.
 //
 // Where the largest arcs are at rest, a smaller one mostly holds less than any arc of the tree, so that it is filled at once, and the tree
 // stays as it is. In any other order nearly each claim that a circle passes is filled and emptied many times. Excess too is brought in over
@@ -21,6 +23,7 @@ pub(crate) struct Shares {
     halves: Halves,
     simplex: Simplex,
     open: usize,
+    left: u64,
 }
 
 // An arc that holds nothing.
@@ -48,6 +51,7 @@ impl Shares {
             halves,
             simplex,
             open: 0,
+            left: u64::MAX,
         })
     }
 
@@ -93,9 +97,11 @@ impl Shares {
         Ok(false)
     }
 
-    // Whether all of the excess was brought in.
-    pub(crate) fn has_all_inside(&self) -> bool {
-        self.simplex.still_outside() == 0
+    // Whether much was brought in of the excess that was outside when this was last asked. At first it is so.
+    pub(crate) fn gets_on(&mut self) -> bool {
+        let before = self.left;
+        self.left = self.simplex.still_outside();
+        self.left / WARM_LEFT <= before / 100
     }
 
     // The flow of each arc of the net.

@@ -4,9 +4,9 @@ use crate::shares::Shares;
 use crate::simplex::Simplex;
 use loose_places::{narrow, near};
 use spanning_tree::schedule::{
-    ALONE, DRAIN, DRAIN_BRIEF, DRAINED, FAR_OF, FAR_PARTS, FEW_HALVES, FULL_TRIAL, SHARE_TURNS,
-    SHARED_EARLY, SLICE, SLICE_MORE, SLICE_MOST, SLICES, SPARSE_HALVES, SPARSE_TRIAL, ShareTurn,
-    TURN, TURN_SQUARES, Trial, WARM, WHOLE, WHOLE_SQUARES,
+    ALONE, DRAIN, DRAIN_BRIEF, DRAINED, FAR_OF, FAR_PARTS, FEW_HALVES, FULL_TRIAL, SHARED,
+    SHARED_COLD, SHARED_EARLY, SLICE, SLICE_MORE, SLICE_MOST, SLICES, SPARSE_HALVES, SPARSE_TRIAL,
+    TURN, TURN_SQUARES, Trial, WARM, WARM_STEPS, WHOLE, WHOLE_SQUARES,
 };
 use spanning_tree::{Edge, Halves};
 use std::alloc::{AllocError, Global};
@@ -121,12 +121,43 @@ pub fn seek_drained(
     halves: &Halves,
 ) -> Result<Option<Solution>, AllocError> {
     let drain = drain_for(alloc, start, halves, DRAIN_BRIEF)?;
-    if !drain.is_over() {
-        return Ok(None);
+    if drain.is_over() {
+        let work = work_of(start, halves, DRAINED);
+        drained_within(alloc, start, halves, drain, work)
+    } else {
+        Ok(None)
     }
+}
+
+/// A solution from where the rest of the excess was drained, or else from where nothing is set off, if one is found in the first turn.
+///
+/// Nothing is proved of it. The only error is running out of memory.
+pub fn seek_first(
+    alloc: Global,
+    start: &Start,
+    halves: &Halves,
+) -> Result<Option<Solution>, AllocError> {
+    let drain = drain_for(alloc, start, halves, DRAIN_BRIEF)?;
+    if drain.is_over() {
+        let work = first_turn(start, halves);
+        drained_within(alloc, start, halves, drain, work)
+    } else {
+        drop(drain);
+        whole_at_once(alloc, start, halves)
+    }
+}
+
+// A solution from where the drain ended, if one is found with so much work.
+fn drained_within(
+    alloc: Global,
+    start: &Start,
+    halves: &Halves,
+    drain: Drain,
+    work: u64,
+) -> Result<Option<Solution>, AllocError> {
     let prices = node_prices(alloc, start.prices)?;
     let mut drained = drained_simplex(alloc, start, halves, drain, &prices)?;
-    if drained.run(alloc, start.edges, halves, work_of(start, halves, DRAINED))? {
+    if drained.run(alloc, start.edges, halves, work)? {
         answer(alloc, start.edges, &drained)
     } else {
         Ok(None)
@@ -140,36 +171,44 @@ pub fn seek_drained(
 pub fn seek_by_shares(alloc: Global, start: &Start) -> Result<Option<Solution>, AllocError> {
     let mut cold = cold_shares(alloc, start)?;
     let mut warm = Shares::new(alloc, start)?;
-    for turn in SHARE_TURNS {
-        let found = run_turn(alloc, start, &mut cold, &mut warm, turn)?;
-        if found.is_some() {
-            return Ok(found);
-        }
-    }
-    Ok(None)
+    run_both(alloc, start, &mut cold, &mut warm)
 }
 
-// The solution that one of the two comes to in a turn. The warm one goes first where all of its excess was brought in, since it is soon done
-// then, and may be far from it before.
-fn run_turn(
+// The solution that one of the two comes to. The warm one is soon done where it gets on, and far from it elsewhere.
+fn run_both(
     alloc: Global,
     start: &Start,
     cold: &mut Shares,
     warm: &mut Shares,
-    turn: ShareTurn,
 ) -> Result<Option<Solution>, AllocError> {
-    let is_warm_first = warm.has_all_inside();
-    if is_warm_first {
-        let found = run_shares(alloc, start, warm, turn.warm)?;
+    let found = run_shares(alloc, start, cold, SHARED_COLD)?;
+    if found.is_some() {
+        return Ok(found);
+    }
+    for work in WARM_STEPS {
+        let found = run_shares(alloc, start, warm, work)?;
         if found.is_some() {
             return Ok(found);
         }
+        if !warm.gets_on() {
+            return run_in_turn(alloc, start, cold, warm);
+        }
     }
-    let found = run_shares(alloc, start, cold, turn.cold)?;
-    if found.is_some() || is_warm_first {
+    run_in_turn(alloc, start, warm, cold)
+}
+
+// The solution that the first comes to, or else the other.
+fn run_in_turn(
+    alloc: Global,
+    start: &Start,
+    first: &mut Shares,
+    other: &mut Shares,
+) -> Result<Option<Solution>, AllocError> {
+    let found = run_shares(alloc, start, first, SHARED)?;
+    if found.is_some() {
         return Ok(found);
     }
-    run_shares(alloc, start, warm, turn.warm)
+    run_shares(alloc, start, other, SHARED)
 }
 
 /// A solution to which all arcs come by shares from where nothing is set off, if one is found soon.
@@ -416,9 +455,7 @@ fn by_turns(
     warm: &mut Simplex,
     turns: u32,
 ) -> Result<Option<Solution>, AllocError> {
-    let nodes = start.excess.len() as u64;
-    let mut work = nodes.saturating_mul(nodes).saturating_mul(TURN_SQUARES);
-    work = work.saturating_add((halves.len() as u64).saturating_mul(TURN));
+    let mut work = first_turn(start, halves);
     for _ in 0..turns {
         if drained.run(alloc, start.edges, halves, work)? {
             return answer(alloc, start.edges, drained);
@@ -429,6 +466,12 @@ fn by_turns(
         work = work.saturating_mul(2);
     }
     Ok(None)
+}
+
+// The work of the first turn.
+fn first_turn(start: &Start, halves: &Halves) -> u64 {
+    let square = square_of(start).saturating_mul(TURN_SQUARES);
+    square.saturating_add((halves.len() as u64).saturating_mul(TURN))
 }
 
 // A simplex that begins at the prices of the start.
