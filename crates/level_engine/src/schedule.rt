@@ -137,7 +137,7 @@ pub const SHARES_HALVES: usize = 12;
 pub const DRAINED: u64 = 448;
 
 /// And that of one from risen prices.
-pub const RISEN: u64 = 640;
+pub const RISEN: u64 = 900;
 
 /// The work of a simplex to which all arcs come by shares from where nothing is set off, before the levels, for each arc, and for each
 /// `SHARED_SQUARES` of the square of the nodes.
