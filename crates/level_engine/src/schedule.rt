@@ -10,7 +10,7 @@ pub const FEW_HALVES: usize = 3;
 /// With at most so many halves for each node it is asked sooner whether levels get on.
 pub const SOME_HALVES: usize = 5;
 
-/// With at most so many halves for each node the whole is sought from where nothing is set off after some levels, and else before them.
+/// With at most so many halves for each node the whole is sought from where nothing is set off before there are levels.
 pub const SPARSE_HALVES: usize = 6;
 
 /// With more halves than so many for each node the net is hardly in parts, and none are looked for.
@@ -55,10 +55,7 @@ pub const LEVEL_GAIN: i64 = 4;
 /// The part of the halves with gain 0, one in so many, that pushes at a level may look at after each search for layers.
 pub const LEVEL_FUEL: usize = 4;
 
-/// After so many levels the whole is sought from where nothing is set off, in a net with at most `SPARSE_HALVES`.
-pub const LEVELS_BEFORE_COLD: usize = 2;
-
-/// In other nets it is sought where more than `FAR_PARTS` of `FAR_OF` parts of what is set off are in excess, and so have to go back.
+/// In other nets it is sought so where more than `FAR_PARTS` of `FAR_OF` parts of what is set off are in excess, and so have to go back.
 pub const FAR_PARTS: u128 = 3;
 
 /// See `FAR_PARTS`.

@@ -12,28 +12,26 @@ use simplex_engine::schedule::{
 };
 use std::alloc::{AllocError, Global};
 
-// Goes from one level of prices to the next while they get on, up to a level or to the last that is tried at first. It is given
-// what was left before each level, and goes on after these.
+// Goes from one level of prices to the next while they get on, up to the last that is tried at first.
 pub(crate) fn first_levels(
     alloc: Global,
     state: &mut State,
     advice: &mut Advice,
-    past: &mut Vec<u128>,
-    last: usize,
 ) -> Result<(), AllocError>
     requires { IsState state.old }
     ensures { OnOk result (IsNoWorse state.old state.new) }
 {
     let halves = advice.halves().len();
-    let most = most_levels(state, halves).min(last);
+    let most = most_levels(state, halves);
+    let mut past = Vec::with_capacity(alloc, most)?;
     let asked = if halves / SOME_HALVES <= state.excess.len() {
         LEVELS_ASKED_SOON
     } else {
         LEVELS_ASKED
     };
-    for _ in past.len()..most {
+    for _ in 0..most {
         let left = surplus_of(&state.excess);
-        if left == 0 || is_stalled(past, left, asked) {
+        if left == 0 || is_stalled(&past, left, asked) {
             return Ok(());
         }
         past.push(left)?;

@@ -8,7 +8,7 @@ use crate::inner_state::start_at;
 use crate::levels::{all_levels, first_levels};
 use crate::parting::take_parts;
 use flow_solver::{State, adopt, surplus_of};
-use simplex_engine::schedule::{LEVELS_BEFORE_COLD, LEVELS_WEIGHTED, SPARSE_HALVES, TURNS};
+use simplex_engine::schedule::TURNS;
 use simplex_engine::{Advice, Halves, Solution, seek_cold, seek_solution};
 use std::alloc::{AllocError, Global};
 
@@ -60,89 +60,39 @@ fn settle_over(
     ensures state { OnOk result (StaysOn state.old state.new) }
     ensures rest { OnOk result ((v : ℕ) → v < length state.new.excess.items → excess_of state.new.excess.items v ≤ℤ pos 0) }
 {
-    let halves = engines_at_first(alloc, state, halves, windows, turns)?;
+    take_cold(alloc, state, &halves, windows, turns)?;
+    let halves = levels_at_first(alloc, state, halves)?;
     take_by_size(alloc, state, &halves, windows, turns)?;
     take_solution(alloc, state, &halves, windows, turns)?;
     levels_to_the_end(alloc, state)
 }
 
-// Seeks the whole from where nothing is set off, and goes from one level of prices to the next while they get on. Gives the halves back.
-fn engines_at_first(
-    alloc: Global,
-    state: &mut State,
-    halves: Halves,
-    windows: &[u64],
-    turns: u32,
-) -> Result<Halves, AllocError>
+// Goes from one level of prices to the next while they get on. The halves of the arcs; the other lists of the advice make room.
+fn levels_at_first(alloc: Global, state: &mut State, halves: Halves) -> Result<Halves, AllocError>
     requires { IsState state.old }
     ensures { OnOk result (StaysOn state.old state.new) }
 {
-    let levels = levels_before_cold(halves.len(), state.excess.len());
-    take_cold(alloc, state, &halves, windows, turns, levels == 0)?;
     if surplus_of(&state.excess) == 0 {
         return Ok(halves);
     }
-    levels_at_first(alloc, state, halves, windows, turns)
-}
-
-// Goes from one level of prices to the next while they get on. The halves of the arcs; the other lists of the advice make room.
-fn levels_at_first(
-    alloc: Global,
-    state: &mut State,
-    halves: Halves,
-    windows: &[u64],
-    turns: u32,
-) -> Result<Halves, AllocError>
-    requires { IsState state.old }
-    ensures { OnOk result (StaysOn state.old state.new) }
-{
     let mut advice = Advice::over(alloc, halves, state.edges.len(), state.excess.len())?;
-    levels_with(alloc, state, &mut advice, windows, turns)?;
+    first_levels(alloc, state, &mut advice)?;
     Ok(advice.into_halves())
 }
 
-// Goes over these levels with the advice. Where arcs are few, the whole is sought after some of them.
-fn levels_with(
-    alloc: Global,
-    state: &mut State,
-    advice: &mut Advice,
-    windows: &[u64],
-    turns: u32,
-) -> Result<(), AllocError>
-    requires { IsState state.old }
-    ensures { OnOk result (StaysOn state.old state.new) }
-{
-    let levels = levels_before_cold(advice.halves().len(), state.excess.len());
-    let mut past = Vec::with_capacity(alloc, LEVELS_WEIGHTED)?;
-    first_levels(alloc, state, advice, &mut past, levels)?;
-    take_cold(alloc, state, advice.halves(), windows, turns, levels != 0)?;
-    first_levels(alloc, state, advice, &mut past, usize::MAX)?;
-    Ok(())
-}
-
-// How many levels come before the whole is sought from where nothing is set off.
-fn levels_before_cold(halves: usize, nodes: usize) -> usize {
-    if halves / SPARSE_HALVES <= nodes {
-        LEVELS_BEFORE_COLD
-    } else {
-        0
-    }
-}
-
-// Takes a whole solution that is found from where nothing is set off, by all claims or by shares, where it is time, any excess is left,
-// and there are turns.
+// Takes a whole solution that is found from where nothing is set off, by all claims or by shares, where any excess is left and there are
+// turns.
 fn take_cold(
     alloc: Global,
     state: &mut State,
     halves: &Halves,
     windows: &[u64],
     turns: u32,
-    now: bool,
 ) -> Result<(), AllocError>
     requires { IsState state.old }
     ensures { OnOk result (StaysOn state.old state.new) }
 {
-    if !now || turns == 0 || surplus_of(&state.excess) == 0 {
+    if turns == 0 || surplus_of(&state.excess) == 0 {
         return Ok(());
     }
     let found = find_cold(alloc, state, halves, windows)?;
