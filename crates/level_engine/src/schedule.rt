@@ -151,7 +151,7 @@ pub const SHARED_COLD: u64 = 40;
 pub const WARM_STEPS: [u64; 4] = [350, 700, 1_400, 2_800];
 
 /// It gets on where at most so many of a hundred cents that were outside before a step are so behind it.
-pub const WARM_LEFT: u64 = 85;
+pub const WARM_LEFT: u64 = 90;
 
 /// How far the work of each of the two goes after that, first of the one from where the levels stand, if it got on, and else of the other.
 pub const SHARED: u64 = 9_000;
