@@ -6,7 +6,8 @@ programs/plain/ in place of the toolchain's library. OUT is by default bench/out
 `bench/nets.py` and `bench/unions.py` print it, and is called as OUT NET RUNS. It solves the net so many times, tests that the flows are
 lawful and that the prices prove them greatest, and prints the least processor milliseconds and the total.
 
-So the solver of an earlier commit is timed beside the present one in minutes, and LEMON beside both on the same processor.
+So the solver of an earlier commit is timed beside the present one in minutes, and LEMON beside both on the same processor. Branches are
+kept from crossing 32 bytes: one that does is slow on some Intel processors, so that by chance a whole net takes a fifth longer.
 """
 
 import pathlib
@@ -19,6 +20,7 @@ CRATES = "residual_network price_squeezing residual_state loose_places level_eng
 # Laws have no code, and the solver of nets is called by its state.
 LEFT_OUT = {("residual_network", "laws"), ("level_solver", "solver")}
 CLAUSE = re.compile(r"(requires|ensures)\b")
+FLAGS = ["-C", "target-cpu=native", "-C", "llvm-args=-x86-branches-within-32B-boundaries"]
 
 
 def without_contracts(text):
@@ -72,7 +74,7 @@ def main():
     source = out.with_suffix(".rs")
     parts = [HERE / "programs" / "plain" / name for name in ("library.rs.in", "main.rs.in")]
     source.write_text("\n".join([parts[0].read_text(), *[crate_of(folder, name) for name in CRATES], parts[1].read_text()]))
-    return subprocess.run(["rustc", "-O", "-C", "target-cpu=native", "--edition=2021", source, "-o", out], check=False).returncode
+    return subprocess.run(["rustc", "-O", *FLAGS, "--edition=2021", source, "-o", out], check=False).returncode
 
 
 if __name__ == "__main__":
