@@ -193,6 +193,10 @@ fn run_both(
         if !warm.gets_on() {
             return run_in_turn(alloc, start, cold, warm);
         }
+        let found = run_shares(alloc, start, cold, SHARED_EARLY)?;
+        if found.is_some() {
+            return Ok(found);
+        }
     }
     run_in_turn(alloc, start, warm, cold)
 }
