@@ -136,25 +136,22 @@ pub const DRAINED: u64 = 448;
 /// And that of one from risen prices.
 pub const RISEN: u64 = 900;
 
-/// The work of a simplex to which all arcs come by shares from where nothing is set off, before the levels, for each arc, and for each
-/// `SHARED_SQUARES` of the square of the nodes.
+/// The work at first of a simplex to which all arcs come by shares from where nothing is set off, for each arc, and for each
+/// `SHARED_SQUARES` of the square of the nodes. It goes on where more than half of the arcs are open then.
 pub const SHARED_EARLY: u64 = 400;
 
 /// See `SHARED_EARLY`.
 pub const SHARED_SQUARES: u64 = 400;
 
-/// Its work at first where the levels stall.
-pub const SHARED_COLD: u64 = 40;
-
-/// The simplex to which all arcs come by shares from where the levels stand goes by these steps then, as long as it gets on. So far its work
-/// goes, as that of `SHARED_EARLY`.
+/// Else the one to which all arcs come by shares from where the levels stand goes by these steps, as long as it gets on. So far its work goes,
+/// as that of `SHARED_EARLY`.
 pub const WARM_STEPS: [u64; 4] = [350, 700, 1_400, 2_800];
 
 /// It gets on where at most so many of a hundred cents that were outside before a step are so behind it.
 pub const WARM_LEFT: u64 = 90;
 
-/// How far the work of each of the two goes after that, first of the one from where the levels stand, if it got on, and else of the other.
-pub const SHARED: u64 = 9_000;
+/// How far the work of each of the two goes in the end, first of the one from where the levels stand, if it got on, and else of the other.
+pub const SHARED: u64 = 20_000;
 
 /// Arcs come in so many shares.
 pub const SHARES: usize = 8;
@@ -193,7 +190,10 @@ pub const BLOCK: usize = 8;
 pub const SHARED_BLOCKS: usize = 2;
 
 /// The nodes of the tree are numbered anew after so much work in the tree for each arc.
-pub const NUMBERED: u64 = 32;
+pub const NUMBERED: u64 = 128;
+
+/// The tree falls into at most so many fragments, whose potentials change together, before its nodes are laid out anew.
+pub const FRAGMENTS: usize = 2_048;
 
 /// A change of potentials is followed by a look at the arcs around it where they have at most so many halves.
 pub const AROUND: u64 = 1_024;

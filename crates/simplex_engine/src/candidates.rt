@@ -1,7 +1,7 @@
 //! Which arc enters the tree.
 use loose_places::{at, put};
 use spanning_tree::schedule::{AROUND, BLOCK, LOOKS, RUN};
-use spanning_tree::{Arc, Halves, NO_ARC, NOBODY, Part, Tree};
+use spanning_tree::{Arc, Halves, NO_ARC, Potentials, Tree};
 use std::alloc::{AllocError, Global};
 
 // Runs are looked at in an order that spreads over the net.
@@ -78,7 +78,7 @@ impl Candidates {
     pub(crate) fn next(
         &mut self,
         arcs: &mut [Arc],
-        potentials: &[i32],
+        potentials: &Potentials,
         most: u64,
     ) -> Option<usize> {
         for _ in 0..u32::MAX {
@@ -98,7 +98,7 @@ impl Candidates {
     }
 
     // The worst arc of the next runs.
-    fn worst_of_block(&mut self, arcs: &[Arc], potentials: &[i32]) -> Worst {
+    fn worst_of_block(&mut self, arcs: &[Arc], potentials: &Potentials) -> Worst {
         let mut worst = NONE_BAD;
         for _ in 0..self.block {
             let first = self.run.wrapping_mul(self.length);
@@ -117,7 +117,7 @@ impl Candidates {
     }
 
     // The worst of as many of the list, from its end. Those that are bad no longer leave it.
-    fn worst_of_list(&mut self, arcs: &mut [Arc], potentials: &[i32]) -> Worst {
+    fn worst_of_list(&mut self, arcs: &mut [Arc], potentials: &Potentials) -> Worst {
         let mut worst = NONE_BAD;
         let mut place = self.list.len();
         for _ in 0..self.block.wrapping_mul(self.length) {
@@ -179,24 +179,25 @@ impl Candidates {
         }
     }
 
-    // Lists the bad arcs around the nodes of a part. So many halves are there.
+    // Lists the bad arcs around some nodes, where no more than so many halves are there.
     pub(crate) fn look(
         &mut self,
         arcs: &mut [Arc],
         halves: &Halves,
         tree: &Tree,
-        part: Part,
-        around: u64,
+        nodes: &[u16],
     ) -> Result<(), AllocError> {
-        self.looked = self.looked.saturating_add(around);
-        self.work = self.work.saturating_add(around);
-        let mut node = part.first;
-        for _ in 0..u16::MAX {
-            if node == NOBODY {
+        let mut around = 0u64;
+        for &node in nodes {
+            around = around.wrapping_add(halves.around(usize::from(tree.name(node))).len() as u64);
+            if AROUND < around {
                 return Ok(());
             }
+        }
+        self.looked = self.looked.saturating_add(around);
+        self.work = self.work.saturating_add(around);
+        for &node in nodes {
             self.look_at(arcs, halves, tree, node)?;
-            node = tree.step(part, node);
         }
         Ok(())
     }
@@ -232,7 +233,7 @@ impl Candidates {
 #[inline(always)]
 fn worst_of_run(
     arcs: &[Arc],
-    potentials: &[i32],
+    potentials: &Potentials,
     first: usize,
     end: usize,
     before: Worst,

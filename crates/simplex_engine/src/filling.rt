@@ -21,7 +21,7 @@ impl Filling {
     pub(crate) fn new(
         alloc: Global,
         arcs: &[Arc],
-        tree: &Tree,
+        tree: &mut Tree,
         first: usize,
         end: usize,
     ) -> Result<Filling, AllocError> {

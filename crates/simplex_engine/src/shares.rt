@@ -97,6 +97,11 @@ impl Shares {
         Ok(false)
     }
 
+    // Whether more than half of the arcs are open.
+    pub(crate) fn are_far_on(&self) -> bool {
+        self.edges.len() / 2 < self.open
+    }
+
     // Whether much was brought in of the excess that was outside when this was last asked. At first it is so.
     pub(crate) fn gets_on(&mut self) -> bool {
         let before = self.left;

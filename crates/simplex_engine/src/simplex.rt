@@ -4,7 +4,7 @@ use crate::filling::Filling;
 use loose_places::{at, put, short, small};
 use spanning_tree::schedule::NUMBERED;
 use spanning_tree::{
-    Arc, Branch, Circle, Edge, Halves, MUCH, NO_ARC, NOBODY, Part, Start, Tree, arcs_of, own_code,
+    Arc, Branch, Circle, Edge, Halves, MUCH, NO_ARC, NOBODY, Room, Start, Tree, arcs_of, own_code,
     plant,
 };
 use std::alloc::{AllocError, Global};
@@ -17,6 +17,7 @@ pub(crate) struct Simplex {
     arcs: Vec<Arc>,
     tree: Tree,
     candidates: Candidates,
+    changed: Vec<u16>,
     flows: Vec<u64>,
     prices: Vec<i32>,
     excess: Vec<i64>,
@@ -59,12 +60,13 @@ impl Simplex {
         };
         let mut tree = plant(alloc, &mut arcs, &start, &mut excess)?;
         let root = tree.root();
-        put(&mut tree.potentials, usize::from(root), big);
+        tree.potentials.set(root, big);
         let candidates = Candidates::new(alloc, arcs.len())?;
         Ok(Simplex {
             arcs,
             tree,
             candidates,
+            changed: Vec::new(alloc),
             flows,
             prices: Vec::from_slice(alloc, prices)?,
             excess,
@@ -98,7 +100,7 @@ impl Simplex {
         first: usize,
         end: usize,
     ) -> Result<(), AllocError> {
-        let mut filling = Filling::new(alloc, &self.arcs, &self.tree, first, end)?;
+        let mut filling = Filling::new(alloc, &self.arcs, &mut self.tree, first, end)?;
         filling.run(&mut self.arcs, edges, &mut self.tree);
         self.candidates.work = self.candidates.work.saturating_add(filling.work);
         Ok(())
@@ -109,9 +111,9 @@ impl Simplex {
         let root = self.tree.root();
         let mut cents = 0u64;
         for node in 0..self.excess.len() {
-            let own = self.tree.node(small(node));
-            if own.parent == root {
-                cents = cents.saturating_add(own.up.min(own.down));
+            if self.tree.node(small(node)).parent == root {
+                let room = self.tree.room(small(node));
+                cents = cents.saturating_add(room.up.min(room.down));
             }
         }
         cents
@@ -287,29 +289,14 @@ impl Simplex {
         self.set_side(code, circle.behind == (code % 2 == 0));
         let branch = branch_of(entering, &circle);
         self.set_in_tree(entering.code);
-        self.tree.rehang(&circle, branch);
         let by = if circle.behind {
             entering.gain
         } else {
             entering.gain.wrapping_neg()
         };
-        self.change(halves, branch.inner, by)
-    }
-
-    // Changes the potentials of a part, or of all the rest by the negative where that is less work, and looks at the arcs there.
-    fn change(&mut self, halves: &Halves, part: u16, by: i32) -> Result<(), AllocError> {
-        let root = self.tree.root();
-        let all = self.tree.node(root).size;
-        let few = self.tree.node(part).size <= all / 2;
-        let (top, spared, by) = if few {
-            (part, NOBODY, by)
-        } else {
-            (root, part, by.wrapping_neg())
-        };
-        let moved = self.tree.part(top, spared);
-        let nodes = self.tree.change(moved, by);
+        let nodes = self.tree.rehang(&circle, branch, by);
         self.note_work(nodes.wrapping_mul(2));
-        self.look(halves, moved)
+        self.look(halves, nodes)
     }
 
     // Notes work in the tree.
@@ -318,18 +305,14 @@ impl Simplex {
         self.moved = self.moved.saturating_add(work);
     }
 
-    // Looks at the arcs around a part, where they are few.
-    fn look(&mut self, halves: &Halves, part: Part) -> Result<(), AllocError> {
-        let most = self.candidates.most_around();
-        if most == 0 {
+    // Looks at the arcs around the nodes whose potentials changed, of which there are so many, where they are few.
+    fn look(&mut self, halves: &Halves, nodes: u64) -> Result<(), AllocError> {
+        if self.candidates.most_around() < nodes {
             return Ok(());
         }
-        let around = self.tree.around(halves, part, most);
-        if most < around {
-            return Ok(());
-        }
+        self.tree.list_changed(&mut self.changed)?;
         self.candidates
-            .look(&mut self.arcs, halves, &self.tree, part, around)
+            .look(&mut self.arcs, halves, &self.tree, &self.changed)
     }
 
     // Lets the arc of a half be empty or full. An arc to the root has no side.
@@ -354,9 +337,10 @@ impl Simplex {
             flows.push(if full { edge.capacity } else { 0 })?;
         }
         for node in 0..self.excess.len() {
-            let own = self.tree.node(small(node));
-            let flow = if own.code % 2 == 0 { own.down } else { own.up };
-            put(&mut flows, (own.code / 2) as usize, flow);
+            let code = self.tree.node(small(node)).code;
+            let room = self.tree.room(small(node));
+            let flow = if code % 2 == 0 { room.down } else { room.up };
+            put(&mut flows, (code / 2) as usize, flow);
         }
         Ok(flows)
     }
@@ -364,7 +348,8 @@ impl Simplex {
     // The price of each party.
     pub(crate) fn prices(&self, alloc: Global) -> Result<Vec<i64>, AllocError> {
         let mut potentials = vec![in alloc; 0i32; self.excess.len()]?;
-        for (node, &own) in self.tree.potentials.iter().enumerate() {
+        for node in 0..self.excess.len() {
+            let own = self.tree.potential(small(node));
             put(
                 &mut potentials,
                 usize::from(self.tree.name(small(node))),
@@ -383,23 +368,27 @@ impl Simplex {
 
 // How the part that the leaving arc cuts off is hung by the entering one.
 fn branch_of(entering: Entering, circle: &Circle) -> Branch {
-    let room = entering.room.wrapping_sub(circle.least);
+    let rest = entering.room.wrapping_sub(circle.least);
     let held = entering.held.wrapping_add(circle.least);
     if circle.behind {
         Branch {
             inner: entering.from,
             outer: entering.to,
             code: entering.code,
-            up: room,
-            down: held,
+            room: Room {
+                up: rest,
+                down: held,
+            },
         }
     } else {
         Branch {
             inner: entering.to,
             outer: entering.from,
             code: entering.code ^ 1,
-            up: held,
-            down: room,
+            room: Room {
+                up: held,
+                down: rest,
+            },
         }
     }
 }

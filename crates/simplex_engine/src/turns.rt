@@ -5,8 +5,8 @@ use crate::simplex::Simplex;
 use loose_places::{narrow, near};
 use spanning_tree::schedule::{
     ALONE, DRAIN, DRAIN_BRIEF, DRAINED, FAR_OF, FAR_PARTS, FEW_HALVES, FULL_TRIAL, SHARED,
-    SHARED_COLD, SHARED_EARLY, SLICE, SLICE_MORE, SLICE_MOST, SLICES, SPARSE_HALVES, SPARSE_TRIAL,
-    TURN, TURN_SQUARES, Trial, WARM, WARM_STEPS, WHOLE, WHOLE_SQUARES,
+    SHARED_EARLY, SLICE, SLICE_MORE, SLICE_MOST, SLICES, SPARSE_HALVES, SPARSE_TRIAL, TURN,
+    TURN_SQUARES, Trial, WARM, WARM_STEPS, WHOLE, WHOLE_SQUARES,
 };
 use spanning_tree::{Edge, Halves};
 use std::alloc::{AllocError, Global};
@@ -170,21 +170,33 @@ fn drained_within(
 /// Nothing is proved of it. The only error is running out of memory.
 pub fn seek_by_shares(alloc: Global, start: &Start) -> Result<Option<Solution>, AllocError> {
     let mut cold = cold_shares(alloc, start)?;
-    let mut warm = Shares::new(alloc, start)?;
-    run_both(alloc, start, &mut cold, &mut warm)
+    run_from_cold(alloc, start, &mut cold)
 }
 
-// The solution that one of the two comes to. The warm one is soon done where it gets on, and far from it elsewhere.
+// The solution that the cold shares come to, where they are far on soon, or else one of these and the warm ones.
+fn run_from_cold(
+    alloc: Global,
+    start: &Start,
+    cold: &mut Shares,
+) -> Result<Option<Solution>, AllocError> {
+    let found = run_shares(alloc, start, cold, SHARED_EARLY)?;
+    if found.is_some() {
+        return Ok(found);
+    }
+    if cold.are_far_on() {
+        return run_shares(alloc, start, cold, SHARED);
+    }
+    let mut warm = Shares::new(alloc, start)?;
+    run_both(alloc, start, cold, &mut warm)
+}
+
+// The solution that one of the two comes to. The warm one is soon done as long as it gets on, and far from it elsewhere.
 fn run_both(
     alloc: Global,
     start: &Start,
     cold: &mut Shares,
     warm: &mut Shares,
 ) -> Result<Option<Solution>, AllocError> {
-    let found = run_shares(alloc, start, cold, SHARED_COLD)?;
-    if found.is_some() {
-        return Ok(found);
-    }
     for work in WARM_STEPS {
         let found = run_shares(alloc, start, warm, work)?;
         if found.is_some() {
@@ -192,10 +204,6 @@ fn run_both(
         }
         if !warm.gets_on() {
             return run_in_turn(alloc, start, cold, warm);
-        }
-        let found = run_shares(alloc, start, cold, SHARED_EARLY)?;
-        if found.is_some() {
-            return Ok(found);
         }
     }
     run_in_turn(alloc, start, warm, cold)

@@ -1,4 +1,5 @@
 //! The arcs as the simplex sees them.
+use crate::potentials::Potentials;
 use level_engine::Edge;
 use loose_places::{at, small};
 use std::alloc::{AllocError, Global};
@@ -30,15 +31,15 @@ pub const NO_ARC: Arc = Arc {
 impl Arc {
     /// What a cent more on the arc gains at these potentials.
     #[inline(always)]
-    pub fn gain(&self, potentials: &[i32]) -> i32 {
-        let tail = at(potentials, usize::from(self.tail), 0);
-        let head = at(potentials, usize::from(self.head), 0);
+    pub fn gain(&self, potentials: &Potentials) -> i32 {
+        let tail = potentials.of(self.tail);
+        let head = potentials.of(self.head);
         i32::from(self.reward).wrapping_sub(tail).wrapping_add(head)
     }
 
     /// What a cent gains that leaves the bound. The arc is bad where this is above 0.
     #[inline(always)]
-    pub fn badness(&self, potentials: &[i32]) -> i32 {
+    pub fn badness(&self, potentials: &Potentials) -> i32 {
         self.gain(potentials).wrapping_mul(i32::from(self.side))
     }
 }

@@ -1,17 +1,20 @@
-//! The tree of a network simplex: its arcs, its nodes in order, and the tree that a simplex starts from.
+//! The tree of a network simplex: its arcs, its nodes, their potentials, and the tree that a simplex starts from.
 //!
 //! The tree joins all nodes to a root that no claim has. Of each node it knows the arc to its parent and how much can be moved over
-//! that, and of all of them the order in which they hang, so that a part is gone through without a search. Nothing is proved of it:
-//! who takes a solution tests that. The tree is that of Ahuja, Magnanti and Orlin, "Network Flows", 1993, chapter 11.
+//! that. Potentials change by fragments of the tree, so that a pivot does not go through all nodes of the part that it moves. Nothing is
+//! proved of it: who takes a solution tests that. The tree is that of Ahuja, Magnanti and Orlin, "Network Flows", 1993, chapter 11.
 #![tactic(auto)]
 
 mod arcs;
 mod forest;
-mod order;
+mod fragments;
+mod layout;
+mod potentials;
+mod runs;
 mod tree;
 
 pub use arcs::{Arc, NO_ARC, arcs_of};
 pub use forest::{MUCH, Start, own_code, plant};
 pub use level_engine::{Advice, Edge, Half, Halves, schedule};
-pub use order::Part;
-pub use tree::{Branch, Circle, NOBODY, Node, Tree};
+pub use potentials::Potentials;
+pub use tree::{Branch, Circle, NOBODY, Node, Room, Tree};
