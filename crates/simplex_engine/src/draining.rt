@@ -1,7 +1,7 @@
 //! The rest of the excess, moved back.
 use crate::buckets::Buckets;
-use loose_places::{at, put, short};
-use spanning_tree::{Half, Halves};
+use loose_places::{at, put, short, small};
+use spanning_tree::{Half, Halves, Queue};
 use std::alloc::{AllocError, Global};
 
 // The flow of each arc and the excess of each node, and the flows of the windows at which no balance changes.
@@ -75,39 +75,34 @@ impl Drain {
 
     // Gives each node its label, by a search from those that want excess.
     fn label_all(&mut self, alloc: Global, halves: &Halves) -> Result<(), AllocError> {
-        let mut order = Vec::with_capacity(alloc, self.labels.len())?;
+        let mut order = Queue::new(alloc, self.labels.len())?;
         for (node, &excess) in self.excess.iter().enumerate() {
             if excess < 0 {
                 put(&mut self.labels, node, 0);
-                order.push(short(node))?;
+                order.add(small(node));
             }
         }
         for place in 0..self.labels.len() {
             if order.len() <= place {
-                return Ok(());
+                break;
             }
-            let node = order[place];
-            self.label_around(&mut order, halves, node)?;
+            let node = order.node(place);
+            self.label_around(&mut order, halves, node);
         }
         Ok(())
     }
 
     // Labels the nodes from which excess can be moved to a node.
-    fn label_around(
-        &mut self,
-        order: &mut Vec<u32>,
-        halves: &Halves,
-        node: u32,
-    ) -> Result<(), AllocError> {
-        let label = at(&self.labels, node as usize, 0).wrapping_add(1);
-        for half in halves.around(node as usize) {
-            let far = half.far();
-            if at(&self.labels, far as usize, 0) == u32::MAX && 0 < self.room(half.code ^ 1) {
-                put(&mut self.labels, far as usize, label);
-                order.push(far)?;
+    fn label_around(&mut self, order: &mut Queue, halves: &Halves, node: u16) {
+        let node = usize::from(node);
+        let label = at(&self.labels, node, 0).wrapping_add(1);
+        for half in halves.around(node) {
+            let far = half.far() as usize;
+            if at(&self.labels, far, 0) == u32::MAX && 0 < self.room(half.code ^ 1) {
+                put(&mut self.labels, far, label);
+                order.add(small(far));
             }
         }
-        Ok(())
     }
 
     // Lets the nodes with an excess wait. One without a label has the number of nodes for it.

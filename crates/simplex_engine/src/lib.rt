@@ -6,9 +6,9 @@
 //! and moves and no time, so the answer is the same on each machine. Nothing is proved of the solution but that it comes, or none:
 //! `adopt` of `residual_state` tests it.
 //!
-//! Arcs may also come to a simplex by shares, those that hold most first: from where the levels stand, as long as it brings in much of the
-//! excess, or from where nothing is set off. What the tree lets through of a share is filled at once. The next share comes where no open arc
-//! is bad any more, or where the open ones hardly bring in any more excess.
+//! Arcs may also come to a simplex by shares, those that hold most first: from where the levels stand, as long as it brings in much of
+//! the excess, or from where nothing is set off. What the tree lets through of a share is filled at once. The next share comes where no
+//! open arc is bad any more, or where the open ones hardly bring in any more excess.
 //!
 //! Its words: an arc is bad where flow would gain by leaving the bound that it is at; the tree joins all nodes to a root that no
 //! claim has; a pivot brings a bad arc into the tree, moves what the circle holds, and lets another arc go. The rules are those of

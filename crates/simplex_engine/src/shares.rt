@@ -155,14 +155,16 @@ fn simplex_from(
 // How much each piece holds: those of the claims, and then of each window by what the balance may rise and fall.
 fn amounts_of(alloc: Global, edges: &[Edge], windows: &[u64]) -> Result<Vec<u64>, AllocError> {
     let claims = edges.len().saturating_sub(windows.len());
-    let mut amounts = Vec::with_capacity(alloc, edges.len().saturating_add(windows.len()))?;
+    let mut amounts = vec![in alloc; 0u64; edges.len().saturating_add(windows.len())]?;
     for (place, edge) in edges.iter().enumerate() {
         if place < claims {
-            amounts.push(edge.capacity)?;
+            put(&mut amounts, place, edge.capacity);
         } else {
-            let spend = at(windows, place.wrapping_sub(claims), 0);
-            amounts.push(edge.capacity.saturating_sub(spend))?;
-            amounts.push(spend)?;
+            let party = place.wrapping_sub(claims);
+            let spend = at(windows, party, 0);
+            let rise = place.wrapping_add(party);
+            put(&mut amounts, rise, edge.capacity.saturating_sub(spend));
+            put(&mut amounts, rise.wrapping_add(1), spend);
         }
     }
     Ok(amounts)
@@ -177,14 +179,15 @@ fn edges_of(
     pieces: &[u32],
 ) -> Result<Vec<Edge>, AllocError> {
     let claims = edges.len().saturating_sub(parties);
-    let mut own = Vec::with_capacity(alloc, pieces.len())?;
-    for &piece in pieces {
+    let mut own = vec![in alloc; NO_EDGE; pieces.len()]?;
+    for (number, &piece) in pieces.iter().enumerate() {
         let place = piece as usize;
-        if place < claims {
-            own.push(at(edges, place, NO_EDGE))?;
+        let edge = if place < claims {
+            at(edges, place, NO_EDGE)
         } else {
-            own.push(window_edge(place.wrapping_sub(claims), parties, at(amounts, place, 0)))?;
-        }
+            window_edge(place.wrapping_sub(claims), parties, at(amounts, place, 0))
+        };
+        put(&mut own, number, edge);
     }
     Ok(own)
 }
@@ -197,14 +200,15 @@ fn flows_of(
     pieces: &[u32],
 ) -> Result<Vec<u64>, AllocError> {
     let claims = flows.len().saturating_sub(windows.len());
-    let mut own = Vec::with_capacity(alloc, pieces.len())?;
-    for &piece in pieces {
+    let mut own = vec![in alloc; 0u64; pieces.len()]?;
+    for (number, &piece) in pieces.iter().enumerate() {
         let place = piece as usize;
-        if place < claims {
-            own.push(at(flows, place, 0))?;
+        let flow = if place < claims {
+            at(flows, place, 0)
         } else {
-            own.push(window_flow(windows, flows, place.wrapping_sub(claims)))?;
-        }
+            window_flow(windows, flows, place.wrapping_sub(claims))
+        };
+        put(&mut own, number, flow);
     }
     Ok(own)
 }

@@ -10,8 +10,8 @@ use spanning_tree::{
 use std::alloc::{AllocError, Global};
 
 // The arcs, the tree, the bad arcs, and what is still to be brought into the tree: arcs that were neither full nor empty at the
-// start, and then arcs to the root that hold anything. And how many arcs have entered, and how much work was done in the tree since its nodes
-// were numbered.
+// start, and then arcs to the root that hold anything. And how many arcs have entered, and how much work was done in the tree since its
+// nodes were numbered.
 #[derive(Drop)]
 pub(crate) struct Simplex {
     arcs: Vec<Arc>,
@@ -50,6 +50,8 @@ impl Simplex {
         excess: Vec<i64>,
     ) -> Result<Simplex, AllocError> {
         let mut excess = excess;
+        let own_prices = Vec::from_slice(alloc, prices)?;
+        let candidates = Candidates::new(alloc, edges.len())?;
         let mut arcs = arcs_of(alloc, edges, &flows)?;
         let big = big_of(&arcs, excess.len());
         let start = Start {
@@ -61,14 +63,13 @@ impl Simplex {
         let mut tree = plant(alloc, &mut arcs, &start, &mut excess)?;
         let root = tree.root();
         tree.potentials.set(root, big);
-        let candidates = Candidates::new(alloc, arcs.len())?;
         Ok(Simplex {
             arcs,
             tree,
             candidates,
             changed: Vec::new(alloc),
             flows,
-            prices: Vec::from_slice(alloc, prices)?,
+            prices: own_prices,
             excess,
             big,
             begun: 0,
@@ -331,10 +332,11 @@ impl Simplex {
 
     // The flow of each arc.
     pub(crate) fn flows(&self, alloc: Global, edges: &[Edge]) -> Result<Vec<u64>, AllocError> {
-        let mut flows = Vec::with_capacity(alloc, edges.len())?;
+        let mut flows = vec![in alloc; 0u64; edges.len()]?;
         for (place, edge) in edges.iter().enumerate() {
-            let full = at(&self.arcs, place, NO_ARC).side < 0;
-            flows.push(if full { edge.capacity } else { 0 })?;
+            if at(&self.arcs, place, NO_ARC).side < 0 {
+                put(&mut flows, place, edge.capacity);
+            }
         }
         for node in 0..self.excess.len() {
             let code = self.tree.node(small(node)).code;
@@ -347,20 +349,17 @@ impl Simplex {
 
     // The price of each party.
     pub(crate) fn prices(&self, alloc: Global) -> Result<Vec<i64>, AllocError> {
-        let mut potentials = vec![in alloc; 0i32; self.excess.len()]?;
+        let mut prices = vec![in alloc; 0i64; self.excess.len()]?;
         for node in 0..self.excess.len() {
+            let name = usize::from(self.tree.name(small(node)));
             let own = self.tree.potential(small(node));
-            put(
-                &mut potentials,
-                usize::from(self.tree.name(small(node))),
-                own,
-            );
+            put(&mut prices, name, i64::from(own));
         }
         let parties = self.excess.len().wrapping_sub(1);
-        let ground = at(&potentials, parties, 0);
-        let mut prices = Vec::with_capacity(alloc, self.excess.len())?;
-        for &own in potentials.iter().take(parties) {
-            prices.push(i64::from(ground.wrapping_sub(own)))?;
+        let ground = at(&prices, parties, 0);
+        prices.truncate(parties);
+        for price in prices.iter_mut() {
+            *price = ground.wrapping_sub(*price);
         }
         Ok(prices)
     }

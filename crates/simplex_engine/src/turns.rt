@@ -2,7 +2,7 @@
 use crate::draining::Drain;
 use crate::shares::Shares;
 use crate::simplex::Simplex;
-use loose_places::{narrow, near};
+use loose_places::{narrow, near, put};
 use spanning_tree::schedule::{
     ALONE, DRAIN, DRAIN_BRIEF, DRAINED, FAR_OF, FAR_PARTS, FEW_HALVES, FULL_TRIAL, SHARED,
     SHARED_EARLY, SLICE, SLICE_MORE, SLICE_MOST, SLICES, SPARSE_HALVES, SPARSE_TRIAL, TURN,
@@ -84,11 +84,8 @@ fn try_cold(
     let prices = vec![in alloc; 0i32; start.excess.len()]?;
     let mut cold = cold_simplex(alloc, start, halves, &prices)?;
     cold.lengthen_runs(1);
-    if ends_lightly(alloc, &mut cold, start.edges, halves, trial)? {
-        answer(alloc, start.edges, &cold)
-    } else {
-        Ok(None)
-    }
+    let over = ends_lightly(alloc, &mut cold, start.edges, halves, trial);
+    answer_if(alloc, start.edges, &cold, over)
 }
 
 /// A solution from where nothing is set off, at the price of each node, if one is found while arcs enter with little work each, and with so
@@ -105,11 +102,8 @@ pub fn seek_from(
     let mut cold = cold_simplex(alloc, start, halves, prices)?;
     cold.lengthen_runs(1);
     let most = (halves.len() as u64).saturating_mul(work);
-    if ends_in_slices(alloc, &mut cold, start, halves, most)? {
-        answer(alloc, start.edges, &cold)
-    } else {
-        Ok(None)
-    }
+    let over = ends_in_slices(alloc, &mut cold, start, halves, most);
+    answer_if(alloc, start.edges, &cold, over)
 }
 
 /// A solution from where the rest of the excess was drained, if one is found with little work.
@@ -157,11 +151,8 @@ fn drained_within(
 ) -> Result<Option<Solution>, AllocError> {
     let prices = node_prices(alloc, start.prices)?;
     let mut drained = drained_simplex(alloc, start, halves, drain, &prices)?;
-    if drained.run(alloc, start.edges, halves, work)? {
-        answer(alloc, start.edges, &drained)
-    } else {
-        Ok(None)
-    }
+    let over = drained.run(alloc, start.edges, halves, work);
+    answer_if(alloc, start.edges, &drained, over)
 }
 
 /// A solution to which all arcs come by shares, those that hold most first, if one is found in time: from where nothing is set off, or from
@@ -179,9 +170,8 @@ fn run_from_cold(
     start: &Start,
     cold: &mut Shares,
 ) -> Result<Option<Solution>, AllocError> {
-    let found = run_shares(alloc, start, cold, SHARED_EARLY)?;
-    if found.is_some() {
-        return Ok(found);
+    if let Some(found) = run_shares(alloc, start, cold, SHARED_EARLY)? {
+        return Ok(Some(found));
     }
     if cold.are_far_on() {
         return run_shares(alloc, start, cold, SHARED);
@@ -198,9 +188,8 @@ fn run_both(
     warm: &mut Shares,
 ) -> Result<Option<Solution>, AllocError> {
     for work in WARM_STEPS {
-        let found = run_shares(alloc, start, warm, work)?;
-        if found.is_some() {
-            return Ok(found);
+        if let Some(found) = run_shares(alloc, start, warm, work)? {
+            return Ok(Some(found));
         }
         if !warm.gets_on() {
             return run_in_turn(alloc, start, cold, warm);
@@ -216,9 +205,8 @@ fn run_in_turn(
     first: &mut Shares,
     other: &mut Shares,
 ) -> Result<Option<Solution>, AllocError> {
-    let found = run_shares(alloc, start, first, SHARED)?;
-    if found.is_some() {
-        return Ok(found);
+    if let Some(found) = run_shares(alloc, start, first, SHARED)? {
+        return Ok(Some(found));
     }
     run_shares(alloc, start, other, SHARED)
 }
@@ -402,9 +390,8 @@ fn seek_undrained(
     prices: &[i32],
     turns: u32,
 ) -> Result<Option<Solution>, AllocError> {
-    let whole = whole_at_once(alloc, start, halves)?;
-    if whole.is_some() {
-        return Ok(whole);
+    if let Some(whole) = whole_at_once(alloc, start, halves)? {
+        return Ok(Some(whole));
     }
     let drain = drain_for(alloc, start, halves, DRAIN)?;
     seek_by_turns(alloc, start, halves, drain, warm, prices, turns)
@@ -442,11 +429,8 @@ fn whole_within(
 ) -> Result<Option<Solution>, AllocError> {
     let prices = vec![in alloc; 0i32; start.excess.len()]?;
     let mut cold = cold_simplex(alloc, start, halves, &prices)?;
-    if cold.run(alloc, start.edges, halves, work)? {
-        answer(alloc, start.edges, &cold)
-    } else {
-        Ok(None)
-    }
+    let over = cold.run(alloc, start.edges, halves, work);
+    answer_if(alloc, start.edges, &cold, over)
 }
 
 // The work that the undrained simplex has first: none where there are not few halves.
@@ -547,6 +531,20 @@ fn drained_simplex(
     Simplex::new(alloc, start.edges, halves, flows, prices, excess)
 }
 
+// The solution of a simplex, if it came to its end.
+fn answer_if(
+    alloc: Global,
+    edges: &[Edge],
+    simplex: &Simplex,
+    over: Result<bool, AllocError>,
+) -> Result<Option<Solution>, AllocError> {
+    if over? {
+        answer(alloc, edges, simplex)
+    } else {
+        Ok(None)
+    }
+}
+
 fn answer(
     alloc: Global,
     edges: &[Edge],
@@ -559,19 +557,18 @@ fn answer(
 
 // The price of each node. That of the ground is 0.
 pub(crate) fn node_prices(alloc: Global, prices: &[i64]) -> Result<Vec<i32>, AllocError> {
-    let mut list = Vec::with_capacity(alloc, prices.len().saturating_add(1))?;
-    for &price in prices {
-        list.push(near(price))?;
+    let mut list = vec![in alloc; 0i32; prices.len().saturating_add(1)]?;
+    for (place, &price) in prices.iter().enumerate() {
+        put(&mut list, place, near(price));
     }
-    list.push(0)?;
     Ok(list)
 }
 
 // The excess of each node, or the nearest number of the type.
 pub(crate) fn cents(alloc: Global, excess: &[i128]) -> Result<Vec<i64>, AllocError> {
-    let mut list = Vec::with_capacity(alloc, excess.len())?;
-    for &amount in excess {
-        list.push(narrow(amount))?;
+    let mut list = vec![in alloc; 0i64; excess.len()]?;
+    for (place, &amount) in excess.iter().enumerate() {
+        put(&mut list, place, narrow(amount));
     }
     Ok(list)
 }

@@ -9,7 +9,9 @@ mod arcs;
 mod forest;
 mod fragments;
 mod layout;
+mod numbers;
 mod potentials;
+mod queue;
 mod runs;
 mod tree;
 
@@ -17,4 +19,5 @@ pub use arcs::{Arc, NO_ARC, arcs_of};
 pub use forest::{MUCH, Start, own_code, plant};
 pub use level_engine::{Advice, Edge, Half, Halves, schedule};
 pub use potentials::Potentials;
+pub use queue::Queue;
 pub use tree::{Branch, Circle, NOBODY, Node, Room, Tree};
