@@ -143,12 +143,15 @@ pub const SHARED_EARLY: u64 = 400;
 /// See `SHARED_EARLY`.
 pub const SHARED_SQUARES: u64 = 400;
 
-/// Else the one to which all arcs come by shares from where the levels stand goes by these steps, as long as it gets on. So far its work goes,
-/// as that of `SHARED_EARLY`.
+/// Else the one to which all arcs come by shares from where the levels stand goes by these steps, as long as it gets on. So far its work
+/// goes, as that of `SHARED_EARLY`.
 pub const WARM_STEPS: [u64; 4] = [350, 700, 1_400, 2_800];
 
 /// It gets on where at most so many of a hundred cents that were outside before a step are so behind it.
 pub const WARM_LEFT: u64 = 90;
+
+/// Or so many, where the other one is still at its first share.
+pub const WARM_LEFT_MOST: u64 = 95;
 
 /// How far the work of each of the two goes in the end, first of the one from where the levels stand, if it got on, and else of the other.
 pub const SHARED: u64 = 20_000;
@@ -187,7 +190,10 @@ pub const RUN: usize = 16;
 pub const BLOCK: usize = 8;
 
 /// Where arcs come by shares, a block is as long as so many.
-pub const SHARED_BLOCKS: usize = 2;
+pub const SHARED_BLOCKS: usize = 4;
+
+/// So many of the worst arcs of a block are kept then for the pivots to come, and the one that is worst at each of these enters.
+pub const KEPT: usize = 16;
 
 /// The nodes of the tree are numbered anew after so much work in the tree for each arc.
 pub const NUMBERED: u64 = 128;

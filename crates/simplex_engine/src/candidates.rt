@@ -1,4 +1,5 @@
 //! Which arc enters the tree.
+use crate::kept::{Bad, Kept, NONE_BAD};
 use loose_places::{at, put};
 use spanning_tree::schedule::{AROUND, BLOCK, LOOKS, RUN};
 use spanning_tree::{Arc, Halves, NO_ARC, Potentials, Tree};
@@ -6,11 +7,12 @@ use std::alloc::{AllocError, Global};
 
 // Runs are looked at in an order that spreads over the net.
 //
-// Bad arcs that wait, how long a run is, how many runs there are and are in a block, how far the round over all of them is, and how
-// many arcs were priced in it and looked at besides.
+// Bad arcs that wait, those of a block that are kept, how long a run is, how many runs there are and are in a block, how far the round
+// over all of them is, and how many arcs were priced in it and looked at besides.
 #[derive(Drop)]
 pub(crate) struct Candidates {
     list: Vec<u32>,
+    kept: Kept,
     length: usize,
     run: usize,
     runs: usize,
@@ -20,25 +22,15 @@ pub(crate) struct Candidates {
     priced: u64,
     looked: u64,
     looks: bool,
+    keeps: bool,
     pub(crate) work: u64,
 }
-
-// The worst of some arcs: its place, and how bad it is.
-#[derive(Clone, Copy)]
-struct Worst {
-    place: usize,
-    badness: i32,
-}
-
-const NONE_BAD: Worst = Worst {
-    place: 0,
-    badness: 0,
-};
 
 impl Candidates {
     pub(crate) fn new(alloc: Global, arcs: usize) -> Result<Candidates, AllocError> {
         let mut candidates = Candidates {
             list: Vec::with_capacity(alloc, arcs)?,
+            kept: Kept::new(alloc)?,
             length: RUN,
             run: 0,
             runs: 0,
@@ -48,6 +40,7 @@ impl Candidates {
             priced: 0,
             looked: 0,
             looks: true,
+            keeps: false,
             work: 0,
         };
         candidates.begin_round(arcs);
@@ -69,11 +62,11 @@ impl Candidates {
 
     // Whether no arc was bad in a whole round.
     pub(crate) fn is_over(&self) -> bool {
-        self.runs <= self.idle && self.list.is_empty()
+        self.runs <= self.idle && self.list.is_empty() && self.kept.len() == 0
     }
 
-    // A bad arc: the worst of the next block, or of the last of the list where none is bad there, or of a block after that. None
-    // where no arc is bad, or so much work is done.
+    // A bad arc: of those that are kept, or of the next block, or of the last of the list where none is bad there, or of a block after
+    // that, the worst. None where no arc is bad, or so much work is done.
     #[inline(never)]
     pub(crate) fn next(
         &mut self,
@@ -85,10 +78,7 @@ impl Candidates {
             if self.is_over() || most <= self.work {
                 return None;
             }
-            let mut worst = self.worst_of_block(arcs, potentials);
-            if worst.badness == 0 {
-                worst = self.worst_of_list(arcs, potentials);
-            }
+            let worst = self.next_worst(arcs, potentials);
             if 0 < worst.badness {
                 self.idle = 0;
                 return Some(worst.place);
@@ -97,27 +87,69 @@ impl Candidates {
         None
     }
 
-    // The worst arc of the next runs.
-    fn worst_of_block(&mut self, arcs: &[Arc], potentials: &Potentials) -> Worst {
-        let mut worst = NONE_BAD;
-        for _ in 0..self.block {
+    // The worst of the arcs that are looked at next.
+    fn next_worst(&mut self, arcs: &mut [Arc], potentials: &Potentials) -> Bad {
+        if self.keeps {
+            return self.worst_of_kept(arcs, potentials);
+        }
+        let worst = self.worst_of_block(arcs, potentials);
+        if worst.badness == 0 {
+            self.worst_of_list(arcs, potentials)
+        } else {
+            worst
+        }
+    }
+
+    // The worst of those that are kept. Where none of them is bad, the worst of the next run are kept.
+    fn worst_of_kept(&mut self, arcs: &[Arc], potentials: &Potentials) -> Bad {
+        self.work = self.work.wrapping_add(self.kept.len() as u64);
+        let worst = self.kept.take_worst(arcs, potentials);
+        if worst.badness == 0 {
             let first = self.run.wrapping_mul(self.length);
             let end = first.saturating_add(self.length);
-            worst = worst_of_run(arcs, potentials, first, end, worst);
-            self.run = self.run.wrapping_add(self.stride);
-            if self.runs <= self.run {
-                self.run = self.run.wrapping_sub(self.runs);
-            }
+            self.kept.keep(arcs, potentials, first, end);
+            self.go_on(1);
         }
-        self.idle = self.idle.saturating_add(self.block);
-        let priced = self.block.wrapping_mul(self.length) as u64;
-        self.priced = self.priced.saturating_add(priced);
-        self.work = self.work.saturating_add(priced);
         worst
     }
 
+    // The worst arc of the next runs.
+    fn worst_of_block(&mut self, arcs: &[Arc], potentials: &Potentials) -> Bad {
+        let mut worst = NONE_BAD;
+        let mut run = self.run;
+        for _ in 0..self.block {
+            let first = run.wrapping_mul(self.length);
+            let end = first.saturating_add(self.length);
+            worst = worst_of_run(arcs, potentials, first, end, worst);
+            run = self.run_after(run);
+        }
+        self.go_on(self.block);
+        worst
+    }
+
+    // The run that comes after another.
+    fn run_after(&self, run: usize) -> usize {
+        let next = run.wrapping_add(self.stride);
+        if self.runs <= next {
+            next.wrapping_sub(self.runs)
+        } else {
+            next
+        }
+    }
+
+    // Goes on behind so many runs that were priced.
+    fn go_on(&mut self, runs: usize) {
+        for _ in 0..runs {
+            self.run = self.run_after(self.run);
+        }
+        self.idle = self.idle.saturating_add(runs);
+        let priced = runs.wrapping_mul(self.length) as u64;
+        self.priced = self.priced.saturating_add(priced);
+        self.work = self.work.saturating_add(priced);
+    }
+
     // The worst of as many of the list, from its end. Those that are bad no longer leave it.
-    fn worst_of_list(&mut self, arcs: &mut [Arc], potentials: &Potentials) -> Worst {
+    fn worst_of_list(&mut self, arcs: &mut [Arc], potentials: &Potentials) -> Bad {
         let mut worst = NONE_BAD;
         let mut place = self.list.len();
         for _ in 0..self.block.wrapping_mul(self.length) {
@@ -129,7 +161,7 @@ impl Candidates {
             let arc = at(&self.list, place, 0) as usize;
             let badness = at(arcs, arc, NO_ARC).badness(potentials);
             if worst.badness < badness {
-                worst = Worst {
+                worst = Bad {
                     place: arc,
                     badness,
                 };
@@ -168,6 +200,12 @@ impl Candidates {
         self.length = self.block.wrapping_mul(self.length).wrapping_mul(blocks);
         self.block = 1;
         self.begin_round(arcs);
+    }
+
+    // Lets the worst arcs of a run be kept for the pivots to come. No arcs are listed besides.
+    pub(crate) fn keep_worst(&mut self) {
+        self.looks = false;
+        self.keeps = true;
     }
 
     // At how many halves a look is taken at most: none where too many were looked at for what was priced.
@@ -236,13 +274,13 @@ fn worst_of_run(
     potentials: &Potentials,
     first: usize,
     end: usize,
-    before: Worst,
-) -> Worst {
+    before: Bad,
+) -> Bad {
     let mut worst = before;
     for place in first..end {
         let badness = at(arcs, place, NO_ARC).badness(potentials);
         if worst.badness < badness {
-            worst = Worst { place, badness };
+            worst = Bad { place, badness };
         }
     }
     worst

@@ -19,6 +19,7 @@ mod buckets;
 mod candidates;
 mod draining;
 mod filling;
+mod kept;
 mod ranking;
 mod shares;
 mod simplex;

@@ -3,9 +3,7 @@ use crate::ranking::largest_first;
 use crate::simplex::Simplex;
 use crate::turns::{Start, cents, node_prices};
 use loose_places::{at, put};
-use spanning_tree::schedule::{
-    SHARE_GAIN, SHARE_SLICE, SHARED_BLOCKS, SHARED_SQUARES, SHARES, WARM_LEFT,
-};
+use spanning_tree::schedule::{SHARE_GAIN, SHARE_SLICE, SHARED_BLOCKS, SHARED_SQUARES, SHARES};
 use spanning_tree::{Edge, Halves};
 use std::alloc::{AllocError, Global};
 
@@ -102,11 +100,16 @@ impl Shares {
         self.edges.len() / 2 < self.open
     }
 
-    // Whether much was brought in of the excess that was outside when this was last asked. At first it is so.
-    pub(crate) fn gets_on(&mut self) -> bool {
+    // Whether more than the first share of the arcs is open.
+    pub(crate) fn is_begun(&self) -> bool {
+        self.edges.len() / SHARES < self.open.saturating_sub(1)
+    }
+
+    // Whether at most so many of a hundred cents of the excess are left that were outside when this was last asked. At first it is so.
+    pub(crate) fn gets_on(&mut self, most: u64) -> bool {
         let before = self.left;
         self.left = self.simplex.still_outside();
-        self.left / WARM_LEFT <= before / 100
+        self.left / most.max(1) <= before / 100
     }
 
     // The flow of each arc of the net.
@@ -147,8 +150,8 @@ fn simplex_from(
     let prices = node_prices(alloc, start.prices)?;
     let excess = cents(alloc, start.excess)?;
     let mut simplex = Simplex::new(alloc, edges, halves, flows, &prices, excess)?;
-    simplex.stop_looking();
     simplex.lengthen_runs(SHARED_BLOCKS);
+    simplex.keep_worst();
     Ok(simplex)
 }
 

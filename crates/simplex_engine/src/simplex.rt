@@ -88,6 +88,11 @@ impl Simplex {
         self.candidates.lengthen_runs(self.arcs.len(), blocks);
     }
 
+    // Lets the worst arcs of those that were priced together be kept for the pivots to come.
+    pub(crate) fn keep_worst(&mut self) {
+        self.candidates.keep_worst();
+    }
+
     // Lets only the first so many arcs enter.
     pub(crate) fn open(&mut self, arcs: usize) {
         self.candidates.open(arcs);

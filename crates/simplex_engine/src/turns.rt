@@ -6,7 +6,7 @@ use loose_places::{narrow, near, put};
 use spanning_tree::schedule::{
     ALONE, DRAIN, DRAIN_BRIEF, DRAINED, FAR_OF, FAR_PARTS, FEW_HALVES, FULL_TRIAL, SHARED,
     SHARED_EARLY, SLICE, SLICE_MORE, SLICE_MOST, SLICES, SPARSE_HALVES, SPARSE_TRIAL, TURN,
-    TURN_SQUARES, Trial, WARM, WARM_STEPS, WHOLE, WHOLE_SQUARES,
+    TURN_SQUARES, Trial, WARM, WARM_LEFT, WARM_LEFT_MOST, WARM_STEPS, WHOLE, WHOLE_SQUARES,
 };
 use spanning_tree::{Edge, Halves};
 use std::alloc::{AllocError, Global};
@@ -187,11 +187,16 @@ fn run_both(
     cold: &mut Shares,
     warm: &mut Shares,
 ) -> Result<Option<Solution>, AllocError> {
+    let most = if cold.is_begun() {
+        WARM_LEFT
+    } else {
+        WARM_LEFT_MOST
+    };
     for work in WARM_STEPS {
         if let Some(found) = run_shares(alloc, start, warm, work)? {
             return Ok(Some(found));
         }
-        if !warm.gets_on() {
+        if !warm.gets_on(most) {
             return run_in_turn(alloc, start, cold, warm);
         }
     }
