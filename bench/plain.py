@@ -32,6 +32,10 @@ def without_contracts(text):
         if word.startswith("ghost use"):
             while not line.rstrip().endswith(";"):
                 line = next(lines)
+        elif line.startswith("impl Drop for "):
+            # (plain Rust lets go of a value's parts by itself)
+            while line != "}":
+                line = next(lines)
         elif CLAUSE.match(word):
             clause = line
             while clause.count("{") > clause.count("}") or "{" not in clause:

@@ -24,13 +24,25 @@ use std::marker::Model;
 ///
 /// The history is legal and each of its acts is valid. Beside it stands the room of each pool: how many of its entries may be
 /// applied without taking memory.
-#[derive(Drop)]
 pub struct Books {
     names: NameIndex,
     books: Vec<PoolBook>,
     places: Vec<Place>,
     promised: usize,
     none: Book,
+}
+
+// Written out, so that its lists are gone through in one proof, and not in that of each function that lets one go.
+impl Drop for Books {
+    fn drop(self) {
+        let Self {
+            names,
+            books,
+            places,
+            promised,
+            none,
+        } = self;
+    }
 }
 
 impl Model for Books {

@@ -66,7 +66,7 @@ fn find_cold_by_shares(
     };
     let sizes = Sizes::of(&net);
     if sizes.are_many() && sizes.are_mostly_small() {
-        seek_cold_by_shares(alloc, &start_at(state, windows))
+        seek_cold_by_shares(alloc, &start_at(state, halves, windows))
     } else {
         Ok(None)
     }
@@ -82,16 +82,16 @@ fn find_by_size(
     if halves.len() / SPARSE_HALVES <= windows.len() {
         return Ok(None);
     }
-    let start = start_at(state, windows);
+    let start = start_at(state, halves, windows);
     let net = Unused {
         edges: &state.edges,
         halves,
         windows,
     };
     let soon = if Sizes::of(&net).are_many() {
-        seek_drained(alloc, &start, halves)?
+        seek_drained(alloc, &start)?
     } else {
-        seek_first(alloc, &start, halves)?
+        seek_first(alloc, &start)?
     };
     if soon.is_some() {
         return Ok(soon);

@@ -8,7 +8,7 @@ use flow_solver::{State, state_at_start};
 use net_presolve::Window;
 use setoff_model::limits::{MOST_AMOUNT, MOST_CLAIMS, MOST_FIRMS, MOST_WEIGHT, MOST_WINDOW};
 use setoff_model::{Name, Party};
-use simplex_engine::{Edge, Solution, Start};
+use simplex_engine::{Edge, Halves, Solution, Start};
 use std::alloc::{AllocError, Global};
 
 // The state at the start of claims among parties, where they are such.
@@ -37,10 +37,11 @@ pub(crate) fn solution_of(state: State) -> Solution {
     }
 }
 
-// Where the search for a solution starts, with the flows of the windows' arcs at which no balance changes.
-pub(crate) fn start_at<'a>(state: &'a State, windows: &'a [u64]) -> Start<'a> {
+// Where the search for a solution starts, with the halves of the arcs, and the flows of the windows' arcs at which no balance changes.
+pub(crate) fn start_at<'a>(state: &'a State, halves: &'a Halves, windows: &'a [u64]) -> Start<'a> {
     Start {
         edges: &state.edges,
+        halves,
         flows: &state.flows,
         prices: &state.prices,
         excess: &state.excess,

@@ -87,8 +87,7 @@ fn find_risen(
     };
     seek_from(
         alloc,
-        &start_at(state, net.windows),
-        net.halves,
+        &start_at(state, net.halves, net.windows),
         &prices,
         work,
     )

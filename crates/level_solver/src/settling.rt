@@ -163,7 +163,7 @@ fn find_solution(
     windows: &[u64],
     turns: u32,
 ) -> Result<Option<Solution>, AllocError> {
-    seek_solution(alloc, &start_at(state, windows), halves, turns)
+    seek_solution(alloc, &start_at(state, halves, windows), turns)
 }
 
 // A whole solution, if it is found from where nothing is set off.
@@ -173,5 +173,5 @@ fn find_cold(
     halves: &Halves,
     windows: &[u64],
 ) -> Result<Option<Solution>, AllocError> {
-    seek_cold(alloc, &start_at(state, windows), halves)
+    seek_cold(alloc, &start_at(state, halves, windows))
 }

@@ -47,6 +47,7 @@ fn beginning_of(rt: &impl Abort, alloc: Global, state: &State) -> Beginning {
 fn start_of<'a>(state: &'a State, begun: &'a Beginning) -> Start<'a> {
     Start {
         edges: &state.edges,
+        halves: &begun.halves,
         flows: &state.flows,
         prices: &state.prices,
         excess: &state.excess,
@@ -61,7 +62,7 @@ fn found_from(rt: &impl Abort, alloc: Global, state: &State, by_shares: bool) ->
     let found = if by_shares {
         seek_by_shares(alloc, &start).expect(rt, "memory")
     } else {
-        seek_solution(alloc, &start, &begun.halves, 8).expect(rt, "memory")
+        seek_solution(alloc, &start, 8).expect(rt, "memory")
     };
     found.expect(rt, "a solution")
 }
@@ -132,6 +133,7 @@ fn parts_are_solved_apart(rt: HostRuntime) {
     let net = Unused {
         edges: &state.edges,
         halves: &begun.halves,
+        halves: &begun.halves,
         windows: &begun.windows,
     };
     let parts = Parts::of(alloc, &net).expect(&rt, "memory");
@@ -189,9 +191,9 @@ fn found_by_shares(rt: &impl Abort, alloc: Global, state: &State) -> Solution {
     let total = sum(&found.flows);
     let cold = seek_cold_by_shares(alloc, &start).expect(rt, "memory");
     assert!(rt; sets_off(rt, cold, total));
-    let drained = seek_drained(alloc, &start, &begun.halves).expect(rt, "memory");
+    let drained = seek_drained(alloc, &start).expect(rt, "memory");
     assert!(rt; sets_off(rt, drained, total));
-    let first = seek_first(alloc, &start, &begun.halves).expect(rt, "memory");
+    let first = seek_first(alloc, &start).expect(rt, "memory");
     assert!(rt; sets_off(rt, first, total));
     found
 }
@@ -264,6 +266,7 @@ fn found_from_ring(rt: &impl Abort, alloc: Global, state: &State) -> Solution {
     let excess = vec![in alloc; 0i128; state.excess.len()].expect(rt, "memory");
     let start = Start {
         edges: &state.edges,
+        halves: &begun.halves,
         flows: &flows,
         prices: &prices,
         excess: &excess,

@@ -9,7 +9,6 @@ use std::alloc::{AllocError, Global};
 // The method is push and relabel, over arcs that are only emptied: those of claims, and those of windows towards that flow. A label
 // is how many arcs a node is from one that wants excess, or no more than that. The flows are sums of circles and of ways from want
 // to excess, so there is always a way back.
-#[derive(Drop)]
 pub(crate) struct Drain {
     flows: Vec<u64>,
     excess: Vec<i64>,
@@ -19,6 +18,22 @@ pub(crate) struct Drain {
     next: Vec<u32>,
     buckets: Buckets,
     work: u64,
+}
+
+// Written out, so that its lists are gone through in one proof, and not in that of each function that lets one go.
+impl Drop for Drain {
+    fn drop(self) {
+        let Self {
+            flows,
+            excess,
+            windows,
+            labels,
+            jumps,
+            next,
+            buckets,
+            work,
+        } = self;
+    }
 }
 
 impl Drain {
@@ -70,7 +85,17 @@ impl Drain {
 
     // The flows, and the excess that is left.
     pub(crate) fn flows_and_excess(self) -> (Vec<u64>, Vec<i64>) {
-        (self.flows, self.excess)
+        let Self {
+            flows,
+            excess,
+            windows,
+            labels,
+            jumps,
+            next,
+            buckets,
+            work,
+        } = self;
+        (flows, excess)
     }
 
     // Gives each node its label, by a search from those that want excess.

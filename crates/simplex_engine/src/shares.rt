@@ -14,7 +14,6 @@ use std::alloc::{AllocError, Global};
 // Where the largest arcs are at rest, a smaller one mostly holds less than any arc of the tree, so that it is filled at once, and the tree
 // stays as it is. In any other order nearly each claim that a circle passes is filled and emptied many times. Excess too is brought in over
 // the largest arcs first, where few ways hold all of it.
-#[derive(Drop)]
 pub(crate) struct Shares {
     edges: Vec<Edge>,
     pieces: Vec<u32>,
@@ -22,6 +21,20 @@ pub(crate) struct Shares {
     simplex: Simplex,
     open: usize,
     left: u64,
+}
+
+// Written out, so that its lists are gone through in one proof, and not in that of each function that lets one go.
+impl Drop for Shares {
+    fn drop(self) {
+        let Self {
+            edges,
+            pieces,
+            halves,
+            simplex,
+            open,
+            left,
+        } = self;
+    }
 }
 
 // An arc that holds nothing.

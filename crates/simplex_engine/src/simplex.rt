@@ -12,7 +12,6 @@ use std::alloc::{AllocError, Global};
 // The arcs, the tree, the bad arcs, and what is still to be brought into the tree: arcs that were neither full nor empty at the
 // start, and then arcs to the root that hold anything. And how many arcs have entered, and how much work was done in the tree since its
 // nodes were numbered.
-#[derive(Drop)]
 pub(crate) struct Simplex {
     arcs: Vec<Arc>,
     tree: Tree,
@@ -25,6 +24,25 @@ pub(crate) struct Simplex {
     begun: usize,
     pivots: u64,
     moved: u64,
+}
+
+// Written out, so that its lists are gone through in one proof, and not in that of each function that lets one go.
+impl Drop for Simplex {
+    fn drop(self) {
+        let Self {
+            arcs,
+            tree,
+            candidates,
+            changed,
+            flows,
+            prices,
+            excess,
+            big,
+            begun,
+            pivots,
+            moved,
+        } = self;
+    }
 }
 
 // An arc that enters the tree: the nodes that more is moved from and to over it, its half at the first, how much more and how much

@@ -25,6 +25,8 @@ pub struct Solution {
 pub struct Start<'a> {
     /// The arcs: those of claims, and then one from each party to the ground.
     pub edges: &'a [Edge],
+    /// The halves of the arcs.
+    pub halves: &'a Halves,
     /// The flow of each arc in cents.
     pub flows: &'a [u64],
     /// The price of each party.
@@ -39,20 +41,16 @@ pub struct Start<'a> {
 ///
 /// It is sought where there are some halves of arcs at a node and not many, or where most of what is set off is in excess. Nothing is
 /// proved of it. The only error is running out of memory.
-pub fn seek_cold(
-    alloc: Global,
-    start: &Start,
-    halves: &Halves,
-) -> Result<Option<Solution>, AllocError> {
-    let (many, nodes) = (halves.len(), start.excess.len());
+pub fn seek_cold(alloc: Global, start: &Start) -> Result<Option<Solution>, AllocError> {
+    let (many, nodes) = (start.halves.len(), start.excess.len());
     if many / FEW_HALVES <= nodes {
         return Ok(None);
     }
     if many / SPARSE_HALVES <= nodes {
-        return try_cold(alloc, start, halves, SPARSE_TRIAL);
+        return try_cold(alloc, start, SPARSE_TRIAL);
     }
     if is_far(start) {
-        try_cold(alloc, start, halves, FULL_TRIAL)
+        try_cold(alloc, start, FULL_TRIAL)
     } else {
         Ok(None)
     }
@@ -75,16 +73,11 @@ fn is_far(start: &Start) -> bool {
 }
 
 // A solution from where nothing is set off, if the trial comes to its end.
-fn try_cold(
-    alloc: Global,
-    start: &Start,
-    halves: &Halves,
-    trial: Trial,
-) -> Result<Option<Solution>, AllocError> {
+fn try_cold(alloc: Global, start: &Start, trial: Trial) -> Result<Option<Solution>, AllocError> {
     let prices = vec![in alloc; 0i32; start.excess.len()]?;
-    let mut cold = cold_simplex(alloc, start, halves, &prices)?;
+    let mut cold = cold_simplex(alloc, start, &prices)?;
     cold.lengthen_runs(1);
-    let over = ends_lightly(alloc, &mut cold, start.edges, halves, trial);
+    let over = ends_lightly(alloc, &mut cold, start, trial);
     answer_if(alloc, start.edges, &cold, over)
 }
 
@@ -95,29 +88,24 @@ fn try_cold(
 pub fn seek_from(
     alloc: Global,
     start: &Start,
-    halves: &Halves,
     prices: &[i32],
     work: u64,
 ) -> Result<Option<Solution>, AllocError> {
-    let mut cold = cold_simplex(alloc, start, halves, prices)?;
+    let mut cold = cold_simplex(alloc, start, prices)?;
     cold.lengthen_runs(1);
-    let most = (halves.len() as u64).saturating_mul(work);
-    let over = ends_in_slices(alloc, &mut cold, start, halves, most);
+    let most = (start.halves.len() as u64).saturating_mul(work);
+    let over = ends_in_slices(alloc, &mut cold, start, most);
     answer_if(alloc, start.edges, &cold, over)
 }
 
 /// A solution from where the rest of the excess was drained, if one is found with little work.
 ///
 /// Nothing is proved of it. The only error is running out of memory.
-pub fn seek_drained(
-    alloc: Global,
-    start: &Start,
-    halves: &Halves,
-) -> Result<Option<Solution>, AllocError> {
-    let drain = drain_for(alloc, start, halves, DRAIN_BRIEF)?;
+pub fn seek_drained(alloc: Global, start: &Start) -> Result<Option<Solution>, AllocError> {
+    let drain = drain_for(alloc, start, DRAIN_BRIEF)?;
     if drain.is_over() {
-        let work = work_of(start, halves, DRAINED);
-        drained_within(alloc, start, halves, drain, work)
+        let work = work_of(start, DRAINED);
+        drained_within(alloc, start, drain, work)
     } else {
         Ok(None)
     }
@@ -126,18 +114,14 @@ pub fn seek_drained(
 /// A solution from where the rest of the excess was drained, or else from where nothing is set off, if one is found in the first turn.
 ///
 /// Nothing is proved of it. The only error is running out of memory.
-pub fn seek_first(
-    alloc: Global,
-    start: &Start,
-    halves: &Halves,
-) -> Result<Option<Solution>, AllocError> {
-    let drain = drain_for(alloc, start, halves, DRAIN_BRIEF)?;
+pub fn seek_first(alloc: Global, start: &Start) -> Result<Option<Solution>, AllocError> {
+    let drain = drain_for(alloc, start, DRAIN_BRIEF)?;
     if drain.is_over() {
-        let work = first_turn(start, halves);
-        drained_within(alloc, start, halves, drain, work)
+        let work = first_turn(start);
+        drained_within(alloc, start, drain, work)
     } else {
         drop(drain);
-        whole_at_once(alloc, start, halves)
+        whole_at_once(alloc, start)
     }
 }
 
@@ -145,13 +129,12 @@ pub fn seek_first(
 fn drained_within(
     alloc: Global,
     start: &Start,
-    halves: &Halves,
     drain: Drain,
     work: u64,
 ) -> Result<Option<Solution>, AllocError> {
     let prices = node_prices(alloc, start.prices)?;
-    let mut drained = drained_simplex(alloc, start, halves, drain, &prices)?;
-    let over = drained.run(alloc, start.edges, halves, work);
+    let mut drained = drained_simplex(alloc, start, drain, &prices)?;
+    let over = drained.run(alloc, start.edges, start.halves, work);
     answer_if(alloc, start.edges, &drained, over)
 }
 
@@ -231,6 +214,7 @@ fn cold_shares(alloc: Global, start: &Start) -> Result<Shares, AllocError> {
     let excess = vec![in alloc; 0i128; start.excess.len()]?;
     let unused = Start {
         edges: start.edges,
+        halves: start.halves,
         flows: &flows,
         prices: &prices,
         excess: &excess,
@@ -260,8 +244,8 @@ fn claims_of(start: &Start) -> usize {
 }
 
 // So much work for each half, and a share of the square of the nodes.
-fn work_of(start: &Start, halves: &Halves, each: u64) -> u64 {
-    let work = (halves.len() as u64).saturating_mul(each);
+fn work_of(start: &Start, each: u64) -> u64 {
+    let work = (start.halves.len() as u64).saturating_mul(each);
     work.saturating_add(square_of(start) / WHOLE_SQUARES)
 }
 
@@ -285,6 +269,7 @@ pub fn seek_alone(
     let excess = vec![in alloc; 0i128; nodes]?;
     let start = Start {
         edges,
+        halves: &halves,
         flows: &flows,
         prices: &[],
         excess: &excess,
@@ -292,7 +277,7 @@ pub fn seek_alone(
     };
     let most = (nodes as u64).saturating_mul(nodes as u64);
     let work = (halves.len() as u64).saturating_mul(ALONE);
-    whole_within(alloc, &start, &halves, most.saturating_add(work))
+    whole_within(alloc, &start, most.saturating_add(work))
 }
 
 // Whether the simplex comes to its end in slices, each of half as much work more than the one before. It does not go on behind one
@@ -301,14 +286,13 @@ fn ends_in_slices(
     alloc: Global,
     simplex: &mut Simplex,
     start: &Start,
-    halves: &Halves,
     most: u64,
 ) -> Result<bool, AllocError> {
-    let (many, nodes) = (halves.len() as u64, start.excess.len() as u64);
+    let (many, nodes) = (start.halves.len() as u64, start.excess.len() as u64);
     let mut work = many;
     for _ in 0..SLICES {
         let before = simplex.pivots();
-        if simplex.run(alloc, start.edges, halves, work)? {
+        if simplex.run(alloc, start.edges, start.halves, work)? {
             return Ok(true);
         }
         let each = work / simplex.pivots().saturating_sub(before).max(1);
@@ -333,19 +317,23 @@ fn is_heavy(each: u64, slice: u64, halves: u64, nodes: u64) -> bool {
 fn ends_lightly(
     alloc: Global,
     simplex: &mut Simplex,
-    edges: &[Edge],
-    halves: &Halves,
+    start: &Start,
     trial: Trial,
 ) -> Result<bool, AllocError> {
-    let many = halves.len() as u64;
-    if simplex.run(alloc, edges, halves, many.saturating_mul(trial.first))? {
+    let many = start.halves.len() as u64;
+    if simplex.run(
+        alloc,
+        start.edges,
+        start.halves,
+        many.saturating_mul(trial.first),
+    )? {
         return Ok(true);
     }
     if !simplex.is_light(trial.light) {
         return Ok(false);
     }
     let more = trial.all.saturating_sub(trial.first);
-    simplex.run(alloc, edges, halves, many.saturating_mul(more))
+    simplex.run(alloc, start.edges, start.halves, many.saturating_mul(more))
 }
 
 /// A solution, if one is found in so many turns, each of twice as much work as the one before.
@@ -354,35 +342,33 @@ fn ends_lightly(
 pub fn seek_solution(
     alloc: Global,
     start: &Start,
-    halves: &Halves,
     turns: u32,
 ) -> Result<Option<Solution>, AllocError> {
     if turns == 0 {
         return Ok(None);
     }
     let prices = node_prices(alloc, start.prices)?;
-    let mut warm = warm_simplex(alloc, start, halves, &prices)?;
-    seek_warm(alloc, start, halves, &mut warm, &prices, turns)
+    let mut warm = warm_simplex(alloc, start, &prices)?;
+    seek_warm(alloc, start, &mut warm, &prices, turns)
 }
 
 // Tries the warm simplex alone where arcs are few, and then both by turns.
 fn seek_warm(
     alloc: Global,
     start: &Start,
-    halves: &Halves,
     warm: &mut Simplex,
     prices: &[i32],
     turns: u32,
 ) -> Result<Option<Solution>, AllocError> {
-    if warm.run(alloc, start.edges, halves, work_where_sparse(start, halves))? {
+    if warm.run(alloc, start.edges, start.halves, work_where_sparse(start))? {
         return answer(alloc, start.edges, warm);
     }
-    let drain = drain_for(alloc, start, halves, DRAIN_BRIEF)?;
+    let drain = drain_for(alloc, start, DRAIN_BRIEF)?;
     if drain.is_over() {
-        seek_by_turns(alloc, start, halves, drain, warm, prices, turns)
+        seek_by_turns(alloc, start, drain, warm, prices, turns)
     } else {
         drop(drain);
-        seek_undrained(alloc, start, halves, warm, prices, turns)
+        seek_undrained(alloc, start, warm, prices, turns)
     }
 }
 
@@ -390,58 +376,47 @@ fn seek_warm(
 fn seek_undrained(
     alloc: Global,
     start: &Start,
-    halves: &Halves,
     warm: &mut Simplex,
     prices: &[i32],
     turns: u32,
 ) -> Result<Option<Solution>, AllocError> {
-    if let Some(whole) = whole_at_once(alloc, start, halves)? {
+    if let Some(whole) = whole_at_once(alloc, start)? {
         return Ok(Some(whole));
     }
-    let drain = drain_for(alloc, start, halves, DRAIN)?;
-    seek_by_turns(alloc, start, halves, drain, warm, prices, turns)
+    let drain = drain_for(alloc, start, DRAIN)?;
+    seek_by_turns(alloc, start, drain, warm, prices, turns)
 }
 
 // Lets a simplex that begins where the drain ended and the warm one go on by turns.
 fn seek_by_turns(
     alloc: Global,
     start: &Start,
-    halves: &Halves,
     drain: Drain,
     warm: &mut Simplex,
     prices: &[i32],
     turns: u32,
 ) -> Result<Option<Solution>, AllocError> {
-    let mut drained = drained_simplex(alloc, start, halves, drain, prices)?;
-    by_turns(alloc, start, halves, &mut drained, warm, turns)
+    let mut drained = drained_simplex(alloc, start, drain, prices)?;
+    by_turns(alloc, start, &mut drained, warm, turns)
 }
 
 // A solution from where nothing is set off, if one is found in time.
-fn whole_at_once(
-    alloc: Global,
-    start: &Start,
-    halves: &Halves,
-) -> Result<Option<Solution>, AllocError> {
-    whole_within(alloc, start, halves, work_of(start, halves, WHOLE))
+fn whole_at_once(alloc: Global, start: &Start) -> Result<Option<Solution>, AllocError> {
+    whole_within(alloc, start, work_of(start, WHOLE))
 }
 
 // A solution from where nothing is set off, if one is found with so much work.
-fn whole_within(
-    alloc: Global,
-    start: &Start,
-    halves: &Halves,
-    work: u64,
-) -> Result<Option<Solution>, AllocError> {
+fn whole_within(alloc: Global, start: &Start, work: u64) -> Result<Option<Solution>, AllocError> {
     let prices = vec![in alloc; 0i32; start.excess.len()]?;
-    let mut cold = cold_simplex(alloc, start, halves, &prices)?;
-    let over = cold.run(alloc, start.edges, halves, work);
+    let mut cold = cold_simplex(alloc, start, &prices)?;
+    let over = cold.run(alloc, start.edges, start.halves, work);
     answer_if(alloc, start.edges, &cold, over)
 }
 
 // The work that the undrained simplex has first: none where there are not few halves.
-fn work_where_sparse(start: &Start, halves: &Halves) -> u64 {
-    if halves.len() / FEW_HALVES <= start.excess.len() {
-        (halves.len() as u64).saturating_mul(WARM)
+fn work_where_sparse(start: &Start) -> u64 {
+    if start.halves.len() / FEW_HALVES <= start.excess.len() {
+        (start.halves.len() as u64).saturating_mul(WARM)
     } else {
         0
     }
@@ -451,17 +426,16 @@ fn work_where_sparse(start: &Start, halves: &Halves) -> u64 {
 fn by_turns(
     alloc: Global,
     start: &Start,
-    halves: &Halves,
     drained: &mut Simplex,
     warm: &mut Simplex,
     turns: u32,
 ) -> Result<Option<Solution>, AllocError> {
-    let mut work = first_turn(start, halves);
+    let mut work = first_turn(start);
     for _ in 0..turns {
-        if drained.run(alloc, start.edges, halves, work)? {
+        if drained.run(alloc, start.edges, start.halves, work)? {
             return answer(alloc, start.edges, drained);
         }
-        if warm.run(alloc, start.edges, halves, work)? {
+        if warm.run(alloc, start.edges, start.halves, work)? {
             return answer(alloc, start.edges, warm);
         }
         work = work.saturating_mul(2);
@@ -470,33 +444,23 @@ fn by_turns(
 }
 
 // The work of the first turn.
-fn first_turn(start: &Start, halves: &Halves) -> u64 {
+fn first_turn(start: &Start) -> u64 {
     let square = square_of(start).saturating_mul(TURN_SQUARES);
-    square.saturating_add((halves.len() as u64).saturating_mul(TURN))
+    square.saturating_add((start.halves.len() as u64).saturating_mul(TURN))
 }
 
 // A simplex that begins at the prices of the start.
-fn warm_simplex(
-    alloc: Global,
-    start: &Start,
-    halves: &Halves,
-    prices: &[i32],
-) -> Result<Simplex, AllocError> {
+fn warm_simplex(alloc: Global, start: &Start, prices: &[i32]) -> Result<Simplex, AllocError> {
     let flows = Vec::from_slice(alloc, start.flows)?;
     let excess = cents(alloc, start.excess)?;
-    Simplex::new(alloc, start.edges, halves, flows, prices, excess)
+    Simplex::new(alloc, start.edges, start.halves, flows, prices, excess)
 }
 
 // A simplex that starts where nothing is set off, and no balance changes, at the price of each node.
-fn cold_simplex(
-    alloc: Global,
-    start: &Start,
-    halves: &Halves,
-    prices: &[i32],
-) -> Result<Simplex, AllocError> {
+fn cold_simplex(alloc: Global, start: &Start, prices: &[i32]) -> Result<Simplex, AllocError> {
     let flows = unused_flows(alloc, start)?;
     let excess = vec![in alloc; 0i64; start.excess.len()]?;
-    let mut cold = Simplex::new(alloc, start.edges, halves, flows, prices, excess)?;
+    let mut cold = Simplex::new(alloc, start.edges, start.halves, flows, prices, excess)?;
     cold.stop_looking();
     Ok(cold)
 }
@@ -511,16 +475,11 @@ fn unused_flows(alloc: Global, start: &Start) -> Result<Vec<u64>, AllocError> {
 }
 
 // The start drained of its excess, with so much work for each half.
-fn drain_for(
-    alloc: Global,
-    start: &Start,
-    halves: &Halves,
-    work: u64,
-) -> Result<Drain, AllocError> {
+fn drain_for(alloc: Global, start: &Start, work: u64) -> Result<Drain, AllocError> {
     let excess = cents(alloc, start.excess)?;
     let mut drain = Drain::new(alloc, start.flows, excess, start.windows)?;
-    let most = (halves.len() as u64).saturating_mul(work);
-    drain.run(alloc, halves, most)?;
+    let most = (start.halves.len() as u64).saturating_mul(work);
+    drain.run(alloc, start.halves, most)?;
     Ok(drain)
 }
 
@@ -528,12 +487,11 @@ fn drain_for(
 fn drained_simplex(
     alloc: Global,
     start: &Start,
-    halves: &Halves,
     drain: Drain,
     prices: &[i32],
 ) -> Result<Simplex, AllocError> {
     let (flows, excess) = drain.flows_and_excess();
-    Simplex::new(alloc, start.edges, halves, flows, prices, excess)
+    Simplex::new(alloc, start.edges, start.halves, flows, prices, excess)
 }
 
 // The solution of a simplex, if it came to its end.
