@@ -133,7 +133,6 @@ fn parts_are_solved_apart(rt: HostRuntime) {
     let net = Unused {
         edges: &state.edges,
         halves: &begun.halves,
-        halves: &begun.halves,
         windows: &begun.windows,
     };
     let parts = Parts::of(alloc, &net).expect(&rt, "memory");
