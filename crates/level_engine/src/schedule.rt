@@ -32,7 +32,7 @@ pub const CENTS_BACK: u64 = 20;
 pub const NODES_FOR_PRICE: usize = 64;
 
 /// So many levels are tried at first.
-pub const LEVELS: usize = 32;
+pub const LEVELS: usize = 22;
 
 /// So many where some units count more than one.
 pub const LEVELS_WEIGHTED: usize = 128;
@@ -40,14 +40,42 @@ pub const LEVELS_WEIGHTED: usize = 128;
 /// So many where there are few arcs.
 pub const LEVELS_FEW: usize = 4;
 
-/// From so many levels on it is asked whether they get on.
-pub const LEVELS_ASKED: usize = 16;
+/// When levels get on no longer: where of a hundred cents of excess that were left at half the level more than so many are left.
+#[derive(Clone, Copy)]
+pub struct Stall {
+    /// From so many levels on.
+    pub first: usize,
+    /// More than so many.
+    pub left: u128,
+    /// And from so many levels on.
+    pub second: usize,
+    /// More than so many.
+    pub second_left: u128,
+}
 
-/// From so many on where it is asked sooner.
-pub const LEVELS_ASKED_SOON: usize = 4;
+/// When levels get on no longer.
+pub const STALL: Stall = Stall {
+    first: 8,
+    left: 40,
+    second: 12,
+    second_left: 27,
+};
 
-/// Levels get on no longer where less than one cent in so many of the excess has gone since half the level.
-pub const LEVELS_GAIN: u128 = 4;
+/// When they get on no longer where there are at most `SOME_HALVES`.
+pub const STALL_SOON: Stall = Stall {
+    first: 4,
+    left: 75,
+    second: 8,
+    second_left: 75,
+};
+
+/// When they get on no longer where some units count more than one.
+pub const STALL_WEIGHTED: Stall = Stall {
+    first: 16,
+    left: 75,
+    second: 32,
+    second_left: 75,
+};
 
 /// The next level goes from the other side where less than one cent in so many of the excess went in the last.
 pub const LEVEL_GAIN: i64 = 4;
@@ -107,6 +135,12 @@ pub const WARM: u64 = 700;
 /// The work of a drain at first.
 pub const DRAIN_BRIEF: u64 = 32;
 
+/// A drain ends early where more than `DRAIN_LEFT` of a hundred cents are left behind one part in so many of its work.
+pub const DRAIN_PART: u64 = 4;
+
+/// See `DRAIN_PART`.
+pub const DRAIN_LEFT: u128 = 67;
+
 /// The work of a drain where that was too little, and the whole was sought in vain from where nothing is set off.
 pub const DRAIN: u64 = 400;
 
@@ -129,16 +163,16 @@ pub const CLAIMS_BY_SHARES: usize = 3;
 /// than `FEW_HALVES`.
 pub const SHARES_HALVES: usize = 12;
 
-/// Where claims are of many sizes, the work of the simplex that starts where a brief drain ended, besides one for each `WHOLE_SQUARES` of
-/// the square of the nodes.
+/// Where claims are not mostly alike, the work of the simplex that starts where a brief drain ended, besides one for each `WHOLE_SQUARES`
+/// of the square of the nodes.
 pub const DRAINED: u64 = 448;
 
 /// And that of one from risen prices.
 pub const RISEN: u64 = 900;
 
 /// The work at first of a simplex to which all arcs come by shares from where nothing is set off, for each arc, and for each
-/// `SHARED_SQUARES` of the square of the nodes. It goes on where more than half of the arcs are open then.
-pub const SHARED_EARLY: u64 = 400;
+/// `SHARED_SQUARES` of the square of the nodes. It goes on where `SHARES_FAR` shares are open then.
+pub const SHARED_EARLY: u64 = 100;
 
 /// See `SHARED_EARLY`.
 pub const SHARED_SQUARES: u64 = 400;
@@ -156,8 +190,14 @@ pub const WARM_LEFT_MOST: u64 = 95;
 /// How far the work of each of the two goes in the end, first of the one from where the levels stand, if it got on, and else of the other.
 pub const SHARED: u64 = 20_000;
 
+/// How far it goes before there are levels.
+pub const SHARED_COLD: u64 = 400;
+
 /// Arcs come in so many shares.
 pub const SHARES: usize = 8;
+
+/// The simplex from where nothing is set off is far on where so many are open.
+pub const SHARES_FAR: usize = 3;
 
 /// The work, for each of all these arcs, behind which it is asked whether the open ones still bring in excess.
 pub const SHARE_SLICE: u64 = 100;

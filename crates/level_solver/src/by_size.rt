@@ -72,7 +72,7 @@ fn find_cold_by_shares(
     }
 }
 
-// A whole solution, where nodes have not few halves: one that a simplex finds soon from where the rest is drained, or else one by shares.
+// A whole solution, where nodes have not few halves: one that a simplex finds soon, or else one by shares.
 fn find_by_size(
     alloc: Global,
     state: &State,
@@ -88,10 +88,10 @@ fn find_by_size(
         halves,
         windows,
     };
-    let soon = if Sizes::of(&net).are_many() {
-        seek_drained(alloc, &start)?
-    } else {
+    let soon = if Sizes::of(&net).are_mostly_alike() {
         seek_first(alloc, &start)?
+    } else {
+        seek_drained(alloc, &start)?
     };
     if soon.is_some() {
         return Ok(soon);

@@ -1,6 +1,7 @@
 //! The rest of the excess, moved back.
 use crate::buckets::Buckets;
 use loose_places::{at, put, short, small};
+use spanning_tree::schedule::{DRAIN_LEFT, DRAIN_PART};
 use spanning_tree::{Half, Halves, Queue};
 use std::alloc::{AllocError, Global};
 
@@ -56,7 +57,7 @@ impl Drain {
         })
     }
 
-    // Moves excess back until no node has any, or for so much work.
+    // Moves excess back until no node has any, or for so much work, or for a part of it where little is moved by that.
     #[inline(never)]
     pub(crate) fn run(
         &mut self,
@@ -66,36 +67,51 @@ impl Drain {
     ) -> Result<(), AllocError> {
         self.label_all(alloc, halves)?;
         self.begin(halves);
-        for _ in 0..u32::MAX {
-            if most <= self.work {
-                return Ok(());
-            }
-            let Some(node) = self.buckets.take() else {
-                return Ok(());
-            };
-            self.serve(halves, node);
+        let enough = self.left() / 100 * DRAIN_LEFT;
+        self.serve_nodes(halves, most / DRAIN_PART);
+        if self.left() <= enough {
+            self.serve_nodes(halves, most);
         }
         Ok(())
     }
 
-    // Whether no node has any excess.
-    pub(crate) fn is_over(&self) -> bool {
-        self.excess.iter().all(|&amount| amount <= 0)
+    // Moves excess back until no node has any, or so much work is done.
+    fn serve_nodes(&mut self, halves: &Halves, most: u64) {
+        for _ in 0..u32::MAX {
+            if most <= self.work {
+                return;
+            }
+            let Some(node) = self.buckets.take() else {
+                return;
+            };
+            self.serve(halves, node);
+        }
     }
 
-    // The flows, and the excess that is left.
-    pub(crate) fn flows_and_excess(self) -> (Vec<u64>, Vec<i64>) {
-        let Self {
-            flows,
-            excess,
-            windows,
-            labels,
-            jumps,
-            next,
-            buckets,
-            work,
-        } = self;
-        (flows, excess)
+    // How many cents of excess are left.
+    fn left(&self) -> u128 {
+        let mut left = 0u128;
+        for &amount in &self.excess {
+            if 0 < amount {
+                left = left.saturating_add(u128::from(amount.unsigned_abs()));
+            }
+        }
+        left
+    }
+
+    // Whether no node has any excess.
+    pub(crate) fn is_over(&self) -> bool {
+        self.left() == 0
+    }
+
+    // The flow of each arc.
+    pub(crate) fn flows(&self) -> &[u64] {
+        &self.flows
+    }
+
+    // The excess of each node that is left.
+    pub(crate) fn excess(&self) -> &[i64] {
+        &self.excess
     }
 
     // Gives each node its label, by a search from those that want excess.

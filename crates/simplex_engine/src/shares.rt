@@ -2,8 +2,10 @@
 use crate::ranking::largest_first;
 use crate::simplex::Simplex;
 use crate::turns::{Start, cents, node_prices};
-use loose_places::{at, put};
-use spanning_tree::schedule::{SHARE_GAIN, SHARE_SLICE, SHARED_BLOCKS, SHARED_SQUARES, SHARES};
+use loose_places::{at, narrow, put};
+use spanning_tree::schedule::{
+    SHARE_GAIN, SHARE_SLICE, SHARED_BLOCKS, SHARED_SQUARES, SHARES, SHARES_FAR,
+};
 use spanning_tree::{Edge, Halves};
 use std::alloc::{AllocError, Global};
 
@@ -62,7 +64,7 @@ impl Shares {
             halves,
             simplex,
             open: 0,
-            left: u64::MAX,
+            left: all_outside(start.excess),
         })
     }
 
@@ -108,9 +110,9 @@ impl Shares {
         Ok(false)
     }
 
-    // Whether more than half of the arcs are open.
+    // Whether `SHARES_FAR` shares are open.
     pub(crate) fn are_far_on(&self) -> bool {
-        self.edges.len() / 2 < self.open
+        self.edges.len() / SHARES * SHARES_FAR < self.open
     }
 
     // Whether more than the first share of the arcs is open.
@@ -118,7 +120,7 @@ impl Shares {
         self.edges.len() / SHARES < self.open.saturating_sub(1)
     }
 
-    // Whether at most so many of a hundred cents of the excess are left that were outside when this was last asked. At first it is so.
+    // Whether at most so many of a hundred cents of the excess are left that were outside when this was last asked, or at the start.
     pub(crate) fn gets_on(&mut self, most: u64) -> bool {
         let before = self.left;
         self.left = self.simplex.still_outside();
@@ -145,6 +147,15 @@ impl Shares {
     pub(crate) fn prices(&self, alloc: Global) -> Result<Vec<i64>, AllocError> {
         self.simplex.prices(alloc)
     }
+}
+
+// How many cents of excess and of want the nodes have.
+fn all_outside(excess: &[i128]) -> u64 {
+    let mut cents = 0u64;
+    for &amount in excess {
+        cents = cents.saturating_add(narrow(amount).unsigned_abs());
+    }
+    cents
 }
 
 // Whether the open arcs hardly bring in any more of the excess: in the last slice less than one cent in so many of what was left.

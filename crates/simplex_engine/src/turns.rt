@@ -5,8 +5,8 @@ use crate::simplex::Simplex;
 use loose_places::{narrow, near, put};
 use spanning_tree::schedule::{
     ALONE, DRAIN, DRAIN_BRIEF, DRAINED, FAR_OF, FAR_PARTS, FEW_HALVES, FULL_TRIAL, SHARED,
-    SHARED_EARLY, SLICE, SLICE_MORE, SLICE_MOST, SLICES, SPARSE_HALVES, SPARSE_TRIAL, TURN,
-    TURN_SQUARES, Trial, WARM, WARM_LEFT, WARM_LEFT_MOST, WARM_STEPS, WHOLE, WHOLE_SQUARES,
+    SHARED_COLD, SHARED_EARLY, SLICE, SLICE_MORE, SLICE_MOST, SLICES, SPARSE_HALVES, SPARSE_TRIAL,
+    TURN, TURN_SQUARES, Trial, WARM, WARM_LEFT, WARM_LEFT_MOST, WARM_STEPS, WHOLE, WHOLE_SQUARES,
 };
 use spanning_tree::{Edge, Halves};
 use std::alloc::{AllocError, Global};
@@ -104,8 +104,7 @@ pub fn seek_from(
 pub fn seek_drained(alloc: Global, start: &Start) -> Result<Option<Solution>, AllocError> {
     let drain = drain_for(alloc, start, DRAIN_BRIEF)?;
     if drain.is_over() {
-        let work = work_of(start, DRAINED);
-        drained_within(alloc, start, drain, work)
+        drained_within(alloc, start, &drain, work_of(start, DRAINED))
     } else {
         Ok(None)
     }
@@ -117,8 +116,7 @@ pub fn seek_drained(alloc: Global, start: &Start) -> Result<Option<Solution>, Al
 pub fn seek_first(alloc: Global, start: &Start) -> Result<Option<Solution>, AllocError> {
     let drain = drain_for(alloc, start, DRAIN_BRIEF)?;
     if drain.is_over() {
-        let work = first_turn(start);
-        drained_within(alloc, start, drain, work)
+        drained_within(alloc, start, &drain, first_turn(start))
     } else {
         drop(drain);
         whole_at_once(alloc, start)
@@ -129,7 +127,7 @@ pub fn seek_first(alloc: Global, start: &Start) -> Result<Option<Solution>, Allo
 fn drained_within(
     alloc: Global,
     start: &Start,
-    drain: Drain,
+    drain: &Drain,
     work: u64,
 ) -> Result<Option<Solution>, AllocError> {
     let prices = node_prices(alloc, start.prices)?;
@@ -204,7 +202,11 @@ fn run_in_turn(
 /// Nothing is proved of it. The only error is running out of memory.
 pub fn seek_cold_by_shares(alloc: Global, start: &Start) -> Result<Option<Solution>, AllocError> {
     let mut cold = cold_shares(alloc, start)?;
-    run_shares(alloc, start, &mut cold, SHARED_EARLY)
+    let found = run_shares(alloc, start, &mut cold, SHARED_EARLY)?;
+    if found.is_none() && cold.are_far_on() {
+        return run_shares(alloc, start, &mut cold, SHARED_COLD);
+    }
+    Ok(found)
 }
 
 // All arcs by shares, from where nothing is set off.
@@ -365,7 +367,7 @@ fn seek_warm(
     }
     let drain = drain_for(alloc, start, DRAIN_BRIEF)?;
     if drain.is_over() {
-        seek_by_turns(alloc, start, drain, warm, prices, turns)
+        seek_by_turns(alloc, start, &drain, warm, prices, turns)
     } else {
         drop(drain);
         seek_undrained(alloc, start, warm, prices, turns)
@@ -384,14 +386,14 @@ fn seek_undrained(
         return Ok(Some(whole));
     }
     let drain = drain_for(alloc, start, DRAIN)?;
-    seek_by_turns(alloc, start, drain, warm, prices, turns)
+    seek_by_turns(alloc, start, &drain, warm, prices, turns)
 }
 
 // Lets a simplex that begins where the drain ended and the warm one go on by turns.
 fn seek_by_turns(
     alloc: Global,
     start: &Start,
-    drain: Drain,
+    drain: &Drain,
     warm: &mut Simplex,
     prices: &[i32],
     turns: u32,
@@ -487,10 +489,11 @@ fn drain_for(alloc: Global, start: &Start, work: u64) -> Result<Drain, AllocErro
 fn drained_simplex(
     alloc: Global,
     start: &Start,
-    drain: Drain,
+    drain: &Drain,
     prices: &[i32],
 ) -> Result<Simplex, AllocError> {
-    let (flows, excess) = drain.flows_and_excess();
+    let flows = Vec::from_slice(alloc, drain.flows())?;
+    let excess = Vec::from_slice(alloc, drain.excess())?;
     Simplex::new(alloc, start.edges, start.halves, flows, prices, excess)
 }
 
