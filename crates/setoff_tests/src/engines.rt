@@ -214,6 +214,29 @@ fn is_set_off(
     is_all && adopt(alloc, &mut state, flows, prices).expect(rt, "memory")
 }
 
+// The sizes of the claims between three firms.
+fn sizes_of(rt: &impl Abort, alloc: Global, owed: &[Owed]) -> Sizes {
+    let state = state_of(rt, alloc, Kind::Plain, &[(0, 0); 3], owed);
+    let begun = beginning_of(rt, alloc, &state);
+    Sizes::of(&Unused {
+        edges: &state.edges,
+        halves: &begun.halves,
+        windows: &begun.windows,
+    })
+}
+
+// Two of the ring with small claims hold less than one cent in 256 of what the largest holds.
+#[test]
+fn claims_are_of_sizes(rt: HostRuntime) {
+    let alloc = rt.alloc();
+    let many = sizes_of(&rt, alloc, &CROSSED);
+    assert!(rt; many.are_many() && !many.are_mostly_small() && !many.are_mostly_alike());
+    let alike = sizes_of(&rt, alloc, &[(0, 1, 700), (1, 2, 700), (2, 0, 300)]);
+    assert!(rt; alike.are_mostly_alike() && !alike.are_many() && !alike.are_mostly_small());
+    let small = sizes_of(&rt, alloc, &[(0, 1, 90_000), (1, 2, 300), (2, 0, 300)]);
+    assert!(rt; small.are_mostly_small() && !small.are_mostly_alike());
+}
+
 #[test]
 fn small_claims_come_behind_large_ones(rt: HostRuntime) {
     let alloc = rt.alloc();
