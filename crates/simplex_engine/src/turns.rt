@@ -145,17 +145,24 @@ pub fn seek_by_shares(alloc: Global, start: &Start) -> Result<Option<Solution>, 
     run_from_cold(alloc, start, &mut cold)
 }
 
-// The solution that the cold shares come to, where they are far on soon, or else one of these and the warm ones.
+// The solution that the cold shares come to, where they are far on soon, or else one of these and the warm ones. Where more than the first
+// share is open, it is asked once more behind twice the work.
 fn run_from_cold(
     alloc: Global,
     start: &Start,
     cold: &mut Shares,
 ) -> Result<Option<Solution>, AllocError> {
-    if let Some(found) = run_shares(alloc, start, cold, SHARED_EARLY)? {
-        return Ok(Some(found));
-    }
-    if cold.are_far_on() {
-        return run_shares(alloc, start, cold, SHARED);
+    for times in 1..3u64 {
+        let work = SHARED_EARLY.saturating_mul(times);
+        if let Some(found) = run_shares(alloc, start, cold, work)? {
+            return Ok(Some(found));
+        }
+        if cold.are_far_on() {
+            return run_shares(alloc, start, cold, SHARED);
+        }
+        if !cold.is_begun() {
+            break;
+        }
     }
     let mut warm = Shares::new(alloc, start)?;
     run_both(alloc, start, cold, &mut warm)
