@@ -238,6 +238,12 @@ pub const KEPT: usize = 16;
 /// The nodes of the tree are numbered anew after so much work in the tree for each arc.
 pub const NUMBERED: u64 = 128;
 
+/// Paths of the tree are kept in stretches where so many arcs of a circle are not turned.
+pub const LONG: u64 = 400;
+
+/// A stretch has so many nodes.
+pub const STRETCH: usize = 16;
+
 /// The tree falls into at most so many fragments, whose potentials change together, before its nodes are laid out anew.
 pub const FRAGMENTS: usize = 2_048;
 

@@ -105,6 +105,16 @@ fn a_long_chain_is_taken(rt: HostRuntime) {
     assert!(rt; is_answered(&rt, alloc, &tight));
 }
 
+// The paths of the tree are so long that they are kept in stretches, of which circles over the drawn claims turn some, and part others.
+#[test]
+fn a_chain_of_stretches_is_taken(rt: HostRuntime) {
+    let alloc = rt.alloc();
+    let mut tight = firms(&rt, alloc, 2_048, Some(5));
+    chain(&rt, &mut tight, 0, 2_047, 1_000_000);
+    drawn_claims(&rt, &mut tight, 1_000, 400, 1);
+    assert!(rt; is_answered(&rt, alloc, &tight));
+}
+
 // Two rings, and a claim from one to the other, of which nothing can be set off.
 const RINGS: [Owed; 7] = [
     (0, 1, 500),

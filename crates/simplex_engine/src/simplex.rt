@@ -149,8 +149,20 @@ impl Simplex {
     }
 
     // Goes on for so much work. Whether no arc is bad any more.
-    #[inline(never)]
     pub(crate) fn run(
+        &mut self,
+        alloc: Global,
+        edges: &[Edge],
+        halves: &Halves,
+        work: u64,
+    ) -> Result<bool, AllocError> {
+        let is_over = self.go_on(alloc, edges, halves, work);
+        self.tree.settle();
+        is_over
+    }
+
+    #[inline(never)]
+    fn go_on(
         &mut self,
         alloc: Global,
         edges: &[Edge],

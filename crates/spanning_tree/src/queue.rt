@@ -1,5 +1,5 @@
 //! Nodes that are come to one after another.
-use crate::tree::NOBODY;
+use crate::paths::NOBODY;
 use loose_places::{at, put};
 use std::alloc::{AllocError, Global};
 
