@@ -32,7 +32,7 @@ pub const CENTS_BACK: u64 = 20;
 pub const NODES_FOR_PRICE: usize = 64;
 
 /// So many levels are tried at first.
-pub const LEVELS: usize = 22;
+pub const LEVELS: usize = 32;
 
 /// So many where some units count more than one.
 pub const LEVELS_WEIGHTED: usize = 128;
@@ -40,42 +40,14 @@ pub const LEVELS_WEIGHTED: usize = 128;
 /// So many where there are few arcs.
 pub const LEVELS_FEW: usize = 4;
 
-/// When levels get on no longer: where of a hundred cents of excess that were left at half the level more than so many are left.
-#[derive(Clone, Copy)]
-pub struct Stall {
-    /// From so many levels on.
-    pub first: usize,
-    /// More than so many.
-    pub left: u128,
-    /// And from so many levels on.
-    pub second: usize,
-    /// More than so many.
-    pub second_left: u128,
-}
+/// From so many levels on it is asked whether they get on.
+pub const LEVELS_ASKED: usize = 16;
 
-/// When levels get on no longer.
-pub const STALL: Stall = Stall {
-    first: 8,
-    left: 40,
-    second: 12,
-    second_left: 27,
-};
+/// From so many on where there are at most `SOME_HALVES`.
+pub const LEVELS_ASKED_SOON: usize = 4;
 
-/// When they get on no longer where there are at most `SOME_HALVES`.
-pub const STALL_SOON: Stall = Stall {
-    first: 4,
-    left: 75,
-    second: 8,
-    second_left: 75,
-};
-
-/// When they get on no longer where some units count more than one.
-pub const STALL_WEIGHTED: Stall = Stall {
-    first: 16,
-    left: 75,
-    second: 32,
-    second_left: 75,
-};
+/// Levels get on no longer where less than one cent in so many of the excess has gone since half the level.
+pub const LEVELS_GAIN: u128 = 4;
 
 /// The next level goes from the other side where less than one cent in so many of the excess went in the last.
 pub const LEVEL_GAIN: i64 = 4;
@@ -189,6 +161,9 @@ pub const WARM_LEFT_MOST: u64 = 95;
 
 /// How far the work of each of the two goes in the end, first of the one from where the levels stand, if it got on, and else of the other.
 pub const SHARED: u64 = 20_000;
+
+/// How far the one from where nothing is set off goes, where it is far on, before the other is tried for the first of `WARM_STEPS`.
+pub const SHARED_FAR: u64 = 800;
 
 /// How far it goes before there are levels.
 pub const SHARED_COLD: u64 = 400;

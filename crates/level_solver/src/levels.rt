@@ -7,8 +7,8 @@ ghost use Rattle.flow_solver.specs.residual_state.specs.Carries.{IsNoWorse};
 use flow_solver::{State, augment, carry_all, reprice, surplus_of};
 use simplex_engine::Advice;
 use simplex_engine::schedule::{
-    FEW_HALVES, LEVELS, LEVELS_FEW, LEVELS_WEIGHTED, SOME_HALVES, STALL, STALL_SOON,
-    STALL_WEIGHTED, Stall,
+    FEW_HALVES, LEVELS, LEVELS_ASKED, LEVELS_ASKED_SOON, LEVELS_FEW, LEVELS_GAIN, LEVELS_WEIGHTED,
+    SOME_HALVES,
 };
 use std::alloc::{AllocError, Global};
 
@@ -22,13 +22,16 @@ pub(crate) fn first_levels(
     ensures { OnOk result (IsNoWorse state.old state.new) }
 {
     let halves = advice.halves().len();
-    let weighted = is_weighted(state);
-    let most = most_levels(state, halves, weighted);
-    let stall = stall_of(state, halves, weighted);
+    let most = most_levels(state, halves);
     let mut past = Vec::with_capacity(alloc, most)?;
+    let asked = if halves / SOME_HALVES <= state.excess.len() {
+        LEVELS_ASKED_SOON
+    } else {
+        LEVELS_ASKED
+    };
     for _ in 0..most {
         let left = surplus_of(&state.excess);
-        if left == 0 || is_stalled(&past, left, stall) {
+        if left == 0 || is_stalled(&past, left, asked) {
             return Ok(());
         }
         past.push(left)?;
@@ -37,50 +40,27 @@ pub(crate) fn first_levels(
     Ok(())
 }
 
-// Whether some units count more than one.
-fn is_weighted(state: &State) -> bool {
+// How many levels are tried at first.
+fn most_levels(state: &State, halves: usize) -> usize {
+    if halves / FEW_HALVES <= state.excess.len() {
+        return LEVELS_FEW;
+    }
     for edge in &state.edges {
         if 1 < edge.reward {
-            return true;
+            return LEVELS_WEIGHTED;
         }
     }
-    false
-}
-
-// How many levels are tried at first.
-fn most_levels(state: &State, halves: usize, weighted: bool) -> usize {
-    if halves / FEW_HALVES <= state.excess.len() {
-        LEVELS_FEW
-    } else if weighted {
-        LEVELS_WEIGHTED
-    } else {
-        LEVELS
-    }
-}
-
-// When levels get on no longer.
-fn stall_of(state: &State, halves: usize, weighted: bool) -> Stall {
-    if halves / SOME_HALVES <= state.excess.len() {
-        STALL_SOON
-    } else if weighted {
-        STALL_WEIGHTED
-    } else {
-        STALL
-    }
+    LEVELS
 }
 
 // Whether levels get on no longer: too much is left of what was left at half the level.
-fn is_stalled(past: &[u128], left: u128, stall: Stall) -> bool {
+fn is_stalled(past: &[u128], left: u128, asked: usize) -> bool {
     let level = past.len();
-    if level < stall.first || level == 0 {
+    if level < asked || level == 0 {
         return false;
     }
-    let most = if level < stall.second {
-        stall.left
-    } else {
-        stall.second_left
-    };
-    (past[level / 2] / 100).saturating_mul(most) < left
+    let before = past[level / 2];
+    before - before / LEVELS_GAIN < left
 }
 
 // Goes from one level of prices to the next, until no node has an excess above 0.

@@ -5,8 +5,9 @@ use crate::simplex::Simplex;
 use loose_places::{narrow, near, put};
 use spanning_tree::schedule::{
     ALONE, DRAIN, DRAIN_BRIEF, DRAINED, FAR_OF, FAR_PARTS, FEW_HALVES, FULL_TRIAL, SHARED,
-    SHARED_COLD, SHARED_EARLY, SLICE, SLICE_MORE, SLICE_MOST, SLICES, SPARSE_HALVES, SPARSE_TRIAL,
-    TURN, TURN_SQUARES, Trial, WARM, WARM_LEFT, WARM_LEFT_MOST, WARM_STEPS, WHOLE, WHOLE_SQUARES,
+    SHARED_COLD, SHARED_EARLY, SHARED_FAR, SLICE, SLICE_MORE, SLICE_MOST, SLICES, SPARSE_HALVES,
+    SPARSE_TRIAL, TURN, TURN_SQUARES, Trial, WARM, WARM_LEFT, WARM_LEFT_MOST, WARM_STEPS, WHOLE,
+    WHOLE_SQUARES,
 };
 use spanning_tree::{Edge, Halves};
 use std::alloc::{AllocError, Global};
@@ -158,7 +159,7 @@ fn run_from_cold(
             return Ok(Some(found));
         }
         if cold.are_far_on() {
-            return run_shares(alloc, start, cold, SHARED);
+            return run_far(alloc, start, cold);
         }
         if !cold.is_begun() {
             break;
@@ -166,6 +167,28 @@ fn run_from_cold(
     }
     let mut warm = Shares::new(alloc, start)?;
     run_both(alloc, start, cold, &mut warm)
+}
+
+// The solution of the cold shares, or of the warm ones if these soon come to one: on some nets they need a small part of the work.
+fn run_far(
+    alloc: Global,
+    start: &Start,
+    cold: &mut Shares,
+) -> Result<Option<Solution>, AllocError> {
+    if let Some(found) = run_shares(alloc, start, cold, SHARED_FAR)? {
+        return Ok(Some(found));
+    }
+    let soon = find_warm_soon(alloc, start)?;
+    if soon.is_some() {
+        return Ok(soon);
+    }
+    run_shares(alloc, start, cold, SHARED)
+}
+
+// The solution that the warm shares come to in their first step.
+fn find_warm_soon(alloc: Global, start: &Start) -> Result<Option<Solution>, AllocError> {
+    let mut warm = Shares::new(alloc, start)?;
+    run_shares(alloc, start, &mut warm, WARM_STEPS[0])
 }
 
 // The solution that one of the two comes to. The warm one is soon done as long as it gets on, and far from it elsewhere.
