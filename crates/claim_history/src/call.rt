@@ -10,6 +10,7 @@ use setoff_model::Name;
 
 /// What is asked: by whom, and in which pool. Firms, claims, accounts and rounds of different pools have nothing to do with
 /// each other.
+#[derive(Drop)]
 pub struct Call {
     /// Who asks: the number of a lane, or 0 for the bureau itself.
     pub caller: u32,
@@ -17,13 +18,6 @@ pub struct Call {
     pub pool: Name,
     /// What is asked.
     pub act: Act,
-}
-
-// Written out, so that it is proved once, and not in each crate that lets a call go.
-impl Drop for Call {
-    fn drop(self) {
-        let Self { caller, pool, act } = self;
-    }
 }
 
 /// One member of the history of the bureau: an entry of a pool.

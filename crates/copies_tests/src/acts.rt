@@ -121,13 +121,15 @@ fn open(rt: &impl Abort, alloc: Global, book: &mut Book, kind: Kind, horizon: Da
 
 // Publishes a round.
 #[tactic(auto, using(claim_history::proofs::Growth::due_follows, crate::proofs::Longer::one_longer))]
-fn publish(rt: &impl Abort, alloc: Global, book: &mut Book, round: u32, outcome: Outcome)
+fn publish(rt: &impl Abort, alloc: Global, book: &mut Book, act: Act)
     ensures { IsPrefix book.old.history book.new.history }
 {
+    let Act::Publish { round, outcome } = &act else {
+        return;
+    };
     let caller = 1;
-    let reply = publication_reply(alloc, book, caller, round, &outcome).expect(rt, "memory");
+    let reply = publication_reply(alloc, book, caller, *round, outcome).expect(rt, "memory");
     assert!(rt; matches!(reply, Reply::Published { total: 2_100 }));
-    let act = Act::Publish { round, outcome };
     assert!(rt; act.valid());
     book.reserve(&act).expect(rt, "memory");
     assert!(rt; book.apply_publish(Entry { caller, act, reply }).is_some());
@@ -137,10 +139,10 @@ fn publish(rt: &impl Abort, alloc: Global, book: &mut Book, round: u32, outcome:
 pub fn put_any(rt: &impl Abort, alloc: Global, book: &mut Book, act: Act)
     ensures { IsPrefix book.old.history book.new.history }
 {
-    match act {
-        Act::Close { kind, horizon } => open(rt, alloc, book, kind, horizon),
-        Act::Publish { round, outcome } => publish(rt, alloc, book, round, outcome),
-        act => put(rt, book, act),
+    match &act {
+        Act::Close { kind, horizon } => open(rt, alloc, book, *kind, *horizon),
+        Act::Publish { .. } => publish(rt, alloc, book, act),
+        _ => put(rt, book, act),
     }
 }
 
