@@ -404,7 +404,7 @@ fn seek_warm(
     }
 }
 
-// Seeks the whole at once, and then from where a longer drain ends.
+// Seeks the whole at once, or by shares, and then from where a longer drain ends.
 fn seek_undrained(
     alloc: Global,
     start: &Start,
@@ -414,6 +414,9 @@ fn seek_undrained(
 ) -> Result<Option<Solution>, AllocError> {
     if let Some(whole) = whole_at_once(alloc, start)? {
         return Ok(Some(whole));
+    }
+    if let Some(found) = seek_by_shares(alloc, start)? {
+        return Ok(Some(found));
     }
     let drain = drain_for(alloc, start, DRAIN)?;
     seek_by_turns(alloc, start, &drain, warm, prices, turns)
