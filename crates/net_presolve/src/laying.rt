@@ -1,7 +1,6 @@
 //! Parts laid behind one another.
 use crate::parts::Parts;
-use crate::unused::{Unused, edge_at};
-use level_engine::Half;
+use crate::unused::Unused;
 use loose_places::{at, put};
 use std::alloc::{AllocError, Global};
 
@@ -33,7 +32,8 @@ fn raise_before(net: &Unused, parts: &Parts, own: &[i64], bases: &mut [i64], nod
         let far = half.far() as usize;
         let part = parts.part(far);
         if part != parts.part(node) && net.passes(*half) {
-            let least = price.wrapping_add(gain_of(net, *half));
+            // (over a claim flow is only moved along, and a window counts nothing)
+            let least = price.wrapping_add(i64::from(half.reward()));
             let base = least.wrapping_sub(at(own, far, 0));
             put(bases, part as usize, base.max(at(bases, part as usize, 0)));
         }
@@ -43,9 +43,4 @@ fn raise_before(net: &Unused, parts: &Parts, own: &[i64], bases: &mut [i64], nod
 // The price of a node, where its part stands.
 fn price_at(parts: &Parts, own: &[i64], bases: &[i64], node: usize) -> i64 {
     at(own, node, 0).wrapping_add(at(bases, parts.part(node) as usize, 0))
-}
-
-// What a cent moved over a half counts. Over those of claims flow is only moved along.
-fn gain_of(net: &Unused, half: Half) -> i64 {
-    i64::from(edge_at(net.edges, (half.code / 2) as usize).reward)
 }

@@ -1,7 +1,7 @@
 //! Prices that rise along the claims.
 use crate::parts::Parts;
 use crate::search::NONE;
-use crate::unused::{Unused, edge_at};
+use crate::unused::Unused;
 use level_engine::schedule::{CENTS_BACK, NODES_FOR_PRICE};
 use loose_places::{at, put, short};
 use std::alloc::{AllocError, Global};
@@ -72,8 +72,7 @@ fn raise_behind(net: &Unused, turns: &[u32], prices: &mut [i32], node: usize) {
     for half in net.halves.around(node) {
         let far = half.far() as usize;
         if half.code % 2 == 0 && at(turns, far, NONE) < turn {
-            let reward = edge_at(net.edges, (half.code / 2) as usize).reward;
-            let least = price.saturating_add(reward.min(i32::MAX as u32) as i32);
+            let least = price.saturating_add(half.reward());
             put(prices, far, least.max(at(prices, far, 0)));
         }
     }

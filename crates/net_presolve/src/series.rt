@@ -1,7 +1,6 @@
 //! Series of claims taken as one arc each.
 use crate::inner::{Inner, Window};
 use crate::search::NONE;
-use crate::unused::edge_at;
 use level_engine::Edge;
 use level_engine::schedule::PARTIES_IN_SERIES;
 use loose_places::{at, put, short};
@@ -9,6 +8,13 @@ use std::alloc::{AllocError, Global};
 
 // Stands where a party has several claims on a side.
 const SEVERAL: u32 = u32::MAX - 1;
+
+const NO_EDGE: Edge = Edge {
+    tail: 0,
+    head: 0,
+    capacity: 0,
+    reward: 0,
+};
 
 /// A net whose series are one arc each. A series goes over parties with one claim that they owe, one that is owed to them, and no
 /// window: the same is set off of all its claims. Its arc holds what the least of them does, and counts what they count together.
@@ -275,4 +281,10 @@ fn renumber_arc(arc: Edge, numbers: &[u32]) -> Edge {
         capacity: arc.capacity,
         reward: arc.reward,
     }
+}
+
+// The arc at a place.
+#[inline(always)]
+fn edge_at(edges: &[Edge], place: usize) -> Edge {
+    at(edges, place, NO_EDGE)
 }

@@ -3,13 +3,6 @@ use level_engine::schedule::CLAIMS_IN_SERIES;
 use level_engine::{Edge, Half, Halves};
 use loose_places::at;
 
-const NO_EDGE: Edge = Edge {
-    tail: 0,
-    head: 0,
-    capacity: 0,
-    reward: 0,
-};
-
 /// A net where nothing is set off, and no balance changes.
 #[derive(Clone, Copy)]
 pub struct Unused<'a> {
@@ -48,10 +41,4 @@ impl Unused<'_> {
             0 < flow
         }
     }
-}
-
-// The arc at a place.
-#[inline(always)]
-pub(crate) fn edge_at(edges: &[Edge], place: usize) -> Edge {
-    at(edges, place, NO_EDGE)
 }
