@@ -61,6 +61,13 @@ pub const FAR_PARTS: u128 = 3;
 /// See `FAR_PARTS`.
 pub const FAR_OF: u128 = 5;
 
+/// With few halves a simplex is first tried from where claims are set off in pairs between two firms, if there is more than one pair for so
+/// many claims, and at most one for each party.
+pub const CLAIMS_IN_PAIRS: usize = 3;
+
+/// Its work.
+pub const PAIRED: u64 = 48;
+
 /// How a simplex is tried from where nothing is set off.
 #[derive(Clone, Copy)]
 pub struct Trial {

@@ -32,7 +32,7 @@ fn raise_before(net: &Unused, parts: &Parts, own: &[i64], bases: &mut [i64], nod
         let far = half.far() as usize;
         let part = parts.part(far);
         if part != parts.part(node) && net.passes(*half) {
-            // (over a claim flow is only moved along, and a window counts nothing)
+            // (nothing is set off, so no claim is moved back over, and a window counts nothing)
             let least = price.wrapping_add(i64::from(half.reward()));
             let base = least.wrapping_sub(at(own, far, 0));
             put(bases, part as usize, base.max(at(bases, part as usize, 0)));

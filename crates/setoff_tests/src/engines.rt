@@ -7,7 +7,8 @@ use net_presolve::{Inner, Parts, Sizes, Unused};
 use residual_state::{State, adopt};
 use setoff_model::Kind;
 use simplex_engine::{
-    Solution, Start, seek_by_shares, seek_cold_by_shares, seek_drained, seek_first, seek_solution,
+    Solution, Start, seek_by_shares, seek_cold, seek_cold_by_shares, seek_drained, seek_first,
+    seek_solution,
 };
 use std::alloc::Global;
 use std::process::Abort;
@@ -164,6 +165,32 @@ fn a_series_of_firms(rt: HostRuntime) {
     owed.push((0, 51, 15)).expect(&rt, "memory");
     let total = total_of(&rt, alloc, Kind::Plain, &[(0, 0); 52], &owed);
     assert!(rt; total == 51 * 1_000 + 1_015 + 15);
+}
+
+// A ring of 50 firms, each of which owes the next 10.00 or more, and is owed 4.00 by it.
+fn mutual_ring(rt: &impl Abort, alloc: Global) -> Vec<Owed> {
+    let mut owed = Vec::new(alloc);
+    for firm in 0..50u32 {
+        let next = (firm + 1) % 50;
+        owed.push((firm, next, 1_000 + u64::from(firm)))
+            .expect(rt, "memory");
+        owed.push((next, firm, 400)).expect(rt, "memory");
+    }
+    owed
+}
+
+// All that is owed back is set off in pairs, and 6.00 more of each of the others in the ring.
+#[test]
+fn pairs_come_before_the_ring(rt: HostRuntime) {
+    let alloc = rt.alloc();
+    let owed = mutual_ring(&rt, alloc);
+    assert!(rt; total_of(&rt, alloc, Kind::Plain, &[(0, 0); 50], &owed) == 70_000);
+    let mut state = state_of(&rt, alloc, Kind::Plain, &[(0, 0); 50], &owed);
+    let begun = beginning_of(&rt, alloc, &state);
+    let found = seek_cold(alloc, &start_of(&state, &begun)).expect(&rt, "memory");
+    let Solution { flows, prices } = found.expect(&rt, "a solution");
+    assert!(rt; sum(&flows) == 70_000);
+    assert!(rt; adopt(alloc, &mut state, flows, prices).expect(&rt, "memory"));
 }
 
 // A ring of large claims, of which 9,980.00 can be set off, and two small claims between its firms. The first of these makes a circle of

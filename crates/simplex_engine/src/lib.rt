@@ -6,6 +6,9 @@
 //! and moves and no time, so the answer is the same on each machine. Nothing is proved of the solution but that it comes, or none:
 //! `adopt` of `residual_state` tests it.
 //!
+//! With few arcs, and most claims in pairs of opposite directions between the same two firms, a simplex starts where these are set off
+//! against each other.
+//!
 //! Arcs may also come to a simplex by shares, those that hold most first: from where the levels stand, as long as it brings in much of
 //! the excess, or from where nothing is set off. What the tree lets through of a share is filled at once. The next share comes where no
 //! open arc is bad any more, or where the open ones hardly bring in any more excess.
@@ -20,6 +23,7 @@ mod candidates;
 mod draining;
 mod filling;
 mod kept;
+mod pairs;
 mod ranking;
 mod shares;
 mod simplex;

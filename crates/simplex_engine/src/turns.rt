@@ -1,13 +1,14 @@
 //! A solution by turns.
 use crate::draining::Drain;
+use crate::pairs::set_off_pairs;
 use crate::shares::Shares;
 use crate::simplex::Simplex;
 use loose_places::{narrow, near, put};
 use spanning_tree::schedule::{
-    ALONE, DRAIN, DRAIN_BRIEF, DRAINED, FAR_OF, FAR_PARTS, FEW_HALVES, FULL_TRIAL, SHARED,
-    SHARED_COLD, SHARED_EARLY, SHARED_FAR, SLICE, SLICE_MORE, SLICE_MOST, SLICES, SPARSE_HALVES,
-    SPARSE_TRIAL, TURN, TURN_SQUARES, Trial, WARM, WARM_LEFT, WARM_LEFT_MOST, WARM_STEPS, WHOLE,
-    WHOLE_SQUARES,
+    ALONE, CLAIMS_IN_PAIRS, DRAIN, DRAIN_BRIEF, DRAINED, FAR_OF, FAR_PARTS, FEW_HALVES, FULL_TRIAL,
+    PAIRED, SHARED, SHARED_COLD, SHARED_EARLY, SHARED_FAR, SLICE, SLICE_MORE, SLICE_MOST, SLICES,
+    SPARSE_HALVES, SPARSE_TRIAL, TURN, TURN_SQUARES, Trial, WARM, WARM_LEFT, WARM_LEFT_MOST,
+    WARM_STEPS, WHOLE, WHOLE_SQUARES,
 };
 use spanning_tree::{Edge, Halves};
 use std::alloc::{AllocError, Global};
@@ -38,7 +39,7 @@ pub struct Start<'a> {
     pub windows: &'a [u64],
 }
 
-/// A solution from where nothing is set off, if one is found with little work for each arc that enters.
+/// A solution from where nothing is set off, or claims in pairs alone, if one is found with little work for each arc that enters.
 ///
 /// It is sought where there are some halves of arcs at a node and not many, or where most of what is set off is in excess. Nothing is
 /// proved of it. The only error is running out of memory.
@@ -48,7 +49,7 @@ pub fn seek_cold(alloc: Global, start: &Start) -> Result<Option<Solution>, Alloc
         return Ok(None);
     }
     if many / SPARSE_HALVES <= nodes {
-        return try_cold(alloc, start, SPARSE_TRIAL);
+        return try_sparse(alloc, start);
     }
     if is_far(start) {
         try_cold(alloc, start, FULL_TRIAL)
@@ -71,6 +72,32 @@ fn is_far(start: &Start) -> bool {
         set_off = set_off.saturating_add(u128::from(flow));
     }
     set_off / FAR_OF * FAR_PARTS < left
+}
+
+// A solution where there are few halves.
+fn try_sparse(alloc: Global, start: &Start) -> Result<Option<Solution>, AllocError> {
+    let paired = try_pairs(alloc, start)?;
+    if paired.is_some() {
+        return Ok(paired);
+    }
+    try_cold(alloc, start, SPARSE_TRIAL)
+}
+
+// A solution from where claims are set off in pairs, if one is found soon. It is sought where most claims are in pairs. More pairs than
+// parties close many circles, on which much would have to be undone.
+fn try_pairs(alloc: Global, start: &Start) -> Result<Option<Solution>, AllocError> {
+    let parties = start.windows.len();
+    let mut flows = unused_flows(alloc, start)?;
+    let pairs = set_off_pairs(alloc, start.edges, start.halves, parties, &mut flows)?;
+    if pairs <= claims_of(start) / CLAIMS_IN_PAIRS || parties < pairs {
+        return Ok(None);
+    }
+    let prices = vec![in alloc; 0i32; start.excess.len()]?;
+    let mut paired = even_simplex(alloc, start, flows, &prices)?;
+    paired.lengthen_runs(1);
+    let work = (start.halves.len() as u64).saturating_mul(PAIRED);
+    let over = paired.run(alloc, start.edges, start.halves, work);
+    answer_if(alloc, start.edges, &paired, over)
 }
 
 // A solution from where nothing is set off, if the trial comes to its end.
@@ -494,10 +521,20 @@ fn warm_simplex(alloc: Global, start: &Start, prices: &[i32]) -> Result<Simplex,
 // A simplex that starts where nothing is set off, and no balance changes, at the price of each node.
 fn cold_simplex(alloc: Global, start: &Start, prices: &[i32]) -> Result<Simplex, AllocError> {
     let flows = unused_flows(alloc, start)?;
+    even_simplex(alloc, start, flows, prices)
+}
+
+// A simplex that starts at flows of which no node has or wants any, at the price of each node.
+fn even_simplex(
+    alloc: Global,
+    start: &Start,
+    flows: Vec<u64>,
+    prices: &[i32],
+) -> Result<Simplex, AllocError> {
     let excess = vec![in alloc; 0i64; start.excess.len()]?;
-    let mut cold = Simplex::new(alloc, start.edges, start.halves, flows, prices, excess)?;
-    cold.stop_looking();
-    Ok(cold)
+    let mut even = Simplex::new(alloc, start.edges, start.halves, flows, prices, excess)?;
+    even.stop_looking();
+    Ok(even)
 }
 
 // The flow of each arc where nothing is set off, and no balance changes.
