@@ -179,18 +179,26 @@ fn mutual_ring(rt: &impl Abort, alloc: Global) -> Vec<Owed> {
     owed
 }
 
+// What a simplex finds that starts where nothing is set off, or claims in pairs alone.
+fn found_cold(rt: &impl Abort, alloc: Global, state: &State) -> Solution {
+    let begun = beginning_of(rt, alloc, state);
+    let found = seek_cold(alloc, &start_of(state, &begun)).expect(rt, "memory");
+    found.expect(rt, "a solution")
+}
+
 // All that is owed back is set off in pairs, and 6.00 more of each of the others in the ring.
 #[test]
 fn pairs_come_before_the_ring(rt: HostRuntime) {
     let alloc = rt.alloc();
     let owed = mutual_ring(&rt, alloc);
     assert!(rt; total_of(&rt, alloc, Kind::Plain, &[(0, 0); 50], &owed) == 70_000);
-    let mut state = state_of(&rt, alloc, Kind::Plain, &[(0, 0); 50], &owed);
-    let begun = beginning_of(&rt, alloc, &state);
-    let found = seek_cold(alloc, &start_of(&state, &begun)).expect(&rt, "memory");
-    let Solution { flows, prices } = found.expect(&rt, "a solution");
-    assert!(rt; sum(&flows) == 70_000);
-    assert!(rt; adopt(alloc, &mut state, flows, prices).expect(&rt, "memory"));
+    let cut = cut_of(&rt, alloc, Kind::Plain, &[(0, 0); 50], &owed);
+    assert!(rt; cut.well_formed());
+    let net = netting_graph::Net::of(alloc, &cut).expect(&rt, "memory");
+    let mut state = state_of_net(alloc, &net).expect(&rt, "memory");
+    let Solution { flows, prices } = found_cold(&rt, alloc, &state);
+    let is_all = sum(&flows) == 70_000;
+    assert!(rt; is_all && adopt(alloc, &mut state, flows, prices).expect(&rt, "memory"));
 }
 
 // A ring of large claims, of which 9,980.00 can be set off, and two small claims between its firms. The first of these makes a circle of
