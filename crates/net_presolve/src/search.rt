@@ -67,26 +67,29 @@ impl Search {
         }
     }
 
-    // Goes over the next half of the node, or back where there is none.
+    // Goes over the next half of the node that leads to one that was not met yet, or back where there is none.
     fn step(&mut self, net: &Unused) {
         let node = self.here as usize;
-        let place = at(&self.next, node, 0);
-        if net.halves.first(node.wrapping_add(1)) <= place {
-            self.leave();
-            return;
+        let mut earliest = u32::MAX;
+        for place in at(&self.next, node, 0)..net.halves.first(node.wrapping_add(1)) {
+            let half = net.halves.half(place);
+            if !net.passes(half) {
+                continue;
+            }
+            let far = half.far();
+            let met = at(&self.met, far as usize, 0);
+            if met == 0 {
+                put(&mut self.next, node, place.wrapping_add(1));
+                self.reach(node, earliest);
+                self.meet(net, far, self.here);
+                return;
+            }
+            if at(&self.of, far as usize, 0) == NONE {
+                earliest = earliest.min(met);
+            }
         }
-        put(&mut self.next, node, place.wrapping_add(1));
-        let half = net.halves.half(place);
-        if !net.passes(half) {
-            return;
-        }
-        let far = half.far();
-        let met = at(&self.met, far as usize, 0);
-        if met == 0 {
-            self.meet(net, far, self.here);
-        } else if at(&self.of, far as usize, 0) == NONE {
-            self.reach(node, met);
-        }
+        self.reach(node, earliest);
+        self.leave();
     }
 
     // Goes to a node that was not met yet.

@@ -19,7 +19,9 @@
 #![tactic(auto)]
 
 mod buckets;
+mod by_shares;
 mod candidates;
+mod cold;
 mod draining;
 mod filling;
 mod kept;
@@ -27,10 +29,11 @@ mod pairs;
 mod ranking;
 mod shares;
 mod simplex;
+mod start;
 mod turns;
 
+pub use by_shares::{seek_by_shares, seek_cold_by_shares};
+pub use cold::{seek_alone, seek_cold, seek_from};
 pub use spanning_tree::{Advice, Edge, Halves, schedule};
-pub use turns::{
-    Solution, Start, seek_alone, seek_by_shares, seek_cold, seek_cold_by_shares, seek_drained,
-    seek_first, seek_from, seek_solution,
-};
+pub use start::{Solution, Start};
+pub use turns::{seek_drained, seek_first, seek_solution};

@@ -1,7 +1,7 @@
 //! A simplex whose arcs come by shares, those that hold most first.
 use crate::ranking::largest_first;
 use crate::simplex::Simplex;
-use crate::turns::{Start, cents, node_prices};
+use crate::start::{Start, cents, node_prices};
 use loose_places::{at, narrow, put};
 use spanning_tree::schedule::{
     SHARE_GAIN, SHARE_SLICE, SHARED_BLOCKS, SHARED_SQUARES, SHARES, SHARES_FAR,
