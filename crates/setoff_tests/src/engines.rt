@@ -186,18 +186,19 @@ fn found_cold(rt: &impl Abort, alloc: Global, state: &State) -> Solution {
     found.expect(rt, "a solution")
 }
 
-// All that is owed back is set off in pairs, and 6.00 more of each of the others in the ring.
+// In pairs all that is owed back is set off, and 6.00 more of each other claim goes round the ring: 700.00 in all. A further cent round it
+// takes one back from each pair whose larger claim is used up, and adds one elsewhere. While those are fewer than half, this brings 6.00.
 #[test]
 fn pairs_come_before_the_ring(rt: HostRuntime) {
     let alloc = rt.alloc();
     let owed = mutual_ring(&rt, alloc);
-    assert!(rt; total_of(&rt, alloc, Kind::Plain, &[(0, 0); 50], &owed) == 70_000);
+    assert!(rt; total_of(&rt, alloc, Kind::Plain, &[(0, 0); 50], &owed) == 70_600);
     let cut = cut_of(&rt, alloc, Kind::Plain, &[(0, 0); 50], &owed);
     assert!(rt; cut.well_formed());
     let net = netting_graph::Net::of(alloc, &cut).expect(&rt, "memory");
     let mut state = state_of_net(alloc, &net).expect(&rt, "memory");
     let Solution { flows, prices } = found_cold(&rt, alloc, &state);
-    let is_all = sum(&flows) == 70_000;
+    let is_all = sum(&flows) == 70_600;
     assert!(rt; is_all && adopt(alloc, &mut state, flows, prices).expect(&rt, "memory"));
 }
 
