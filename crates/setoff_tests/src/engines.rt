@@ -193,13 +193,7 @@ fn pairs_come_before_the_ring(rt: HostRuntime) {
     let alloc = rt.alloc();
     let owed = mutual_ring(&rt, alloc);
     assert!(rt; total_of(&rt, alloc, Kind::Plain, &[(0, 0); 50], &owed) == 70_600);
-    let cut = cut_of(&rt, alloc, Kind::Plain, &[(0, 0); 50], &owed);
-    assert!(rt; cut.well_formed());
-    let net = netting_graph::Net::of(alloc, &cut).expect(&rt, "memory");
-    let mut state = state_of_net(alloc, &net).expect(&rt, "memory");
-    let Solution { flows, prices } = found_cold(&rt, alloc, &state);
-    let is_all = sum(&flows) == 70_600;
-    assert!(rt; is_all && adopt(alloc, &mut state, flows, prices).expect(&rt, "memory"));
+    assert!(rt; is_set_off(&rt, alloc, &owed, &[(0, 0); 50], 70_600, Search::Cold));
 }
 
 // A ring of large claims, of which 9,980.00 can be set off, and two small claims between its firms. The first of these makes a circle of
@@ -243,6 +237,24 @@ fn found_by_shares(rt: &impl Abort, alloc: Global, state: &State) -> Solution {
     found
 }
 
+// How a whole solution is sought: from where nothing is set off, or claims in pairs alone; by shares; or by shares from where a ring is at
+// rest.
+#[derive(Clone, Copy)]
+enum Search {
+    Cold,
+    ByShares,
+    FromRing,
+}
+
+// What is found so.
+fn found_as(rt: &impl Abort, alloc: Global, state: &State, search: Search) -> Solution {
+    match search {
+        Search::Cold => found_cold(rt, alloc, state),
+        Search::ByShares => found_by_shares(rt, alloc, state),
+        Search::FromRing => found_from_ring(rt, alloc, state),
+    }
+}
+
 // Whether what is found so is taken, and sets off so much.
 fn is_set_off(
     rt: &impl Abort,
@@ -250,12 +262,13 @@ fn is_set_off(
     owed: &[Owed],
     windows: &[Window],
     total: u64,
+    search: Search,
 ) -> bool {
     let cut = cut_of(rt, alloc, Kind::Plain, windows, owed);
     assert!(rt; cut.well_formed());
     let net = netting_graph::Net::of(alloc, &cut).expect(rt, "memory");
     let mut state = state_of_net(alloc, &net).expect(rt, "memory");
-    let Solution { flows, prices } = found_by_shares(rt, alloc, &state);
+    let Solution { flows, prices } = found_as(rt, alloc, &state, search);
     let is_all = sum(&flows) == total;
     is_all && adopt(alloc, &mut state, flows, prices).expect(rt, "memory")
 }
@@ -287,7 +300,16 @@ fn claims_are_of_sizes(rt: HostRuntime) {
 fn small_claims_come_behind_large_ones(rt: HostRuntime) {
     let alloc = rt.alloc();
     assert!(rt; total_of(&rt, alloc, Kind::Plain, &[(0, 0); 3], &CROSSED) == 2_995_000);
-    assert!(rt; is_set_off(&rt, alloc, &CROSSED, &[(0, 0); 3], 2_995_000));
+    assert!(rt;
+        is_set_off(
+            &rt,
+            alloc,
+            &CROSSED,
+            &[(0, 0); 3],
+            2_995_000,
+            Search::ByShares
+        )
+    );
 }
 
 // A ring of 200 firms, whose first claim holds least, and for each of the others a small claim back.
@@ -308,7 +330,16 @@ fn all_claims_come_by_shares(rt: HostRuntime) {
     let alloc = rt.alloc();
     let owed = ring_with_small(&rt, alloc);
     assert!(rt; total_of(&rt, alloc, Kind::Plain, &[(0, 0); 200], &owed) == 200_043_780);
-    assert!(rt; is_set_off(&rt, alloc, &owed, &[(0, 0); 200], 200_043_780));
+    assert!(rt;
+        is_set_off(
+            &rt,
+            alloc,
+            &owed,
+            &[(0, 0); 200],
+            200_043_780,
+            Search::ByShares
+        )
+    );
 }
 
 // The prices of the ring, at which the first claim alone gains.
@@ -350,11 +381,14 @@ fn found_from_ring(rt: &impl Abort, alloc: Global, state: &State) -> Solution {
 fn a_share_is_filled_at_once(rt: HostRuntime) {
     let alloc = rt.alloc();
     let owed = ring_with_small(&rt, alloc);
-    let cut = cut_of(&rt, alloc, Kind::Plain, &[(0, 0); 200], &owed);
-    assert!(rt; cut.well_formed());
-    let net = netting_graph::Net::of(alloc, &cut).expect(&rt, "memory");
-    let mut state = state_of_net(alloc, &net).expect(&rt, "memory");
-    let Solution { flows, prices } = found_from_ring(&rt, alloc, &state);
-    assert!(rt; sum(&flows) == 200_043_780);
-    assert!(rt; adopt(alloc, &mut state, flows, prices).expect(&rt, "memory"));
+    assert!(rt;
+        is_set_off(
+            &rt,
+            alloc,
+            &owed,
+            &[(0, 0); 200],
+            200_043_780,
+            Search::FromRing
+        )
+    );
 }
