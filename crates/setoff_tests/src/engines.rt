@@ -192,7 +192,6 @@ fn found_cold(rt: &impl Abort, alloc: Global, state: &State) -> Solution {
 fn pairs_come_before_the_ring(rt: HostRuntime) {
     let alloc = rt.alloc();
     let owed = mutual_ring(&rt, alloc);
-    assert!(rt; total_of(&rt, alloc, Kind::Plain, &[(0, 0); 50], &owed) == 70_600);
     assert!(rt; is_set_off(&rt, alloc, &owed, &[(0, 0); 50], 70_600, Search::Cold));
 }
 
@@ -255,7 +254,7 @@ fn found_as(rt: &impl Abort, alloc: Global, state: &State, search: Search) -> So
     }
 }
 
-// Whether what is found so is taken, and sets off so much.
+// Whether what is found so is taken, and sets off so much, which is what the solvers find, too.
 fn is_set_off(
     rt: &impl Abort,
     alloc: Global,
@@ -269,7 +268,7 @@ fn is_set_off(
     let net = netting_graph::Net::of(alloc, &cut).expect(rt, "memory");
     let mut state = state_of_net(alloc, &net).expect(rt, "memory");
     let Solution { flows, prices } = found_as(rt, alloc, &state, search);
-    let is_all = sum(&flows) == total;
+    let is_all = sum(&flows) == total && total_of(rt, alloc, Kind::Plain, windows, owed) == total;
     is_all && adopt(alloc, &mut state, flows, prices).expect(rt, "memory")
 }
 
@@ -299,7 +298,6 @@ fn claims_are_of_sizes(rt: HostRuntime) {
 #[test]
 fn small_claims_come_behind_large_ones(rt: HostRuntime) {
     let alloc = rt.alloc();
-    assert!(rt; total_of(&rt, alloc, Kind::Plain, &[(0, 0); 3], &CROSSED) == 2_995_000);
     assert!(rt;
         is_set_off(
             &rt,
@@ -329,7 +327,6 @@ fn ring_with_small(rt: &impl Abort, alloc: Global) -> Vec<Owed> {
 fn all_claims_come_by_shares(rt: HostRuntime) {
     let alloc = rt.alloc();
     let owed = ring_with_small(&rt, alloc);
-    assert!(rt; total_of(&rt, alloc, Kind::Plain, &[(0, 0); 200], &owed) == 200_043_780);
     assert!(rt;
         is_set_off(
             &rt,
