@@ -150,42 +150,54 @@ pub const DRAINED: u64 = 448;
 pub const RISEN: u64 = 900;
 
 /// The work at first of a simplex to which all arcs come by shares from where nothing is set off, for each arc, and for each
-/// `SHARED_SQUARES` of the square of the nodes. It goes on where `SHARES_FAR` shares are open then.
+/// `SHARED_SQUARES` of the square of the nodes. It is far on where `SHARES_FAR` shares are open then.
 pub const SHARED_EARLY: u64 = 100;
 
 /// See `SHARED_EARLY`.
 pub const SHARED_SQUARES: u64 = 400;
 
-/// Else the one to which all arcs come by shares from where the levels stand goes by these steps, as long as it gets on. So far its work
-/// goes, as that of `SHARED_EARLY`.
-pub const WARM_STEPS: [u64; 4] = [350, 700, 1_400, 2_800];
-
-/// It gets on where at most so many of a hundred cents that were outside before a step are so behind it.
-pub const WARM_LEFT: u64 = 90;
-
-/// Or so many, where the other one is still at its first share.
-pub const WARM_LEFT_MOST: u64 = 95;
-
-/// How far the work of each of the two goes in the end, first of the one from where the levels stand, if it got on, and else of the other.
-pub const SHARED: u64 = 20_000;
-
-/// How far the one from where nothing is set off goes, where it is far on, before the other is tried for the first of `WARM_STEPS`.
+/// Its work in all, counted in the same way, before the one from where the levels stand is tried, or goes on where it was slow.
 pub const SHARED_FAR: u64 = 800;
 
-/// How far it goes before there are levels.
+/// The work at first of the simplex to which they come from where the levels stand.
+pub const WARM_SOON: u64 = 350;
+
+/// If the other one was far on early, this one goes on to the end where at most so many of a hundred cents that were outside are so still.
+pub const WARM_HALF: u64 = 50;
+
+/// Or so many, where the other one has `SHARES_ON` shares open behind `SHARED_FAR`.
+pub const WARM_NEAR: u64 = 20;
+
+/// Elsewhere this one goes on to the end where at most so many are.
+pub const WARM_LEFT: u64 = 60;
+
+/// If more are, the other one goes on to `SHARED_FAR`. It goes on to the end if it has `SHARES_ON` shares open then, or `SHARES_FAR` and
+/// more than so many of a hundred cents are outside.
+pub const WARM_MOST: u64 = 90;
+
+/// If not, this one goes on for so much work, and then to the end where at most `WARM_LEFT` are outside.
+pub const WARM_FAR: u64 = 2_800;
+
+/// How far each of the two goes in the end: first the one that is chosen, and then the other.
+pub const SHARED: u64 = 20_000;
+
+/// How far the one from where nothing is set off goes before there are levels.
 pub const SHARED_COLD: u64 = 400;
 
 /// Arcs come in so many shares.
 pub const SHARES: usize = 8;
 
-/// The simplex from where nothing is set off is far on where so many are open.
+/// The simplex from where nothing is set off has begun where so many are open.
+pub const SHARES_BEGUN: usize = 2;
+
+/// It is far on where so many are.
 pub const SHARES_FAR: usize = 3;
 
-/// The work, for each of all these arcs, behind which it is asked whether the open ones still bring in excess.
-pub const SHARE_SLICE: u64 = 100;
+/// So many are more than most nets have behind `SHARED_FAR`.
+pub const SHARES_ON: usize = 4;
 
-/// They do no longer where less than one cent in so many of what was left came in meanwhile.
-pub const SHARE_GAIN: u64 = 64;
+/// Each time that all shares are at rest, a cent that is outside is charged so many times more what one on an arc counts at most.
+pub const CHARGE: i32 = 128;
 
 /// Of each share, arcs are filled together as far as the tree lets them through: if not all of those that are left, one in so many.
 pub const FILLED_PART: usize = 4;

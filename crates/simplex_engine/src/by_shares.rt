@@ -2,7 +2,8 @@
 use crate::shares::Shares;
 use crate::start::{Solution, Start, claims_of, square_of, unused_flows};
 use spanning_tree::schedule::{
-    SHARED, SHARED_COLD, SHARED_EARLY, SHARED_FAR, WARM_LEFT, WARM_LEFT_MOST, WARM_STEPS,
+    SHARED, SHARED_COLD, SHARED_EARLY, SHARED_FAR, SHARES_BEGUN, SHARES_FAR, SHARES_ON, WARM_FAR,
+    WARM_HALF, WARM_LEFT, WARM_MOST, WARM_NEAR, WARM_SOON,
 };
 use std::alloc::{AllocError, Global};
 
@@ -15,8 +16,8 @@ pub fn seek_by_shares(alloc: Global, start: &Start) -> Result<Option<Solution>, 
     run_from_cold(alloc, start, &mut cold)
 }
 
-// The solution that the cold shares come to, where they are far on soon, or else one of these and the warm ones. Where more than the first
-// share is open, it is asked once more behind twice the work.
+// The solution that the cold shares come to, or the warm ones. Where more than the first share of the cold ones is open, it is asked once
+// more behind twice the work whether they are far on.
 fn run_from_cold(
     alloc: Global,
     start: &Start,
@@ -27,18 +28,17 @@ fn run_from_cold(
         if let Some(found) = run_shares(alloc, start, cold, work)? {
             return Ok(Some(found));
         }
-        if cold.are_far_on() {
+        if cold.are_open(SHARES_FAR) {
             return run_far(alloc, start, cold);
         }
-        if !cold.is_begun() {
+        if !cold.are_open(SHARES_BEGUN) {
             break;
         }
     }
-    let mut warm = Shares::new(alloc, start)?;
-    run_both(alloc, start, cold, &mut warm)
+    run_warm(alloc, start, cold)
 }
 
-// The solution of the cold shares, or of the warm ones if these soon come to one: on some nets they need a small part of the work.
+// Where the cold shares are far on soon, they go on for some work, and then the warm ones for a little.
 fn run_far(
     alloc: Global,
     start: &Start,
@@ -47,40 +47,60 @@ fn run_far(
     if let Some(found) = run_shares(alloc, start, cold, SHARED_FAR)? {
         return Ok(Some(found));
     }
-    let soon = find_warm_soon(alloc, start)?;
-    if soon.is_some() {
-        return Ok(soon);
-    }
-    run_shares(alloc, start, cold, SHARED)
-}
-
-// The solution that the warm shares come to in their first step.
-fn find_warm_soon(alloc: Global, start: &Start) -> Result<Option<Solution>, AllocError> {
     let mut warm = Shares::new(alloc, start)?;
-    run_shares(alloc, start, &mut warm, WARM_STEPS[0])
+    if let Some(found) = run_shares(alloc, start, &mut warm, WARM_SOON)? {
+        return Ok(Some(found));
+    }
+    let most = if cold.are_open(SHARES_ON) {
+        WARM_NEAR
+    } else {
+        WARM_HALF
+    };
+    if warm.is_within(most) {
+        run_in_turn(alloc, start, &mut warm, cold)
+    } else {
+        run_in_turn(alloc, start, cold, &mut warm)
+    }
 }
 
-// The solution that one of the two comes to. The warm one is soon done as long as it gets on, and far from it elsewhere.
-fn run_both(
+// Elsewhere the warm shares begin, and go on where they get on.
+fn run_warm(
+    alloc: Global,
+    start: &Start,
+    cold: &mut Shares,
+) -> Result<Option<Solution>, AllocError> {
+    let mut warm = Shares::new(alloc, start)?;
+    if let Some(found) = run_shares(alloc, start, &mut warm, WARM_SOON)? {
+        return Ok(Some(found));
+    }
+    if warm.is_within(WARM_LEFT) {
+        return run_in_turn(alloc, start, &mut warm, cold);
+    }
+    if let Some(found) = run_shares(alloc, start, cold, SHARED_FAR)? {
+        return Ok(Some(found));
+    }
+    let slow = cold.are_open(SHARES_FAR) && !warm.is_within(WARM_MOST);
+    if slow || cold.are_open(SHARES_ON) {
+        return run_in_turn(alloc, start, cold, &mut warm);
+    }
+    run_warm_on(alloc, start, cold, &mut warm)
+}
+
+// The warm shares go on for longer, and to the end where they get on now.
+fn run_warm_on(
     alloc: Global,
     start: &Start,
     cold: &mut Shares,
     warm: &mut Shares,
 ) -> Result<Option<Solution>, AllocError> {
-    let most = if cold.is_begun() {
-        WARM_LEFT
-    } else {
-        WARM_LEFT_MOST
-    };
-    for work in WARM_STEPS {
-        if let Some(found) = run_shares(alloc, start, warm, work)? {
-            return Ok(Some(found));
-        }
-        if !warm.gets_on(most) {
-            return run_in_turn(alloc, start, cold, warm);
-        }
+    if let Some(found) = run_shares(alloc, start, warm, WARM_FAR)? {
+        return Ok(Some(found));
     }
-    run_in_turn(alloc, start, warm, cold)
+    if warm.is_within(WARM_LEFT) {
+        run_in_turn(alloc, start, warm, cold)
+    } else {
+        run_in_turn(alloc, start, cold, warm)
+    }
 }
 
 // The solution that the first comes to, or else the other.
@@ -102,7 +122,7 @@ fn run_in_turn(
 pub fn seek_cold_by_shares(alloc: Global, start: &Start) -> Result<Option<Solution>, AllocError> {
     let mut cold = cold_shares(alloc, start)?;
     let found = run_shares(alloc, start, &mut cold, SHARED_EARLY)?;
-    if found.is_none() && cold.are_far_on() {
+    if found.is_none() && cold.are_open(SHARES_FAR) {
         return run_shares(alloc, start, &mut cold, SHARED_COLD);
     }
     Ok(found)

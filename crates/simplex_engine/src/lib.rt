@@ -9,9 +9,10 @@
 //! With few arcs, and most claims in pairs of opposite directions between the same two firms, a simplex starts where these are set off
 //! against each other.
 //!
-//! Arcs may also come to a simplex by shares, those that hold most first: from where the levels stand, as long as it brings in much of
-//! the excess, or from where nothing is set off. What the tree lets through of a share is filled at once. The next share comes where no
-//! open arc is bad any more, or where the open ones hardly bring in any more excess.
+//! Arcs may also come to a simplex by shares, those that hold most first: from where nothing is set off, or from where the levels stand.
+//! What the tree lets through of a share is filled at once, and the next share comes where no open arc is bad any more. From where the
+//! levels stand, excess that stays outside costs nothing at first. Then it is charged more and more, and each time the shares come anew,
+//! as in the parametric simplex method.
 //!
 //! Its words: an arc is bad where flow would gain by leaving the bound that it is at; the tree joins all nodes to a root that no
 //! claim has; a pivot brings a bad arc into the tree, moves what the circle holds, and lets another arc go. The rules are those of

@@ -3,26 +3,27 @@ use crate::ranking::largest_first;
 use crate::simplex::Simplex;
 use crate::start::{Start, cents, node_prices};
 use loose_places::{at, narrow, put};
-use spanning_tree::schedule::{
-    SHARE_GAIN, SHARE_SLICE, SHARED_BLOCKS, SHARED_SQUARES, SHARES, SHARES_FAR,
-};
+use spanning_tree::schedule::{CHARGE, SHARED_BLOCKS, SHARED_SQUARES, SHARES};
 use spanning_tree::{Edge, Halves};
 use std::alloc::{AllocError, Global};
 
 // A simplex over arcs of its own: those of claims, and for each window one to the ground, for what the balance may rise by, and one from
 // it, for what it may fall by. Pieces are the places of these, and stand in the order of the arcs. The first arcs are open: no other may
-// enter. What is left is how much of the excess was outside when it was last asked.
+// enter. What is outside is how much excess there was, and how much was wanted, at the start.
 //
 // Where the largest arcs are at rest, a smaller one mostly holds less than any arc of the tree, so that it is filled at once, and the tree
-// stays as it is. In any other order nearly each claim that a circle passes is filled and emptied many times. Excess too is brought in over
-// the largest arcs first, where few ways hold all of it.
+// stays as it is. In any other order nearly each claim that a circle passes is filled and emptied many times.
+//
+// At first it costs nothing to leave excess outside, so that from where levels stand no arc is bad. The charge for it rises step by step,
+// and at each step the shares come anew. If it were high from the beginning, excess would come in over any arcs, and nearly all of these
+// would have to be turned back later.
 pub(crate) struct Shares {
     edges: Vec<Edge>,
     pieces: Vec<u32>,
     halves: Halves,
     simplex: Simplex,
     open: usize,
-    left: u64,
+    outside: u64,
 }
 
 // Written out, so that its lists are gone through in one proof, and not in that of each function that lets one go.
@@ -34,7 +35,7 @@ impl Drop for Shares {
             halves,
             simplex,
             open,
-            left,
+            outside,
         } = self;
     }
 }
@@ -64,16 +65,18 @@ impl Shares {
             halves,
             simplex,
             open: 0,
-            left: all_outside(start.excess),
+            outside: all_outside(start.excess),
         })
     }
 
-    // Opens the next share of the arcs, and fills of these what can be filled together.
-    fn open_more(&mut self, alloc: Global) -> Result<(), AllocError> {
-        let before = self.open;
-        if self.edges.len() <= before {
-            return Ok(());
+    // Opens the next share of the arcs, and fills of these what can be filled together. Where all are open, more is charged for what is
+    // outside, and the first share comes again.
+    fn go_on(&mut self, alloc: Global) -> Result<(), AllocError> {
+        if self.edges.len() <= self.open {
+            self.simplex.charge_more(alloc, CHARGE)?;
+            self.open = 0;
         }
+        let before = self.open;
         let share = (self.edges.len() / SHARES).saturating_add(1);
         self.open = before.saturating_add(share).min(self.edges.len());
         self.simplex.open(self.open);
@@ -81,7 +84,7 @@ impl Shares {
     }
 
     // Goes on until so much work is done for each arc, and for each `SHARED_SQUARES` of the square of the nodes. Whether all arcs are open,
-    // and none is bad any more.
+    // none is bad any more, and nothing is outside.
     pub(crate) fn run(
         &mut self,
         alloc: Global,
@@ -90,41 +93,27 @@ impl Shares {
     ) -> Result<bool, AllocError> {
         let all = (self.edges.len() as u64).saturating_add(square / SHARED_SQUARES);
         let most = all.saturating_mul(work);
-        let slice = (self.edges.len() as u64).saturating_mul(SHARE_SLICE);
-        let mut before = u64::MAX;
         for _ in 0..u32::MAX {
-            let work = most.saturating_sub(self.simplex.work()).min(slice);
-            if work == 0 {
+            let work = most.saturating_sub(self.simplex.work());
+            if work == 0 || !self.simplex.run(alloc, &self.edges, &self.halves, work)? {
                 return Ok(false);
             }
-            let over = self.simplex.run(alloc, &self.edges, &self.halves, work)?;
-            if over && self.edges.len() <= self.open {
+            if self.edges.len() <= self.open && self.simplex.still_outside() == 0 {
                 return Ok(true);
             }
-            let left = self.simplex.still_outside();
-            if over || is_stuck(before, left) {
-                self.open_more(alloc)?;
-            }
-            before = left;
+            self.go_on(alloc)?;
         }
         Ok(false)
     }
 
-    // Whether `SHARES_FAR` shares are open.
-    pub(crate) fn are_far_on(&self) -> bool {
-        self.edges.len() / SHARES * SHARES_FAR < self.open
+    // Whether so many shares are open.
+    pub(crate) fn are_open(&self, shares: usize) -> bool {
+        (self.edges.len() / SHARES).saturating_mul(shares) < self.open
     }
 
-    // Whether more than the first share of the arcs is open.
-    pub(crate) fn is_begun(&self) -> bool {
-        self.edges.len() / SHARES < self.open.saturating_sub(1)
-    }
-
-    // Whether at most so many of a hundred cents of the excess are left that were outside when this was last asked, or at the start.
-    pub(crate) fn gets_on(&mut self, most: u64) -> bool {
-        let before = self.left;
-        self.left = self.simplex.still_outside();
-        self.left / most.max(1) <= before / 100
+    // Whether at most so many of a hundred cents are left of what was outside at the start.
+    pub(crate) fn is_within(&self, most: u64) -> bool {
+        self.simplex.still_outside() / most.max(1) <= self.outside / 100
     }
 
     // The flow of each arc of the net.
@@ -156,11 +145,6 @@ fn all_outside(excess: &[i128]) -> u64 {
         cents = cents.saturating_add(narrow(amount).unsigned_abs());
     }
     cents
-}
-
-// Whether the open arcs hardly bring in any more of the excess: in the last slice less than one cent in so many of what was left.
-fn is_stuck(before: u64, left: u64) -> bool {
-    0 < left && before.saturating_sub(before / SHARE_GAIN) <= left
 }
 
 // A simplex over these arcs, from the flow of each, and from the prices and the excess of a start.

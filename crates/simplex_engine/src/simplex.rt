@@ -10,8 +10,8 @@ use spanning_tree::{
 use std::alloc::{AllocError, Global};
 
 // The arcs, the tree, the bad arcs, and what is still to be brought into the tree: arcs that were neither full nor empty at the
-// start, and then arcs to the root that hold anything. And how many arcs have entered, and how much work was done in the tree since its
-// nodes were numbered.
+// start, and then arcs to the root that hold anything. What a cent on an arc to the root costs. And how many arcs have entered, and how
+// much work was done in the tree since its nodes were numbered.
 pub(crate) struct Simplex {
     arcs: Vec<Arc>,
     tree: Tree,
@@ -20,7 +20,7 @@ pub(crate) struct Simplex {
     flows: Vec<u64>,
     prices: Vec<i32>,
     excess: Vec<i64>,
-    big: i32,
+    charge: i32,
     begun: usize,
     pivots: u64,
     moved: u64,
@@ -37,7 +37,7 @@ impl Drop for Simplex {
             flows,
             prices,
             excess,
-            big,
+            charge,
             begun,
             pivots,
             moved,
@@ -58,7 +58,7 @@ struct Entering {
 }
 
 impl Simplex {
-    // A simplex that starts from these flows, the price of each node, and the excess of each.
+    // A simplex that starts from these flows, the price of each node, and the excess of each. What stays outside costs nothing.
     pub(crate) fn new(
         alloc: Global,
         edges: &[Edge],
@@ -71,16 +71,12 @@ impl Simplex {
         let own_prices = Vec::from_slice(alloc, prices)?;
         let candidates = Candidates::new(alloc, edges.len())?;
         let mut arcs = arcs_of(alloc, edges, &flows)?;
-        let big = big_of(&arcs, excess.len());
         let start = Start {
             halves,
             flows: &flows,
             prices,
-            big,
         };
-        let mut tree = plant(alloc, &mut arcs, &start, &mut excess)?;
-        let root = tree.root();
-        tree.potentials.set(root, big);
+        let tree = plant(alloc, &mut arcs, &start, &mut excess)?;
         Ok(Simplex {
             arcs,
             tree,
@@ -89,11 +85,39 @@ impl Simplex {
             flows,
             prices: own_prices,
             excess,
-            big,
+            charge: 0,
             begun: 0,
             pivots: 0,
             moved: 0,
         })
+    }
+
+    // Charges more than any path of arcs counts for each cent that stays outside.
+    pub(crate) fn charge_fully(&mut self, alloc: Global) -> Result<(), AllocError> {
+        let nodes = i32::from(small(self.excess.len()));
+        self.charge_more(alloc, nodes.wrapping_mul(4).wrapping_add(8))
+    }
+
+    // Charges so many times more for each cent that stays outside what a cent on an arc counts at most. Seen from the root, the parts that
+    // have excess fall by as much, and those that want it rise.
+    pub(crate) fn charge_more(&mut self, alloc: Global, times: i32) -> Result<(), AllocError> {
+        let more = times.wrapping_mul(most_reward(&self.arcs));
+        self.charge = self.charge.wrapping_add(more);
+        let root = self.tree.root();
+        let mut rise = more;
+        for &node in &self.tree.in_order(alloc)? {
+            let own = self.tree.node(node);
+            if own.parent == root {
+                rise = if own.code % 2 == 1 {
+                    more.wrapping_mul(2)
+                } else {
+                    0
+                };
+            }
+            let before = self.tree.potential(node);
+            self.tree.potentials.set(node, before.wrapping_add(rise));
+        }
+        Ok(())
     }
 
     // Lets the arcs around changed potentials not be looked at.
@@ -297,7 +321,7 @@ impl Simplex {
                 code,
                 room,
                 held,
-                gain: self.big.wrapping_sub(price).wrapping_add(over),
+                gain: self.charge.wrapping_sub(price).wrapping_add(over),
             })
         } else {
             Some(Entering {
@@ -306,7 +330,7 @@ impl Simplex {
                 code: code ^ 1,
                 room,
                 held,
-                gain: self.big.wrapping_add(price).wrapping_sub(over),
+                gain: self.charge.wrapping_add(price).wrapping_sub(over),
             })
         }
     }
@@ -427,14 +451,13 @@ fn branch_of(entering: Entering, circle: &Circle) -> Branch {
     }
 }
 
-// More than any path of arcs among so many nodes counts.
-fn big_of(arcs: &[Arc], nodes: usize) -> i32 {
+// What a cent on an arc counts at most, and 1 at least.
+fn most_reward(arcs: &[Arc]) -> i32 {
     let mut most = 1u16;
     for arc in arcs {
         most = most.max(arc.reward);
     }
-    let nodes = i32::from(small(nodes)).wrapping_mul(4).wrapping_add(8);
-    nodes.wrapping_mul(i32::from(most))
+    i32::from(most)
 }
 
 // How much the arc at a place holds.

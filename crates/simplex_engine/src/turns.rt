@@ -152,7 +152,20 @@ fn first_turn(start: &Start) -> u64 {
 fn warm_simplex(alloc: Global, start: &Start, prices: &[i32]) -> Result<Simplex, AllocError> {
     let flows = Vec::from_slice(alloc, start.flows)?;
     let excess = cents(alloc, start.excess)?;
-    Simplex::new(alloc, start.edges, start.halves, flows, prices, excess)
+    charged_simplex(alloc, start, flows, prices, excess)
+}
+
+// A simplex from these flows, prices and excesses, in which all excess is brought in at any cost.
+fn charged_simplex(
+    alloc: Global,
+    start: &Start,
+    flows: Vec<u64>,
+    prices: &[i32],
+    excess: Vec<i64>,
+) -> Result<Simplex, AllocError> {
+    let mut simplex = Simplex::new(alloc, start.edges, start.halves, flows, prices, excess)?;
+    simplex.charge_fully(alloc)?;
+    Ok(simplex)
 }
 
 // The start drained of its excess, with so much work for each half.
@@ -173,5 +186,5 @@ fn drained_simplex(
 ) -> Result<Simplex, AllocError> {
     let flows = Vec::from_slice(alloc, drain.flows())?;
     let excess = Vec::from_slice(alloc, drain.excess())?;
-    Simplex::new(alloc, start.edges, start.halves, flows, prices, excess)
+    charged_simplex(alloc, start, flows, prices, excess)
 }
